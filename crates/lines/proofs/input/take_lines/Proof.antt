@@ -1,0 +1,97 @@
+-- `lines::input::take_lines`. The loop's invariant: what is held fits the line's room, and both slices keep their lengths. The
+-- measure is the number of the chunk's octets left. Assumes nothing.
+use mathlib.Core.Path.{_≡_, sym, _∙_}
+use Prim.Native.Nat.{_-_, _≤_}
+use native.Mathlib.Omega.{arith}
+use lib.ListN.{length}
+use lib.Seq.{length-take-le}
+use Rattle.lines.proofs.input.take_lines.Statement.{statement}
+use Rattle.lines.proofs.input.take_lines.Tie as tie
+
+abbrev Inv-loop : tie.InvT-loop
+Inv-loop chunk line₀ held out₀ n₀ from₀ line out n from =
+    (n ≤ length line₀) × (from ≤ length chunk) × (length line ≡ length line₀) × (length out ≡ length out₀)
+
+abbrev μ-loop : tie.MeasureT-loop
+μ-loop chunk line₀ held out₀ n₀ from₀ line out n from = length chunk - from
+
+loop-holds : tie.Need-loop-holds Inv-loop μ-loop
+loop-holds c = omega arith
+
+find-requires : tie.Need-find-requires Inv-loop μ-loop
+find-requires c κs = omega arith
+
+hold-requires : tie.Need-hold-requires Inv-loop μ-loop
+hold-requires c κs = (omega arith, (omega arith, omega arith))
+
+same-length : tie.Need-same-length Inv-loop μ-loop
+same-length c = c .before .before .before .hold .kept .0 ∙ c .before .before .before .before .before .before .before .loop .inv .2
+
+same-length-2 : tie.Need-same-length-2 Inv-loop μ-loop
+same-length-2 c = c .before .before .before .before .before .before .before .loop .inv .3
+
+returns : tie.Need-returns Inv-loop μ-loop
+returns c = omega arith
+
+slice-reshare-prefix-give : tie.Need-slice-reshare-prefix-give Inv-loop μ-loop
+slice-reshare-prefix-give c = omega arith
+
+slice-aggregate-give : tie.Need-slice-aggregate-give Inv-loop μ-loop
+slice-aggregate-give c = sym (length-take-le _ _ (omega arith))
+
+give-requires : tie.Need-give-requires Inv-loop μ-loop
+give-requires c κs = tt
+
+same-length-3 : tie.Need-same-length-3 Inv-loop μ-loop
+same-length-3 c =
+    c .before .before .before .before .before .before .before .before .before .hold .kept .0 ∙ c .before .before .before .before .before .before .before .before .before .before .before .before .before .loop .inv .2
+
+same-length-4 : tie.Need-same-length-4 Inv-loop μ-loop
+same-length-4 c =
+    c .before .before .before .give .kept .1 .0 ∙ c .before .before .before .before .before .before .before .before .before .before .before .before .before .loop .inv .3
+
+returns-2 : tie.Need-returns-2 Inv-loop μ-loop
+returns-2 c = omega arith
+
+add-from : tie.Need-add-from Inv-loop μ-loop
+add-from c = omega arith
+
+loop-less : tie.Need-loop-less Inv-loop μ-loop
+loop-less c = omega arith
+
+loop-again : tie.Need-loop-again Inv-loop μ-loop
+loop-again c = omega arith
+
+same-length-5 : tie.Need-same-length-5 Inv-loop μ-loop
+same-length-5 c = c .before .loop .inv .2
+
+same-length-6 : tie.Need-same-length-6 Inv-loop μ-loop
+same-length-6 c = c .before .loop .inv .3
+
+returns-3 : tie.Need-returns-3 Inv-loop μ-loop
+returns-3 c = omega arith
+
+pub take-lines-spec : {M : Type 1} → statement M
+take-lines-spec =
+    tie.close
+    (tie.spec
+    Inv-loop
+    μ-loop
+    loop-holds
+    find-requires
+    hold-requires
+    same-length
+    same-length-2
+    returns
+    slice-reshare-prefix-give
+    slice-aggregate-give
+    give-requires
+    same-length-3
+    same-length-4
+    returns-2
+    add-from
+    loop-less
+    loop-again
+    same-length-5
+    same-length-6
+    returns-3)

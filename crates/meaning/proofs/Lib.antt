@@ -1,0 +1,4 @@
+pub mod Computing
+pub mod Examples
+pub mod Unpassed
+pub mod Careful

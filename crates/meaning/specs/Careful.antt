@@ -1,0 +1,297 @@
+-- What is easy to get wrong, and what the starred examples don't reach, worked by hand: three statements, proved in proofs/Careful.antt.
+-- With the starred one they notice a changed operand nearly anywhere in the definitions.
+use Prim.Native.Nat.{ℕ}
+use mathlib.Core.Path.{_≡_}
+use mathlib.Core.List.{List, [], _∷_, _++_}
+use lib.ListN.{getD, replicate, length, drop}
+use Rattle.meaning.specs.declared.ElementName.{ElementName}
+use Rattle.meaning.specs.declared.Quantity.{Quantity}
+use Rattle.meaning.specs.Description.{soundness}
+use Rattle.meaning.specs.Refusals.{verdictValues, totalValues, placeValues, numberValues, tierValues, totalReply, tableReply, whereReply, numberReply, tableOctets, elementOctets, writeRangeReply, writeRangeImage, writeOctetsReply, writeOctetsImage, writeNumberReply, writeNumberImage}
+use Rattle.meaning.specs.Calendar.{tierReply, matrixReply, matrixVerdict, weekdayOf, dayNumber}
+use Rattle.meaning.specs.Examples.{items, plain, at, offset, gives, refusal, clock, clock-image, moment}
+
+-- THE RULES
+abbrev pub broken : (rule item : ℕ) → List ℕ
+broken n i = refusal n i 0 []
+
+-- the verdict on a description given by its words
+abbrev pub judged : List ℕ → List ℕ
+judged ws = verdictValues (soundness (items ws))
+
+-- table 00 of n items, of which the first is DATA_ORDER, in slot 1
+abbrev pub begun : (item0 : ℕ) → List ℕ → List ℕ
+begun w rest = w ∷ 0x20100000 ∷ rest
+
+pub record RulesCareful : Type 0 where
+  -- 1: length 0; not a multiple of 4
+  pub no-length : verdictValues (soundness []) ≡ refusal 1 0 0 []
+  pub odd-length : verdictValues (soundness (0x10 ∷ 0 ∷ 0 ∷ 0 ∷ 0 ∷ [])) ≡ refusal 1 0 0 []
+  -- 2: kind unknown; width code 3; a spare bit of a UINT, a BLOCK, a SET; a BLOCK of no octets; a count or slot below its least. Also on item 0
+  pub kind-0 : judged (0 ∷ []) ≡ broken 2 0
+  pub kind-7 : judged (begun 0x10000002 (0x70400001 ∷ [])) ≡ broken 2 2
+  pub code-3 : judged (0x10000001 ∷ 0x2C100000 ∷ []) ≡ broken 2 1
+  pub uint-spare-19 : judged (begun 0x10000002 (0x20080000 ∷ [])) ≡ broken 2 2
+  pub uint-spare-0 : judged (begun 0x10000002 (0x20000001 ∷ [])) ≡ broken 2 2
+  pub block-spare-15 : judged (begun 0x10000002 (0x30018000 ∷ [])) ≡ broken 2 2
+  pub block-spare-0 : judged (begun 0x10000002 (0x30010001 ∷ [])) ≡ broken 2 2
+  pub set-spare-10 : judged (begun 0x10000002 (0x40400400 ∷ [])) ≡ broken 2 2
+  pub set-spare-0 : judged (begun 0x10000002 (0x40400001 ∷ [])) ≡ broken 2 2
+  pub block-none : judged (begun 0x10000002 (0x30000000 ∷ [])) ≡ broken 2 2
+  pub set-slot : judged (begun 0x10000002 (0x40000000 ∷ [])) ≡ broken 2 2
+  pub array-slot : judged (begun 0x10000003 (0x50000001 ∷ 0x30010000 ∷ [])) ≡ broken 2 2
+  pub if-slot : judged (begun 0x10000003 (0x60000040 ∷ 0x30010000 ∷ [])) ≡ broken 2 2
+  pub array-none : judged (begun 0x10000003 (0x50401000 ∷ 0x30010000 ∷ [])) ≡ broken 2 2
+  pub if-none : judged (begun 0x10000003 (0x60401001 ∷ 0x30010000 ∷ [])) ≡ broken 2 2
+  -- 3: item 0 with no body, of a manufacturer, of another number; item 1 of two octets, without a slot, of another kind
+  pub bodiless : judged (0x10000000 ∷ []) ≡ broken 3 0
+  pub item-0-manufacturer : judged (begun 0x18000001 []) ≡ broken 3 0
+  pub item-0-number : judged (begun 0x10010001 []) ≡ broken 3 0
+  pub item-1-octets : judged (0x10000001 ∷ 0x24100000 ∷ []) ≡ broken 3 1
+  pub item-1-slotless : judged (0x10000001 ∷ 0x20000000 ∷ []) ≡ broken 3 1
+  pub item-1-block : judged (0x10000001 ∷ 0x30010000 ∷ []) ≡ broken 3 1
+  -- 3: no TABLE at the top level, a TABLE in a body, a dimension in an IF and in an ARRAY
+  pub top-block : judged (begun 0x10000001 (0x30010000 ∷ [])) ≡ broken 3 2
+  pub inner-table : judged (begun 0x10000002 (0x10010000 ∷ [])) ≡ broken 3 2
+  pub dimension-in-if : judged (begun 0x10000003 (0x60400040 ∷ 0x20200000 ∷ [])) ≡ broken 3 3
+  pub dimension-in-array : judged (begun 0x10000003 (0x50400001 ∷ 0x20200000 ∷ [])) ≡ broken 3 3
+  -- 4: a TABLE over the description, an ARRAY over its table, an IF's false items over it, a true item that reaches into the false ones
+  pub table-over : judged (0x10000001 ∷ []) ≡ broken 4 0
+  pub array-over : judged (begun 0x10000002 (0x50400001 ∷ 0x10010000 ∷ [])) ≡ broken 4 2
+  pub if-over : judged (begun 0x10000003 (0x60400041 ∷ 0x30010000 ∷ 0x10010000 ∷ [])) ≡ broken 4 2
+  pub into-false : judged (begun 0x10000004 (0x60400041 ∷ 0x50400001 ∷ 0x30010000 ∷ [])) ≡ broken 4 3
+  pub false-over : judged (begun 0x10000005 (0x60400041 ∷ 0x30010000 ∷ 0x50400001 ∷ 0x30010000 ∷ [])) ≡ broken 4 4
+  -- 5: four levels pass, the fifth is reported; one that overruns as well is 4
+  pub four : judged (begun 0x10000006 (0x60401100 ∷ 0x50400003 ∷ 0x60400080 ∷ 0x50400001 ∷ 0x40400000 ∷ [])) ≡ gives []
+  pub five : judged (begun 0x10000007 (0x60400140 ∷ 0x50400004 ∷ 0x604000C0 ∷ 0x50400002 ∷ 0x60400040 ∷ 0x30010000 ∷ [])) ≡ broken 5 6
+  pub five-over : judged (begun 0x10000007 (0x60400140 ∷ 0x50400004 ∷ 0x604000C0 ∷ 0x50400002 ∷ 0x60400080 ∷ 0x30010000 ∷ [])) ≡ broken 4 6
+  -- 6: a slot, a table given twice; a manufacturer's table 0 is another, and so is another number
+  pub slot-twice : judged (begun 0x10000002 (0x20100000 ∷ [])) ≡ broken 6 2
+  pub table-twice : judged (begun 0x10000001 (0x10000000 ∷ [])) ≡ broken 6 2
+  pub tables-apart : judged (begun 0x10000001 (0x18000000 ∷ 0x10010000 ∷ [])) ≡ gives []
+  -- 7: a slot set later; bit 8 of one octet, while bits 0..7 are inside
+  pub set-later : judged (begun 0x10000003 (0x40807000 ∷ 0x20200000 ∷ [])) ≡ broken 7 2
+  pub bit-8 : judged (begun 0x10000002 (0x40427000 ∷ [])) ≡ broken 7 2
+  pub bits-inside : judged (begun 0x10000002 (0x40407000 ∷ [])) ≡ gives []
+
+-- A METER OF ALL KINDS. Table 0: DATA_ORDER and a two-octet dimension in slot 2; manufacturer's table 9: an array of (one octet, an array of two-octet numbers,
+-- a set of flags), then three octets or five. Counts are bits 0..3 and 4..7 of slot 2, flags bits 8..12, the choice bit 15
+abbrev pub mixed : List ℕ
+mixed =
+    items
+    (0x10008002 ∷ 0x20100000 ∷ 0x24200000 ∷ 0x18098008 ∷ 0x50803004 ∷ 0x20000000 ∷ 0x50883001 ∷ 0x24000000 ∷ 0x40904800 ∷ 0x609E0041
+    ∷ 0x30030000 ∷ 0x30050000 ∷ [])
+
+-- most significant octet first, slot 2 is 9023: 3 elements of 1 + 2 * 2 + 2 octets, then three octets
+abbrev pub mixed-image : (number block : List ℕ) → List ℕ
+mixed-image number block =
+    0x01 ∷ 0x90 ∷ 0x23 ∷ 0x03 ∷ 0x04 ∷ 0x05 ∷ 0x06 ∷ 0x07 ∷ 0x08 ∷ 0x09 ∷ 0x0A ∷ 0x0B ∷ 0x0C ∷ 0x0D ∷ 0x0E ∷ 0x0F ∷ 0x10 ∷ 0x11 ∷ 0x12 ∷ 0x13
+    ∷ number ++ 0x16 ∷ 0x17 ∷ block
+
+abbrev pub number0 : List ℕ
+number0 = 0x14 ∷ 0x15 ∷ []
+
+abbrev pub block0 : List ℕ
+block0 = 0x18 ∷ 0x19 ∷ 0x1A ∷ []
+
+abbrev pub mixed0 : List ℕ
+mixed0 = mixed-image number0 block0
+
+abbrev pub with-subscripts : (item count s t : ℕ) → ElementName
+with-subscripts i n s t = record { item = i; count = n; subscripts = s ∷ t ∷ 0 ∷ 0 ∷ [] }
+
+-- four arrays, one inside the other, each by bits 1 and 2 of slot 1, round a UINT
+abbrev pub nest : List ℕ
+nest = items (begun 0x10000006 (0x50421004 ∷ 0x50421003 ∷ 0x50421002 ∷ 0x50421001 ∷ 0x20000000 ∷ []))
+
+abbrev pub no-element : List ℕ
+no-element = refusal 11 0 0 (0 ∷ 0 ∷ [])
+
+pub record LayoutCareful : Type 0 where
+  pub passed : verdictValues (soundness mixed) ≡ gives []
+  pub total : totalValues (totalReply mixed mixed0) ≡ gives (27 ∷ [])
+  -- an image of 65,535 octets, of one more
+  pub longest : totalValues (totalReply (items (begun 0x10000001 [])) (replicate 65535 0)) ≡ gives (1 ∷ [])
+  pub too-long : totalValues (totalReply (items (begun 0x10000001 [])) (replicate 65536 0)) ≡ refusal 8 0 0 (0 ∷ [])
+  pub longer : totalValues (totalReply mixed (mixed0 ++ 0 ∷ [])) ≡ gives (27 ∷ [])
+  pub table-9 : placeValues (tableReply mixed mixed0 1 9) ≡ gives (3 ∷ 24 ∷ [])
+  pub manufacturer-0 : placeValues (tableReply mixed mixed0 1 0) ≡ refusal 10 0 0 (0 ∷ 0 ∷ [])
+  pub other-table : placeValues (tableReply mixed mixed0 0 9) ≡ refusal 10 0 0 (0 ∷ 0 ∷ [])
+  pub table-0 : tableOctets mixed mixed0 0 0 ≡ 0x01 ∷ 0x90 ∷ 0x23 ∷ []
+  -- slot 2, a BLOCK, a SET of two octets by slot 1 and a number of four octets follow one another; DATA_ORDER is bit 0 alone
+  pub four-octets :
+      numberValues (numberReply (items (begun 0x10000005 (0x20200000 ∷ 0x30020000 ∷ 0x40401000 ∷ 0x28000000 ∷ [])))
+      (2 ∷ 1 ∷ 1 ∷ 2 ∷ 9 ∷ 9 ∷ 3 ∷ 4 ∷ 5 ∷ 6 ∷ []) (plain 5)) ≡ gives (0x06050403 ∷ [])
+  -- 64 flags take eight octets
+  pub flags-64 : totalValues (totalReply (items (begun 0x10000003 (0x20200000 ∷ 0x40807800 ∷ []))) (0 ∷ 64 ∷ replicate 8 0)) ≡ gives (10 ∷ [])
+  -- reading a two-octet dimension in one fixed order, numbering its bits from the top
+  pub slot-2 : numberValues (numberReply mixed mixed0 (plain 2)) ≡ gives (0x9023 ∷ [])
+  pub other-order : totalValues (totalReply mixed (0 ∷ 0x23 ∷ 0x90 ∷ [])) ≡ refusal 9 4 3 (0 ∷ [])
+  -- a count of 0 takes none; the false branch
+  pub none-true : totalValues (totalReply mixed (0 ∷ 0 ∷ 0 ∷ 1 ∷ 2 ∷ 3 ∷ 4 ∷ 5 ∷ [])) ≡ gives (8 ∷ [])
+  pub false-short : totalValues (totalReply mixed (0 ∷ 0 ∷ 0 ∷ 1 ∷ 2 ∷ 3 ∷ 4 ∷ [])) ≡ refusal 9 11 3 (0 ∷ [])
+  -- subscripts, outermost first, from 0: too few, too many, not below their counts, a count over four
+  pub number-2-1 : numberValues (numberReply mixed mixed0 (with-subscripts 7 2 2 1)) ≡ gives (0x1415 ∷ [])
+  pub flags-1 : placeValues (whereReply mixed mixed0 (at 8 1)) ≡ gives (15 ∷ 2 ∷ [])
+  pub too-few : placeValues (whereReply mixed mixed0 (at 7 2)) ≡ no-element
+  pub too-many : placeValues (whereReply mixed mixed0 (with-subscripts 7 3 2 1)) ≡ no-element
+  pub over-outer : placeValues (whereReply mixed mixed0 (with-subscripts 7 2 3 0)) ≡ no-element
+  pub over-inner : placeValues (whereReply mixed mixed0 (with-subscripts 7 2 0 2)) ≡ no-element
+  pub four-arrays : placeValues (whereReply nest (2 ∷ 7 ∷ []) (with-subscripts 6 4 0 0)) ≡ gives (1 ∷ 1 ∷ [])
+  pub over-four : placeValues (whereReply nest (2 ∷ 7 ∷ []) (with-subscripts 6 5 0 0)) ≡ no-element
+  -- the chosen branch, the other one, an item that is no element, a number asked of a BLOCK
+  pub block-octets : elementOctets mixed mixed0 (plain 10) ≡ block0
+  pub not-chosen : placeValues (whereReply mixed mixed0 (plain 11)) ≡ no-element
+  pub not-element : placeValues (whereReply mixed mixed0 (plain 9)) ≡ no-element
+  pub no-number : numberValues (numberReply mixed mixed0 (plain 10)) ≡ refusal 11 0 0 (0 ∷ [])
+  -- writes: read back, every other octet the same
+  pub range-accepted : verdictValues (writeRangeReply mixed mixed0 1 9 (offset 22) (0xAA ∷ 0xBB ∷ [])) ≡ gives []
+  pub range-image : writeRangeImage mixed mixed0 1 9 (offset 22) (0xAA ∷ 0xBB ∷ []) ≡ mixed-image number0 (0x18 ∷ 0xAA ∷ 0xBB ∷ [])
+  pub octets-accepted : verdictValues (writeOctetsReply mixed mixed0 (plain 10) (0xAA ∷ 0xBB ∷ 0xCC ∷ [])) ≡ gives []
+  pub octets-image : writeOctetsImage mixed mixed0 (plain 10) (0xAA ∷ 0xBB ∷ 0xCC ∷ []) ≡ mixed-image number0 (0xAA ∷ 0xBB ∷ 0xCC ∷ [])
+  pub flags-accepted : verdictValues (writeOctetsReply mixed mixed0 (at 8 1) (0 ∷ 0 ∷ [])) ≡ gives []
+  pub number-accepted : verdictValues (writeNumberReply mixed mixed0 (with-subscripts 7 2 2 1) 0xFFFF) ≡ gives []
+  pub number-image : writeNumberImage mixed mixed0 (with-subscripts 7 2 2 1) 0xFF00 ≡ mixed-image (0xFF ∷ 0x00 ∷ []) block0
+  -- 15: another length, a number of three octets; the image stays
+  pub wrong-length : verdictValues (writeOctetsReply mixed mixed0 (plain 10) (0xAA ∷ 0xBB ∷ [])) ≡ refusal 15 0 0 []
+  pub wrong-unchanged : writeOctetsImage mixed mixed0 (plain 10) (0xAA ∷ 0xBB ∷ []) ≡ mixed0
+  pub wrong-number : verdictValues (writeNumberReply mixed mixed0 (with-subscripts 7 2 2 1) 0x10000) ≡ refusal 15 0 0 []
+  pub block-number : verdictValues (writeNumberReply mixed mixed0 (plain 10) 0) ≡ refusal 11 0 0 []
+  -- 14, which comes before 15: a write that alters the count by which the array was measured
+  pub dimension-number : verdictValues (writeNumberReply mixed mixed0 (plain 2) 0x10000) ≡ refusal 14 0 0 []
+  pub dimension-octets : verdictValues (writeOctetsReply mixed mixed0 (plain 2) []) ≡ refusal 14 0 0 []
+  pub dimension-slot-1 : verdictValues (writeRangeReply mixed mixed0 0 0 (offset 0) (1 ∷ [])) ≡ refusal 14 0 0 []
+  pub dimension-last : verdictValues (writeRangeReply mixed mixed0 0 0 (offset 2) (0 ∷ [])) ≡ refusal 14 0 0 []
+  -- a range of length 0 holds no octet; past the size it is 12
+  pub inside-dimension : verdictValues (writeRangeReply mixed mixed0 0 0 (offset 2) []) ≡ gives []
+  pub past-size : verdictValues (writeRangeReply mixed mixed0 0 0 (offset 4) []) ≡ refusal 12 0 0 []
+  pub no-table : verdictValues (writeRangeReply mixed mixed0 0 9 (offset 0) []) ≡ refusal 10 0 0 []
+
+-- A CALENDAR, most significant octet first. Table 51: anchor date flagged, separate summations and demands, two seasons and two special schedules, weekdays share
+-- a column; five non-recurring dates, one recurring, six switches. `flags1` takes the place of its first octet
+abbrev pub year-image : (flags1 : ℕ) → List ℕ
+year-image flags1 =
+    0x01
+    ∷ flags1 ∷ 0x04 ∷ 0x22 ∷ 0x05 ∷ 0x01 ∷ 0x00 ∷ 0x06 ∷ 0x00 ∷ 0x00
+    -- Table 54: the anchor date; 1 January 1995 season 1; 1 May 2024 action 31; 1 June 2024 season 1, then season 0; 4 July 2024 special schedule 1
+    ∷ 0x00 ∷ 0x00
+    ∷ 0x08 ∷ 0xDF ∷ 0x04 ∷ 0x0A ∷ 0x98 ∷ 0x1F ∷ 0x0B ∷ 0x18 ∷ 0x04 ∷ 0x0B ∷ 0x18 ∷ 0x03 ∷ 0x23 ∷ 0x98 ∷ 0x14
+    -- a recurring record that would be a season action
+    ∷ 0x0A ∷ 0x98 ∷ 0x05
+    -- schedule 7: 00:00 tier 1 for both; 08:00 tier 2 summations, tier 3 demands; 08:60 tier 4; schedule 9: 12:00 tier 5; schedule 7: 08:00 tier 6 summations
+    ∷ 0x00 ∷ 0x19 ∷ 0x07 ∷ 0x40 ∷ 0x0A ∷ 0x07 ∷ 0x40 ∷ 0x13 ∷ 0x07 ∷ 0x47 ∷ 0x9C ∷ 0x07 ∷ 0x60 ∷ 0x0D ∷ 0x09 ∷ 0x40 ∷ 0x0E ∷ 0x07
+    -- rows: Saturday, Sunday, weekday, two special schedules
+    ∷ 0x09 ∷ 0x08 ∷ 0x07 ∷ 0x0A ∷ 0x09
+    ∷ 0x01 ∷ 0x02 ∷ 0x09 ∷ 0x04 ∷ 0x05
+    ∷ []
+
+abbrev pub year-tier : Quantity → (year month day hour minute : ℕ) → List ℕ
+year-tier q y mo d h mi = tierValues (tierReply (clock 48) (year-image 0x20) (moment y mo d h mi) q)
+
+-- a tier; "none yet today"
+abbrev pub tier : ℕ → List ℕ
+tier t = gives (0 ∷ t ∷ [])
+
+abbrev pub none-yet : List ℕ
+none-yet = gives (1 ∷ 0 ∷ [])
+
+abbrev pub no-tier : (refused : ℕ) → List ℕ
+no-tier n = refusal n 0 0 (0 ∷ 0 ∷ [])
+
+-- a calendar with a column for each weekday: from 1 January 2000 on season 0; Saturdays have schedule 7 and switch to tier 5 at 00:00
+abbrev pub week-image : List ℕ
+week-image =
+    0x00 ∷ 0x00 ∷ 0x02 ∷ 0x11 ∷ 0x01 ∷ 0x00 ∷ 0x01 ∷ 0x00 ∷ 0x00 ∷ 0x00
+    ∷ 0x80 ∷ 0x08 ∷ 0x03 ∷ 0x05 ∷ 0x00 ∷ 0x07
+    ∷ 0x01 ∷ 0x02 ∷ 0x03 ∷ 0x04 ∷ 0x05 ∷ 0x06 ∷ 0x07 ∷ 0x08 ∷ []
+
+-- the starred calendar with another date, least significant octet first, and action in its one record
+abbrev pub record-image : (low high action : ℕ) → List ℕ
+record-image low high action =
+    0x00
+    ∷ 0x00 ∷ 0x00 ∷ 0x01 ∷ 0x01 ∷ 0x00 ∷ 0x02 ∷ 0x00 ∷ 0x00 ∷ 0x00
+    ∷ low ∷ high ∷ action ∷ 0x00 ∷ 0x00 ∷ 0x01 ∷ 0xC2 ∷ 0x3B ∷ 0x01 ∷ 0x01 ∷ 0x01 ∷ 0x01 ∷ []
+
+-- what it says of a day at 07:30
+abbrev pub by-record : (low high action : ℕ) → (year month day : ℕ) → List ℕ
+by-record low high action y m d = tierValues (tierReply (clock 12) (record-image low high action) (moment y m d 7 30) Quantity.Summations)
+
+-- the starred calendar with a second record, of 5 March 2024, and what it says of that day
+abbrev pub by-second : (action : ℕ) → List ℕ
+by-second action =
+    tierValues (tierReply (clock 15)
+    (0x00
+    ∷ 0x00 ∷ 0x00 ∷ 0x01 ∷ 0x02 ∷ 0x00 ∷ 0x02 ∷ 0x00 ∷ 0x00 ∷ 0x00
+    ∷ 0x98 ∷ 0x08 ∷ 0x03 ∷ 0x98 ∷ 0x29 ∷ action ∷ 0x00 ∷ 0x00 ∷ 0x01 ∷ 0xC2 ∷ 0x3B ∷ 0x01 ∷ 0x01 ∷ 0x01 ∷ 0x01 ∷ [])
+    (moment 2024 3 5 7 30) Quantity.Summations)
+
+-- its Table 51 one octet short
+abbrev pub short-51 : List ℕ
+short-51 = items (0x10000001 ∷ 0x20100000 ∷ 0x10330001 ∷ 0x30080000 ∷ 0x10360001 ∷ 0x300C0000 ∷ [])
+
+pub record CalendarCareful : Type 0 where
+  -- 1 January 2000 was a Saturday
+  pub saturday : weekdayOf (dayNumber 2000 1 1) ≡ 6
+  -- 31 December 2089, the last day, will be a Saturday too
+  pub last-saturday : weekdayOf (dayNumber 2089 12 31) ≡ 6
+  pub saturday-tier : tierValues (tierReply (clock 14) week-image (moment 2000 1 1 0 0) Quantity.Summations) ≡ tier 5
+  pub sunday-tier : tierValues (tierReply (clock 14) week-image (moment 2000 1 2 0 0) Quantity.Summations) ≡ none-yet
+  -- 3 June 2024 is a Monday: of equal dates the later record, season 0; of equal times the later record; minutes over 59 are skipped
+  pub summations : year-tier Quantity.Summations 2024 6 3 23 59 ≡ tier 6
+  -- only switches flagged for what is asked count
+  pub demands : year-tier Quantity.Demands 2024 6 3 8 0 ≡ tier 3
+  pub before-eight : year-tier Quantity.Demands 2024 6 3 7 59 ≡ tier 1
+  pub midnight : year-tier Quantity.Demands 2024 6 3 0 0 ≡ tier 1
+  -- Saturday's column is the first, Sunday's the second
+  pub on-saturday : year-tier Quantity.Summations 2024 6 1 12 0 ≡ tier 5
+  pub on-sunday : year-tier Quantity.Demands 2024 6 2 23 59 ≡ none-yet
+  -- the special schedule's column when weekdays share one: 3 + 1, on its own date only
+  pub noon : year-tier Quantity.Summations 2024 7 4 12 0 ≡ tier 5
+  pub before-noon : year-tier Quantity.Summations 2024 7 4 11 59 ≡ none-yet
+  pub day-after : year-tier Quantity.Summations 2024 7 5 12 0 ≡ tier 6
+  -- action 31 ends nothing and starts nothing: on 31 May 2024 it is still season 1, whose weekdays have schedule 9. A recurring record isn't applied
+  pub notice : year-tier Quantity.Summations 2024 5 31 12 0 ≡ tier 5
+  -- years 90 to 99 are 1990 on
+  pub season-1995 : year-tier Quantity.Summations 1995 1 2 12 0 ≡ tier 5
+  pub before-1995 : year-tier Quantity.Summations 1994 12 31 12 0 ≡ no-tier 17
+  -- 16: not a real date or time; leap years
+  pub leap-day : year-tier Quantity.Summations 2024 2 29 12 0 ≡ tier 5
+  pub no-leap-day : year-tier Quantity.Summations 2023 2 29 12 0 ≡ no-tier 16
+  pub day-0 : year-tier Quantity.Summations 2024 6 0 12 0 ≡ no-tier 16
+  pub day-32 : year-tier Quantity.Summations 2024 12 32 12 0 ≡ no-tier 16
+  pub month-13 : year-tier Quantity.Summations 2024 13 1 12 0 ≡ no-tier 16
+  pub year-1989 : year-tier Quantity.Summations 1989 12 31 12 0 ≡ no-tier 16
+  pub last-day : year-tier Quantity.Summations 2089 12 31 12 0 ≡ tier 5
+  pub year-2090 : year-tier Quantity.Summations 2090 1 1 12 0 ≡ no-tier 16
+  pub hour-24 : year-tier Quantity.Summations 2024 6 3 24 0 ≡ no-tier 16
+  pub minute-60 : year-tier Quantity.Summations 2024 6 3 8 60 ≡ no-tier 16
+  -- 18, before 17
+  pub armed : tierValues (tierReply (clock 48) (year-image 0x28) (moment 1990 1 1 0 0) Quantity.Summations) ≡ no-tier 18
+  -- years 89, 90, 99 and 100 of a DATE; 29 February 2025
+  pub year-89 : by-record 0xD9 0x08 3 2089 1 1 ≡ tier 2
+  pub before-89 : by-record 0xD9 0x08 3 2088 12 31 ≡ no-tier 17
+  pub year-90 : by-record 0xDA 0x08 3 1990 1 1 ≡ tier 2
+  pub year-99 : by-record 0xE3 0x08 3 1999 1 1 ≡ tier 2
+  pub year-100 : by-record 0xE4 0x08 3 2089 12 31 ≡ no-tier 17
+  pub unreal : by-record 0x19 0xE9 3 2026 1 1 ≡ no-tier 17
+  -- actions: bit 5 is none of it; 2 and 19 select no season; 4 and 18 select seasons 1 and 15, without a row
+  pub action-bit-5 : by-record 0x98 0x08 0x23 2024 3 5 ≡ tier 2
+  pub action-2 : by-record 0x98 0x08 2 2024 3 5 ≡ no-tier 17
+  pub action-4 : by-record 0x98 0x08 4 2024 3 5 ≡ no-tier 19
+  pub action-18 : by-record 0x98 0x08 18 2024 3 5 ≡ no-tier 19
+  pub action-19 : by-record 0x98 0x08 19 2024 1 1 ≡ no-tier 17
+  -- special schedules 0 and 11 without a column; 31 is no special schedule
+  pub special-0 : by-second 19 ≡ no-tier 19
+  pub special-11 : by-second 30 ≡ no-tier 19
+  pub no-special : by-second 31 ≡ tier 2
+  -- 20: table 54 an octet longer, an octet shorter; table 51 an octet shorter; 10: no table 54
+  pub longer-54 : verdictValues (matrixVerdict (clock 13) (clock-image ++ 0 ∷ [])) ≡ refusal 20 0 0 []
+  pub shorter-54 : verdictValues (matrixVerdict (clock 11) clock-image) ≡ refusal 20 0 0 []
+  pub shorter-51 : verdictValues (matrixVerdict short-51 (0 ∷ 0 ∷ 0 ∷ 1 ∷ 1 ∷ 0 ∷ 2 ∷ 0 ∷ 0 ∷ drop 10 clock-image)) ≡ refusal 20 0 0 []
+  pub no-calendar : verdictValues (matrixVerdict (items (0x10000001 ∷ 0x20100000 ∷ [])) (0 ∷ [])) ≡ refusal 10 0 0 []
+  -- the matrix: cells stand as in the rows, unused ones are 0
+  pub row-0 : getD (matrixReply (clock 48) (year-image 0x20)) 0 [] ≡ 9 ∷ 8 ∷ 7 ∷ 10 ∷ 9 ∷ 0 ∷ 0 ∷ 0 ∷ 0 ∷ 0 ∷ 0 ∷ 0 ∷ 0 ∷ 0 ∷ 0 ∷ 0 ∷ 0 ∷ 0 ∷ 0 ∷ 0 ∷ 0 ∷ 0 ∷ []
+  pub row-1 : getD (matrixReply (clock 48) (year-image 0x20)) 1 [] ≡ 1 ∷ 2 ∷ 9 ∷ 4 ∷ 5 ∷ 0 ∷ 0 ∷ 0 ∷ 0 ∷ 0 ∷ 0 ∷ 0 ∷ 0 ∷ 0 ∷ 0 ∷ 0 ∷ 0 ∷ 0 ∷ 0 ∷ 0 ∷ 0 ∷ 0 ∷ []
+  pub row-2 : getD (matrixReply (clock 48) (year-image 0x20)) 2 [] ≡ 0 ∷ 0 ∷ 0 ∷ 0 ∷ 0 ∷ 0 ∷ 0 ∷ 0 ∷ 0 ∷ 0 ∷ 0 ∷ 0 ∷ 0 ∷ 0 ∷ 0 ∷ 0 ∷ 0 ∷ 0 ∷ 0 ∷ 0 ∷ 0 ∷ 0 ∷ []
+  pub fifteen : length (matrixReply (clock 48) (year-image 0x20)) ≡ 15
+  pub refused-matrix : matrixReply (clock 13) (clock-image ++ 0 ∷ []) ≡ replicate 15 (replicate 22 0)

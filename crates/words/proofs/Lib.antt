@@ -1,0 +1,6 @@
+pub mod NumberLaws
+pub mod HexLaws
+pub mod PutLaws
+pub mod LineLaws
+pub mod ReadBack
+pub mod Unique

@@ -1,0 +1,60 @@
+-- `words::hex::all_hex`. The loop's invariant: the word is all hex where what is left of it from place i on is. The measure is the
+-- number of octets left. Assumes nothing.
+use mathlib.Core.Path.{_≡_, sym, _∙_, refl}
+use Prim.Native.Nat.{_-_, _≤_}
+use native.Mathlib.Omega.{arith}
+use borrow.Author.Tests.{not-true, not-false}
+use lib.ListN.{length, drop}
+use Rattle.words.specs.Hex.{allHex}
+use Rattle.words.proofs.HexLaws.{hex-more, hex-stop, hex-end}
+use Rattle.words.proofs.hex.all_hex.Statement.{statement}
+use Rattle.words.proofs.hex.all_hex.Tie as tie
+
+abbrev Inv-loop : tie.InvT-loop
+Inv-loop word i₀ i = (i ≤ length word) × (allHex word ≡ allHex (drop i word))
+
+abbrev μ-loop : tie.MeasureT-loop
+μ-loop word i₀ i = length word - i
+
+loop-holds : tie.Need-loop-holds Inv-loop μ-loop
+loop-holds c = (omega arith, refl)
+
+shared-slice-read-b : tie.Need-shared-slice-read-b Inv-loop μ-loop
+shared-slice-read-b c = omega arith
+
+is-hex-requires : tie.Need-is-hex-requires Inv-loop μ-loop
+is-hex-requires c κs = tt
+
+returns : tie.Need-returns Inv-loop μ-loop
+returns c =
+    let f = c .before .is-hex in
+    sym (hex-stop _ _ (c .before .before .before .before .loop .inv .1) (omega arith) (sym (f .ensures) ∙ not-true (f .result) (c .if1 .taken)))
+
+add-i : tie.Need-add-i Inv-loop μ-loop
+add-i c = omega arith
+
+loop-less : tie.Need-loop-less Inv-loop μ-loop
+loop-less c = omega arith
+
+loop-again : tie.Need-loop-again Inv-loop μ-loop
+loop-again c =
+    let f = c .before .is-hex in
+    (omega arith, hex-more _ _ (c .before .before .before .before .loop .inv .1) (omega arith) (sym (f .ensures) ∙ not-false (f .result) (c .if1 .left)))
+
+returns-2 : tie.Need-returns-2 Inv-loop μ-loop
+returns-2 c = sym (c .before .loop .inv .1 ∙ hex-end _ (c .before .loop .i) (omega arith))
+
+pub all-hex-spec : {M : Type 1} → statement M
+all-hex-spec =
+    tie.close
+    (tie.spec
+    Inv-loop
+    μ-loop
+    loop-holds
+    shared-slice-read-b
+    is-hex-requires
+    returns
+    add-i
+    loop-less
+    loop-again
+    returns-2)

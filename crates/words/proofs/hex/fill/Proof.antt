@@ -1,0 +1,96 @@
+-- `words::hex::fill`. The loop's invariant: the first i of the word's octets stand at the start of out. The measure is the number of
+-- octets left. Assumes nothing.
+use mathlib.Core.Path.{refl, _≡_}
+use Prim.Native.Nat.{_-_}
+use native.Mathlib.Omega.{arith}
+use lib.ListN.{length}
+use Rattle.words.specs.Hex.{octetsOf}
+use Rattle.words.proofs.HexLaws.{hex-at, octets-length, octet-at}
+use Rattle.words.proofs.PutLaws.{Pasted, pasted-none, pasted-more, pasted-all}
+use Rattle.words.proofs.hex.fill.Statement.{statement}
+use Rattle.words.proofs.hex.fill.Tie as tie
+
+abbrev Inv-loop : tie.InvT-loop
+Inv-loop word out₀ count i₀ out i = (length (octetsOf word) ≡ count) × Pasted out₀ 0 (octetsOf word) out i
+
+abbrev μ-loop : tie.MeasureT-loop
+μ-loop word out₀ count i₀ out i = count - i
+
+loop-holds : tie.Need-loop-holds Inv-loop μ-loop
+loop-holds c =
+    let word = c .before .before .args .word .now in
+    let n : length (octetsOf word) ≡ c .before .before .args .count = omega (arith, octets-length word) in
+    (n, pasted-none _ _ _ (omega arith))
+
+mul-hex-value : tie.Need-mul-hex-value Inv-loop μ-loop
+mul-hex-value c = omega arith
+
+shared-slice-read-hex-value : tie.Need-shared-slice-read-hex-value Inv-loop μ-loop
+shared-slice-read-hex-value c = omega arith
+
+hex-value-requires : tie.Need-hex-value-requires Inv-loop μ-loop
+hex-value-requires c κs = hex-at _ _ (c .before .before .before .before .before .pre .0) (omega arith)
+
+mul-hex-value-2 : tie.Need-mul-hex-value-2 Inv-loop μ-loop
+mul-hex-value-2 c = omega arith
+
+add-hex-value : tie.Need-add-hex-value Inv-loop μ-loop
+add-hex-value c = omega arith
+
+shared-slice-read-hex-value-2 : tie.Need-shared-slice-read-hex-value-2 Inv-loop μ-loop
+shared-slice-read-hex-value-2 c = omega arith
+
+hex-value-requires-2 : tie.Need-hex-value-requires-2 Inv-loop μ-loop
+hex-value-requires-2 c κs = hex-at _ _ (c .before .before .before .before .before .before .before .pre .0) (omega arith)
+
+mul-out : tie.Need-mul-out Inv-loop μ-loop
+mul-out c = omega arith
+
+add-out : tie.Need-add-out Inv-loop μ-loop
+add-out c = omega arith
+
+slice-write-out : tie.Need-slice-write-out Inv-loop μ-loop
+slice-write-out c = omega arith
+
+add-i : tie.Need-add-i Inv-loop μ-loop
+add-i c = omega arith
+
+loop-less : tie.Need-loop-less Inv-loop μ-loop
+loop-less c = omega arith
+
+loop-again : tie.Need-loop-again Inv-loop μ-loop
+loop-again c =
+    let l = c .before .before .before .before .before .loop in
+    let v = octet-at (c .before .before .before .before .before .before .before .before .args .word .now) (l .i) (omega arith) in
+    let h = c .before .before .hex-value .ensures .0 in
+    let k = c .hex-value2 .ensures .0 in
+    (l .inv .0, pasted-more _ _ _ (l .inv .1) (omega arith) (omega arith) (rw (h, k) v) refl)
+
+same-length : tie.Need-same-length Inv-loop μ-loop
+same-length c = c .before .loop .inv .1 .long
+
+returns : tie.Need-returns Inv-loop μ-loop
+returns c = pasted-all (c .before .loop .inv .1) (omega arith)
+
+pub fill-spec : {M : Type 1} → statement M
+fill-spec =
+    tie.close
+    (tie.spec
+    Inv-loop
+    μ-loop
+    loop-holds
+    mul-hex-value
+    shared-slice-read-hex-value
+    hex-value-requires
+    mul-hex-value-2
+    add-hex-value
+    shared-slice-read-hex-value-2
+    hex-value-requires-2
+    mul-out
+    add-out
+    slice-write-out
+    add-i
+    loop-less
+    loop-again
+    same-length
+    returns)

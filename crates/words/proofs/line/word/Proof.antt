@@ -1,0 +1,55 @@
+-- `words::word`: past the twentieth place a list answers 0, and so does the code. Assumes nothing.
+use mathlib.Core.Path.{_≡_}
+use native.Mathlib.Omega.{arith}
+use borrow.Author.Needs.{needs}
+use lib.ListN.{length, List·getD-eq-default}
+use Rattle.words.specs.Line.{wordIn}
+use Rattle.words.proofs.line.word.Statement.{statement}
+use Rattle.words.proofs.line.word.Tie as tie
+
+mul-start : tie.Need-mul-start
+mul-start c = search needs
+
+array-read-start : tie.Need-array-read-start
+array-read-start c = search needs
+
+mul-end : tie.Need-mul-end
+mul-end c = search needs
+
+array-read-end : tie.Need-array-read-end
+array-read-end c = search needs
+
+part-requires : tie.Need-part-requires
+part-requires c κs = search needs
+
+returns : tie.Need-returns
+unfolding wordIn
+returns c = c .part .ensures
+
+part-requires-2 : tie.Need-part-requires-2
+part-requires-2 c κs = search needs
+
+returns-2 : tie.Need-returns-2
+unfolding wordIn
+returns-2 c =
+    let a = c .before .before .before .args in
+    let s : length (a .places .starts) ≡ 20 = search needs in
+    let e : length (a .places .ends) ≡ 20 = search needs in
+    rw (
+      List·getD-eq-default (a .places .starts) 0 {n = a .k} (omega arith),
+      List·getD-eq-default (a .places .ends) 0 {n = a .k} (omega arith),
+    )
+    (c .part2 .ensures)
+
+pub word-spec : {M : Type 1} → statement M
+word-spec =
+    tie.close
+    (tie.spec
+    mul-start
+    array-read-start
+    mul-end
+    array-read-end
+    part-requires
+    returns
+    part-requires-2
+    returns-2)

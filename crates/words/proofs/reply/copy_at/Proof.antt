@@ -1,0 +1,58 @@
+-- `words::reply::copy_at`. The loop's invariant: the first j octets of the text stand in out from `at` on. The measure is the number
+-- of octets left. Assumes nothing.
+use mathlib.Core.Path.{refl}
+use Prim.Native.Nat.{_-_}
+use native.Mathlib.Omega.{arith}
+use lib.ListN.{length}
+use Rattle.words.proofs.PutLaws.{Pasted, pasted-none, pasted-more, pasted-all}
+use Rattle.words.proofs.reply.copy_at.Statement.{statement}
+use Rattle.words.proofs.reply.copy_at.Tie as tie
+
+abbrev Inv-loop : tie.InvT-loop
+Inv-loop out₀ at text j₀ out j = Pasted out₀ at text out j
+
+abbrev μ-loop : tie.MeasureT-loop
+μ-loop out₀ at text j₀ out j = length text - j
+
+loop-holds : tie.Need-loop-holds Inv-loop μ-loop
+loop-holds c = pasted-none _ _ _ (omega arith)
+
+shared-slice-read-out : tie.Need-shared-slice-read-out Inv-loop μ-loop
+shared-slice-read-out c = omega arith
+
+add-out : tie.Need-add-out Inv-loop μ-loop
+add-out c = omega arith
+
+slice-write-out : tie.Need-slice-write-out Inv-loop μ-loop
+slice-write-out c = omega arith
+
+add-j : tie.Need-add-j Inv-loop μ-loop
+add-j c = omega arith
+
+loop-less : tie.Need-loop-less Inv-loop μ-loop
+loop-less c = omega arith
+
+loop-again : tie.Need-loop-again Inv-loop μ-loop
+loop-again c = pasted-more _ _ _ (c .before .before .loop .inv) (omega arith) refl refl refl
+
+same-length : tie.Need-same-length Inv-loop μ-loop
+same-length c = c .before .loop .inv .long
+
+returns : tie.Need-returns Inv-loop μ-loop
+returns c = pasted-all (c .before .loop .inv) (omega arith)
+
+pub copy-at-spec : {M : Type 1} → statement M
+copy-at-spec =
+    tie.close
+    (tie.spec
+    Inv-loop
+    μ-loop
+    loop-holds
+    shared-slice-read-out
+    add-out
+    slice-write-out
+    add-j
+    loop-less
+    loop-again
+    same-length
+    returns)

@@ -1,0 +1,88 @@
+-- `words::reply::hex_at`. The loop's invariant: the digits of the first i octets stand in out from `at` on, and `to` is the place after
+-- them. A turn stores two digits. The measure is the number of octets left. Assumes nothing.
+use mathlib.Core.Path.{_≡_, refl, _∙_}
+use Prim.Native.Nat.{_-_, _+_, _*_}
+use native.Mathlib.Omega.{arith}
+use lib.ListN.{length-set, length}
+use Rattle.words.specs.Hex.{hexPairs}
+use Rattle.words.proofs.HexLaws.{pairs-length, pair-high, pair-low}
+use Rattle.words.proofs.PutLaws.{Pasted, pasted-none, pasted-more, pasted-all}
+use Rattle.words.proofs.reply.hex_at.Statement.{statement}
+use Rattle.words.proofs.reply.hex_at.Tie as tie
+
+abbrev Inv-loop : tie.InvT-loop
+Inv-loop out₀ at octets i₀ to₀ out i to =
+    (length (hexPairs octets) ≡ length octets * 2)
+    × (to ≡ at + i * 2)
+    × Pasted out₀ at (hexPairs octets) out (i * 2)
+
+abbrev μ-loop : tie.MeasureT-loop
+μ-loop out₀ at octets i₀ to₀ out i to = length octets - i
+
+loop-holds : tie.Need-loop-holds Inv-loop μ-loop
+loop-holds c =
+    let n = pairs-length (c .before .before .args .octets .now) in
+    (n, omega arith, pasted-none _ _ _ (omega (arith, n)))
+
+shared-slice-read-b : tie.Need-shared-slice-read-b Inv-loop μ-loop
+shared-slice-read-b c = omega arith
+
+hex-digit-requires : tie.Need-hex-digit-requires Inv-loop μ-loop
+hex-digit-requires c κs = omega (arith, c .shared-slice-known2 .given (c .before .before .loop .i))
+
+slice-write-out : tie.Need-slice-write-out Inv-loop μ-loop
+slice-write-out c = omega arith
+
+hex-digit-requires-2 : tie.Need-hex-digit-requires-2 Inv-loop μ-loop
+hex-digit-requires-2 c κs = omega arith
+
+add-out : tie.Need-add-out Inv-loop μ-loop
+add-out c = omega arith
+
+slice-write-out-2 : tie.Need-slice-write-out-2 Inv-loop μ-loop
+slice-write-out-2 c = simp length-set (omega arith)
+
+add-to : tie.Need-add-to Inv-loop μ-loop
+add-to c = omega arith
+
+add-i : tie.Need-add-i Inv-loop μ-loop
+add-i c = omega arith
+
+loop-less : tie.Need-loop-less Inv-loop μ-loop
+loop-less c = omega arith
+
+loop-again : tie.Need-loop-again Inv-loop μ-loop
+loop-again c =
+    let o = c .before .before .before .before .before .before .before .args .octets .now in
+    let l = c .before .before .before .before .loop in
+    let h = c .before .hex-digit in
+    let e = h .ensures ∙ pair-high o (l .i) (omega arith) in
+    let f = c .hex-digit2 .ensures ∙ pair-low o (l .i) (omega arith) in
+    let high = pasted-more (l .to) (h .result) (l .i * 2 + 1) (l .inv .2) (omega arith) (omega arith) e refl in
+    (l .inv .0, omega arith, pasted-more _ _ _ high (omega arith) (omega arith) f (omega arith))
+
+same-length : tie.Need-same-length Inv-loop μ-loop
+same-length c = c .before .loop .inv .2 .long
+
+returns : tie.Need-returns Inv-loop μ-loop
+returns c = pasted-all (c .before .loop .inv .2) (omega arith)
+
+pub hex-at-spec : {M : Type 1} → statement M
+hex-at-spec =
+    tie.close
+    (tie.spec
+    Inv-loop
+    μ-loop
+    loop-holds
+    shared-slice-read-b
+    hex-digit-requires
+    slice-write-out
+    hex-digit-requires-2
+    add-out
+    slice-write-out-2
+    add-to
+    add-i
+    loop-less
+    loop-again
+    same-length
+    returns)

@@ -1,0 +1,4 @@
+pub mod Number
+pub mod Hex
+pub mod Line
+pub mod Put

@@ -1,0 +1,72 @@
+// A line as words.
+use crate::types::Words;
+ghost use mathlib.Core.Path.{_≡_};
+ghost use Rattle.words.specs.Line.{splitOf, placesOf, partOf, wordIn};
+ghost use mathlib.Core.List.{[]};
+
+// The answer for what is not a line of words.
+fn no_words() -> Words
+    ensures { λ r. ⌜ r ≡ placesOf [] ⌝ }
+{
+    Words {
+        count: 0,
+        starts: [0usize; 20],
+        ends: [0usize; 20],
+    }
+}
+
+// Where the line's words are; no words where one of them is empty or there are more than twenty. One
+// turn finds one word.
+pub fn split(line: &[u8]) -> Words
+    ensures { λ r. ⌜ r ≡ splitOf (now (line .entry)) ⌝ }
+{
+    let mut starts = [0usize; 20];
+    let mut ends = [0usize; 20];
+    let mut from = 0;
+    let mut n = 0;
+    while n < 20 {
+        let end = bytes::scan::find(line, from, line.len(), b' ');
+        if end == from {
+            return no_words();
+        }
+        starts[n] = from;
+        ends[n] = end;
+        n += 1;
+        if end == line.len() {
+            return Words {
+                count: n,
+                starts,
+                ends,
+            };
+        }
+        from = end + 1;
+    }
+    no_words()
+}
+
+// The octets from start up to end, or none where these do not stand in order inside the line.
+fn part(line: &[u8], start: usize, end: usize) -> &[u8]
+    ensures { λ r. ⌜ now r ≡ partOf (now (line .entry)) start end ⌝ }
+{
+    if end < start {
+        return &line[0..0];
+    }
+    if line.len() < end {
+        return &line[0..0];
+    }
+    &line[start..end]
+}
+
+// Word k of a line by the places that split answered for it; no octets where there is no word k.
+pub fn word(line: &[u8], places: Words, k: usize) -> &[u8]
+    ensures { λ r. ⌜ now r ≡ wordIn (now (line .entry)) places k ⌝ }
+{
+    if k < 20 {
+        let starts = places.starts;
+        let ends = places.ends;
+        let start = starts[k];
+        let end = ends[k];
+        return part(line, start, end);
+    }
+    part(line, 0, 0)
+}

@@ -1,0 +1,266 @@
+//! The line language: a request in, a reply out.
+
+use crate::access::{self, Name};
+use crate::calendar::{self, Date, What};
+use crate::description;
+use crate::layout;
+use crate::refusal::Refusal;
+
+/// The longest line that is read, the line feed not counted.
+pub const LONGEST_LINE: usize = 300_000;
+
+/// A number: one or more decimal digits, leading zeros allowed, no sign; none
+/// where it is over its type.
+fn number(word: &[u8], most: u64) -> Option<u64> {
+    if word.is_empty() {
+        return None;
+    }
+    let mut value = 0u64;
+    for octet in word {
+        if !octet.is_ascii_digit() {
+            return None;
+        }
+        value = value.checked_mul(10)?.checked_add(u64::from(octet - b'0'))?;
+    }
+    if value > most {
+        None
+    } else {
+        Some(value)
+    }
+}
+
+fn hex_digit(octet: u8) -> Option<u8> {
+    match octet {
+        b'0'..=b'9' => Some(octet - b'0'),
+        b'a'..=b'f' => Some(octet - b'a' + 10),
+        _ => None,
+    }
+}
+
+/// "Octets are lower-case hex, two digits each; `-` stands for no octets."
+fn octets(word: &[u8]) -> Option<Vec<u8>> {
+    if word == b"-" {
+        return Some(Vec::new());
+    }
+    if word.is_empty() || word.len() % 2 != 0 {
+        return None;
+    }
+    let mut read = Vec::with_capacity(word.len() / 2);
+    for pair in word.chunks_exact(2) {
+        read.push(hex_digit(pair[0])? * 16 + hex_digit(pair[1])?);
+    }
+    Some(read)
+}
+
+/// Octets as they stand in a reply.
+fn written(octets: &[u8]) -> String {
+    if octets.is_empty() {
+        return String::from("-");
+    }
+    const DIGITS: &[u8; 16] = b"0123456789abcdef";
+    let mut text = String::with_capacity(octets.len() * 2);
+    for octet in octets {
+        text.push(char::from(DIGITS[usize::from(octet / 16)]));
+        text.push(char::from(DIGITS[usize::from(octet % 16)]));
+    }
+    text
+}
+
+/// The words of one request, read one after another.
+struct Words<'a> {
+    words: Vec<&'a [u8]>,
+    next: usize,
+}
+
+impl<'a> Words<'a> {
+    fn word(&mut self) -> Option<&'a [u8]> {
+        let word = self.words.get(self.next).copied()?;
+        self.next += 1;
+        Some(word)
+    }
+
+    fn octets(&mut self) -> Option<Vec<u8>> {
+        octets(self.word()?)
+    }
+
+    /// "Numbers run to 2^64 - 1"
+    fn long(&mut self) -> Option<u64> {
+        number(self.word()?, u64::MAX)
+    }
+
+    /// "`year` to `minute` to 2^32 - 1"
+    fn short(&mut self) -> Option<u32> {
+        Some(number(self.word()?, u64::from(u32::MAX))? as u32)
+    }
+
+    /// "`mfr` and `what` to 1"
+    fn bit(&mut self) -> Option<bool> {
+        Some(number(self.word()?, 1)? == 1)
+    }
+
+    /// "`num` to 65,535"
+    fn table_number(&mut self) -> Option<u64> {
+        number(self.word()?, 65_535)
+    }
+
+    /// "`S` = `item n s0 s1 s2 s3` (item number, how many subscripts count,
+    /// four subscripts)"
+    fn name(&mut self) -> Option<Name> {
+        let item = self.long()?;
+        let count = self.long()?;
+        let subscripts = [self.long()?, self.long()?, self.long()?, self.long()?];
+        Some(Name { item, count, subscripts })
+    }
+
+    /// The end of the request: no word is left.
+    fn end(&self) -> Option<()> {
+        if self.next == self.words.len() {
+            Some(())
+        } else {
+            None
+        }
+    }
+}
+
+/// `no item octet` of a refusal.
+fn head(refusal: &Refusal) -> String {
+    format!("{} {} {}", refusal.no, refusal.item, refusal.octet)
+}
+
+/// A reply whose own numbers are `good`, or `zeros` on a refusal ("every other
+/// number is 0 on a refusal").
+fn reply(result: Result<String, Refusal>, zeros: &str) -> String {
+    let (head, rest) = match result {
+        Ok(good) => (String::from("0 0 0"), good),
+        Err(refusal) => (head(&refusal), String::from(zeros)),
+    };
+    if rest.is_empty() {
+        head
+    } else {
+        format!("{} {}", head, rest)
+    }
+}
+
+/// A write's reply: "`M'` is the image after the call", which on a refusal is
+/// the image as it was.
+fn write_reply(result: Result<Vec<u8>, Refusal>, image: &[u8]) -> String {
+    reply(result.map(|later| written(&later)), &written(image))
+}
+
+/// The reply to a request, or none where the line is of no form.
+fn answer_request(line: &[u8]) -> Option<String> {
+    if line.len() > LONGEST_LINE {
+        return None;
+    }
+    let mut words = Words { words: line.split(|octet| *octet == b' ').collect(), next: 0 };
+    let question = words.word()?;
+    let text = match question {
+        b"check" => {
+            let d = words.octets()?;
+            words.end()?;
+            reply(description::check(&d).map(|_| String::new()), "")
+        }
+        b"layout" => {
+            let (d, m) = (words.octets()?, words.octets()?);
+            words.end()?;
+            reply(layout::lay_out(&d, &m).map(|layout| layout.total.to_string()), "0")
+        }
+        b"table" => {
+            let (d, m) = (words.octets()?, words.octets()?);
+            let (mfr, num) = (words.bit()?, words.table_number()?);
+            words.end()?;
+            let found = access::table(&d, &m, mfr, num);
+            reply(found.map(|place| format!("{} {}", place.at, place.length)), "0 0")
+        }
+        b"tablepart" => {
+            let (d, m) = (words.octets()?, words.octets()?);
+            let (mfr, num) = (words.bit()?, words.table_number()?);
+            words.end()?;
+            // "the table itself as a part of the caller's image (empty on
+            // refusal)"
+            match access::table(&d, &m, mfr, num) {
+                Ok(place) => written(place.part(&m)),
+                Err(_) => written(&[]),
+            }
+        }
+        b"where" => {
+            let (d, m) = (words.octets()?, words.octets()?);
+            let name = words.name()?;
+            words.end()?;
+            let found = access::element(&d, &m, &name);
+            reply(found.map(|place| format!("{} {}", place.at, place.length)), "0 0")
+        }
+        b"octets" => {
+            let (d, m) = (words.octets()?, words.octets()?);
+            let name = words.name()?;
+            words.end()?;
+            // "its octets, as a part of the image (empty on refusal ...)"
+            match access::element(&d, &m, &name) {
+                Ok(place) => written(place.part(&m)),
+                Err(_) => written(&[]),
+            }
+        }
+        b"number" => {
+            let (d, m) = (words.octets()?, words.octets()?);
+            let name = words.name()?;
+            words.end()?;
+            reply(access::number(&d, &m, &name).map(|value| value.to_string()), "0")
+        }
+        b"writerange" => {
+            let (d, m) = (words.octets()?, words.octets()?);
+            let (mfr, num) = (words.bit()?, words.table_number()?);
+            let offset = words.long()?;
+            let data = words.octets()?;
+            words.end()?;
+            write_reply(access::write_range(&d, &m, mfr, num, offset, &data), &m)
+        }
+        b"writeoctets" => {
+            let (d, m) = (words.octets()?, words.octets()?);
+            let name = words.name()?;
+            let data = words.octets()?;
+            words.end()?;
+            write_reply(access::write_octets(&d, &m, &name, &data), &m)
+        }
+        b"writenumber" => {
+            let (d, m) = (words.octets()?, words.octets()?);
+            let name = words.name()?;
+            let value = words.long()?;
+            words.end()?;
+            write_reply(access::write_number(&d, &m, &name, value), &m)
+        }
+        b"tier" => {
+            let (d, m) = (words.octets()?, words.octets()?);
+            let (year, month, day) = (words.short()?, words.short()?, words.short()?);
+            let (hour, minute) = (words.short()?, words.short()?);
+            let what = if words.bit()? { What::Demands } else { What::Summations };
+            words.end()?;
+            let date = Date { year, month, day };
+            let found = calendar::tier(&d, &m, date, hour, minute, what);
+            reply(
+                found.map(|tier| match tier {
+                    Some(tier) => format!("0 {}", tier),
+                    None => String::from("1 0"),
+                }),
+                "0 0",
+            )
+        }
+        b"matrix" => {
+            let (d, m) = (words.octets()?, words.octets()?);
+            words.end()?;
+            let found = calendar::matrix(&d, &m);
+            let (head, cells) = match found {
+                Ok(cells) => (String::from("0 0 0"), cells),
+                Err(refusal) => (head(&refusal), [[0; 22]; 15]),
+            };
+            format!("{} {}", head, written(&cells.concat()))
+        }
+        _ => return None,
+    };
+    Some(text)
+}
+
+/// The reply line to a request line, without line feeds. "A line that is none
+/// of these forms ... is answered `?`".
+pub fn answer(line: &[u8]) -> String {
+    answer_request(line).unwrap_or_else(|| String::from("?"))
+}
