@@ -3,12 +3,12 @@
 # program's reply. check.sh [SEED [MOST]]: MOST requests of each kind, by default 150 from seed 1. Works in a folder of its own.
 set -euo pipefail
 cd "$(dirname "$0")/../.."
+. tests/kit.sh
 seed=${1:-1} most=${2:-150}
 work=$(mktemp -d)
 trap 'rm -rf "$work"' EXIT
 
-rustc --edition 2021 -O tests/second/src/main.rs -o "$work/second"
-rustc --edition 2021 -O tests/second/gen.rs -o "$work/gen"
+build_second "$work"
 rustc --edition 2021 -O tests/definitions/translate.rs -o "$work/translate"
 
 mkdir "$work/repository" "$work/repository/crates"

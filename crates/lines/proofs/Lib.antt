@@ -1,1 +1,4 @@
 pub mod InputLaws
+pub mod PutLaws
+pub mod AnswerLaws
+pub mod Fits

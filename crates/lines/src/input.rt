@@ -6,6 +6,7 @@ use libc::STDIN_FILENO;
 use libc::STDOUT_FILENO;
 ghost use Prim.Native.Nat.{_-_, _≤_};
 ghost use lib.ListN.{length, take, drop};
+ghost use Rattle.lines.specs.Answer.{Memory};
 ghost use Rattle.lines.specs.Input.{Held};
 
 // Where reading stands: how many octets of an unfinished line are held, and whether to go on.
@@ -31,15 +32,24 @@ fn hold(line: &mut [u8], held: usize, chunk: &[u8], from: usize, to: usize) -> u
 }
 
 // Answers a line, and whether its reply was written.
-fn give(line: &[u8], out: &mut [u8]) -> bool {
-    let n = reply::answer(line, out);
+fn give(line: &[u8], out: &mut [u8], description: &mut [u8]) -> bool
+    requires { ⌜ Memory (now out) (now description) ⌝ }
+{
+    let n = reply::answer(line, out, description);
     io::write_all(STDOUT_FILENO, &out[..n])
 }
 
 // Answers each line that ends in chunk, and holds what comes after the last of them. It stops at a
 // reply that is not written, since the replies after it would answer other lines.
-fn take_lines(chunk: &[u8], line: &mut [u8], held: usize, out: &mut [u8]) -> Stand
+fn take_lines(
+    chunk: &[u8],
+    line: &mut [u8],
+    held: usize,
+    out: &mut [u8],
+    description: &mut [u8],
+) -> Stand
     requires { ⌜ held ≤ length (now line) ⌝ }
+    requires { ⌜ Memory (now out) (now description) ⌝ }
     ensures { λ r. ⌜ r .held ≤ length (now (line .entry)) ⌝ }
 {
     let mut n = held;
@@ -53,7 +63,7 @@ fn take_lines(chunk: &[u8], line: &mut [u8], held: usize, out: &mut [u8]) -> Sta
                 going: true,
             };
         }
-        if !give(&line[..n], out) {
+        if !give(&line[..n], out, description) {
             return Stand {
                 held: 0,
                 going: false,
@@ -69,27 +79,36 @@ fn take_lines(chunk: &[u8], line: &mut [u8], held: usize, out: &mut [u8]) -> Sta
 }
 
 // Reads once. Where the input ends, or cannot be read, a last line without line feed is answered.
-fn read_some(chunk: &mut [u8], line: &mut [u8], held: usize, out: &mut [u8]) -> Stand
+fn read_some(
+    chunk: &mut [u8],
+    line: &mut [u8],
+    held: usize,
+    out: &mut [u8],
+    description: &mut [u8],
+) -> Stand
     requires { ⌜ held ≤ length (now line) ⌝ }
+    requires { ⌜ Memory (now out) (now description) ⌝ }
     ensures { λ r. ⌜ r .held ≤ length (now (line .entry)) ⌝ }
 {
     let got = libc::read(STDIN_FILENO, chunk);
     let n = io::count(got, chunk);
     if n == 0 {
         if 0 < held {
-            give(&line[..held], out);
+            give(&line[..held], out, description);
         }
         return Stand {
             held: 0,
             going: false,
         };
     }
-    take_lines(&chunk[..n], line, held, out)
+    take_lines(&chunk[..n], line, held, out, description)
 }
 
 // A proved loop has to end, and nothing says that the input does. So the loop counts its turns
 // down, from a number that no run uses up.
-pub fn run(chunk: &mut [u8], line: &mut [u8], out: &mut [u8]) {
+pub fn run(chunk: &mut [u8], line: &mut [u8], out: &mut [u8], description: &mut [u8])
+    requires { ⌜ Memory (now out) (now description) ⌝ }
+{
     let mut stand = Stand {
         held: 0,
         going: true,
@@ -97,7 +116,7 @@ pub fn run(chunk: &mut [u8], line: &mut [u8], out: &mut [u8]) {
     let mut turns = u64::MAX;
     while turns > 0 {
         let held = stand.held;
-        stand = read_some(chunk, line, held, out);
+        stand = read_some(chunk, line, held, out, description);
         if !stand.going {
             return;
         }

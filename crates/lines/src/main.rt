@@ -1,16 +1,21 @@
 // Reads requests from standard input, a line each, and writes one reply line for each to standard
 // output, in order, until the input ends. Nothing is kept between lines.
 mod input;
+mod put;
+mod questions;
 mod reply;
 
 // The longest line that is taken, and one octet more, by which a longer line is told.
 const LINE: usize = 300001;
 // The longest reply: an image of 65,540 octets in hex, a refusal's three numbers, a line feed.
 const REPLY: usize = 131200;
+// The octets of a description: no line that is taken has hex digits for more.
+const DESCRIPTION: usize = 150000;
 
 fn main() {
     let mut chunk = io::large_buffer();
     let mut line = [0u8; LINE];
     let mut out = [0u8; REPLY];
-    input::run(&mut chunk, &mut line, &mut out);
+    let mut description = [0u8; DESCRIPTION];
+    input::run(&mut chunk, &mut line, &mut out, &mut description);
 }

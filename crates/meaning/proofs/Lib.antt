@@ -2,3 +2,8 @@ pub mod Computing
 pub mod Examples
 pub mod Unpassed
 pub mod Careful
+pub mod Ranges
+pub mod Rules
+pub mod Nesting
+pub mod Given
+pub mod Passed

@@ -1,7 +1,6 @@
 -- Each of the three outcomes is met, by a description that isn't passed: by computing. Assumes nothing.
 use mathlib.Core.Path.{refl}
-use mathlib.Core.List.{List, [], _∷_}
-use Prim.Native.Nat.{ℕ}
+use mathlib.Core.List.{[], _∷_}
 use Rattle.meaning.specs.declared.Refusal.{Refusal}
 use Rattle.meaning.proofs.Computing.{computing}
 use Rattle.meaning.specs.Examples.{items, D-unset, first}

@@ -7,7 +7,7 @@ use mathlib.Core.Bool.{Bool, true, false, _&&_}
 use mathlib.Core.List.{List, [], _∷_, _++_}
 use mathlib.Core.Option.{Option, some, none}
 use lib.ListN.{length, getD}
-use Rattle.meaning.specs.Basics.{if_then_else_, _=?_, _<?_, _≤?_, bits, part, numberIn}
+use Rattle.meaning.specs.Basics.{if_then_else_, _=?_, _≤?_, bits, part, numberIn}
 use Rattle.meaning.specs.declared.Reference.{Reference}
 use Rattle.meaning.specs.declared.Item.{Item}
 use Rattle.meaning.specs.declared.Item.the-variants.{Table, Uint, Block, Set, Array, If, Malformed}

@@ -1,5 +1,7 @@
 pub mod Basics
 pub mod Description
+pub mod Ranges
+pub mod Passed
 pub mod Layout
 pub mod Refusals
 pub mod Calendar

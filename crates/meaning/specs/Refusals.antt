@@ -1,13 +1,12 @@
 -- REFUSAL NUMBERS: the section of that name in the scope document, and with it every question's reply and every write's later image.
 -- Each reply is a function of the description, the image and what is asked, so no second reply fits. Nothing is assumed of any of them.
 use Prim.Native.Nat.{ℕ, zero, suc, _+_, _^_, min, max}
-use mathlib.Core.Bool.{Bool, true, false, not, _&&_, _||_}
+use mathlib.Core.Bool.{Bool, false, not, _&&_, _||_}
 use mathlib.Core.List.{List, [], _∷_, _++_}
 use mathlib.Core.Option.{Option, some, none}
 use lib.ListN.{length, take}
 use Rattle.meaning.specs.Basics.{if_then_else_, _=?_, _<?_, _≤?_, part, splice, octetsIn}
 use Rattle.meaning.specs.declared.TableOffset.{TableOffset}
-use Rattle.meaning.specs.declared.ImageOffset.{ImageOffset}
 use Rattle.meaning.specs.declared.ElementName.{ElementName}
 use Rattle.meaning.specs.declared.Refusal.{Refusal}
 use Rattle.meaning.specs.declared.Refusal.the-variants.{BadLength, BreaksRule, ImageTooLong, ImageShort, NoTable, NoElement, OutsideTable, NotWritable, HoldsDimension, WrongSize, NotADate, NoSeason, SeasonChangeArmed, NoRowOrColumn, NotACalendar}

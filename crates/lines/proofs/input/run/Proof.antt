@@ -8,32 +8,45 @@ use Rattle.lines.proofs.input.run.Statement.{statement}
 use Rattle.lines.proofs.input.run.Tie as tie
 
 abbrev Inv-loop : tie.InvT-loop
-Inv-loop chunk₀ line₀ out₀ stand₀ turns₀ chunk line out stand turns =
+Inv-loop chunk₀ line₀ out₀ description₀ stand₀ turns₀ chunk line out description stand turns =
     (stand .held ≤ length line₀)
     × (length chunk ≡ length chunk₀)
     × (length line ≡ length line₀)
     × (length out ≡ length out₀)
+    × (length description ≡ length description₀)
 
 abbrev μ-loop : tie.MeasureT-loop
-μ-loop chunk₀ line₀ out₀ stand₀ turns₀ chunk line out stand turns = turns
+μ-loop chunk₀ line₀ out₀ description₀ stand₀ turns₀ chunk line out description stand turns = turns
 
 loop-holds : tie.Need-loop-holds Inv-loop μ-loop
-loop-holds c = (omega arith, refl, refl, refl)
+loop-holds c = (omega arith, refl, refl, refl, refl)
 
 read-some-requires : tie.Need-read-some-requires Inv-loop μ-loop
-read-some-requires c κs = omega arith
+read-some-requires c κs = (omega arith, record { reply = omega arith; octets = omega arith })
 
 same-length : tie.Need-same-length Inv-loop μ-loop
 same-length c =
-    c .before .before .before .before .before .before .before .before .read-some .kept .0 ∙ c .before .before .before .before .before .before .before .before .before .before .before .before .before .loop .inv .1
+    let r = c .before .before .before .before .before .before .before .before .before .before .read-some in
+    let i = c .before .before .before .before .before .before .before .before .before .before .before .before .before .before .before .before .loop .inv in
+    r .kept .0 ∙ i .1
 
 same-length-2 : tie.Need-same-length-2 Inv-loop μ-loop
 same-length-2 c =
-    c .before .before .before .before .before .before .before .before .read-some .kept .1 .0 ∙ c .before .before .before .before .before .before .before .before .before .before .before .before .before .loop .inv .2
+    let r = c .before .before .before .before .before .before .before .before .before .before .read-some in
+    let i = c .before .before .before .before .before .before .before .before .before .before .before .before .before .before .before .before .loop .inv in
+    r .kept .1 .0 ∙ i .2
 
 same-length-3 : tie.Need-same-length-3 Inv-loop μ-loop
 same-length-3 c =
-    c .before .before .before .before .before .before .before .before .read-some .kept .1 .1 .1 .0 ∙ c .before .before .before .before .before .before .before .before .before .before .before .before .before .loop .inv .3
+    let r = c .before .before .before .before .before .before .before .before .before .before .read-some in
+    let i = c .before .before .before .before .before .before .before .before .before .before .before .before .before .before .before .before .loop .inv in
+    r .kept .1 .1 .1 .0 ∙ i .3
+
+same-length-4 : tie.Need-same-length-4 Inv-loop μ-loop
+same-length-4 c =
+    let r = c .before .before .before .before .before .before .before .before .before .before .read-some in
+    let i = c .before .before .before .before .before .before .before .before .before .before .before .before .before .before .before .before .loop .inv in
+    r .kept .1 .1 .1 .1 .0 ∙ i .4
 
 returns : tie.Need-returns Inv-loop μ-loop
 returns c = tt
@@ -46,18 +59,21 @@ loop-less c = omega arith
 
 loop-again : tie.Need-loop-again Inv-loop μ-loop
 loop-again c =
-    let r = c .before .before .before .before .before .before .before .before .read-some in
-    let i = c .before .before .before .before .before .before .before .before .before .before .before .before .before .loop .inv in
-    (omega (arith, r .ensures, i .2), r .kept .0 ∙ i .1, r .kept .1 .0 ∙ i .2, r .kept .1 .1 .1 .0 ∙ i .3)
-
-same-length-4 : tie.Need-same-length-4 Inv-loop μ-loop
-same-length-4 c = c .before .loop .inv .1
+    let r = c .before .before .before .before .before .before .before .before .before .before .read-some in
+    let i = c .before .before .before .before .before .before .before .before .before .before .before .before .before .before .before .before .loop .inv in
+    (omega (arith, r .ensures, i .2), r .kept .0 ∙ i .1, r .kept .1 .0 ∙ i .2, r .kept .1 .1 .1 .0 ∙ i .3, r .kept .1 .1 .1 .1 .0 ∙ i .4)
 
 same-length-5 : tie.Need-same-length-5 Inv-loop μ-loop
-same-length-5 c = c .before .loop .inv .2
+same-length-5 c = c .before .loop .inv .1
 
 same-length-6 : tie.Need-same-length-6 Inv-loop μ-loop
-same-length-6 c = c .before .loop .inv .3
+same-length-6 c = c .before .loop .inv .2
+
+same-length-7 : tie.Need-same-length-7 Inv-loop μ-loop
+same-length-7 c = c .before .loop .inv .3
+
+same-length-8 : tie.Need-same-length-8 Inv-loop μ-loop
+same-length-8 c = c .before .loop .inv .4
 
 returns-2 : tie.Need-returns-2 Inv-loop μ-loop
 returns-2 c = tt
@@ -73,11 +89,13 @@ run-spec =
     same-length
     same-length-2
     same-length-3
+    same-length-4
     returns
     sub-turns
     loop-less
     loop-again
-    same-length-4
     same-length-5
     same-length-6
+    same-length-7
+    same-length-8
     returns-2)

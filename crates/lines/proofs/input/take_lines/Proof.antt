@@ -1,4 +1,4 @@
--- `lines::input::take_lines`. The loop's invariant: what is held fits the line's room, and both slices keep their lengths. The
+-- `lines::input::take_lines`. The loop's invariant: what is held fits the line's room, and the slices keep their lengths. The
 -- measure is the number of the chunk's octets left. Assumes nothing.
 use mathlib.Core.Path.{_≡_, sym, _∙_}
 use Prim.Native.Nat.{_-_, _≤_}
@@ -9,11 +9,15 @@ use Rattle.lines.proofs.input.take_lines.Statement.{statement}
 use Rattle.lines.proofs.input.take_lines.Tie as tie
 
 abbrev Inv-loop : tie.InvT-loop
-Inv-loop chunk line₀ held out₀ n₀ from₀ line out n from =
-    (n ≤ length line₀) × (from ≤ length chunk) × (length line ≡ length line₀) × (length out ≡ length out₀)
+Inv-loop chunk line₀ held out₀ description₀ n₀ from₀ line out description n from =
+    (n ≤ length line₀)
+    × (from ≤ length chunk)
+    × (length line ≡ length line₀)
+    × (length out ≡ length out₀)
+    × (length description ≡ length description₀)
 
 abbrev μ-loop : tie.MeasureT-loop
-μ-loop chunk line₀ held out₀ n₀ from₀ line out n from = length chunk - from
+μ-loop chunk line₀ held out₀ description₀ n₀ from₀ line out description n from = length chunk - from
 
 loop-holds : tie.Need-loop-holds Inv-loop μ-loop
 loop-holds c = omega arith
@@ -30,6 +34,9 @@ same-length c = c .before .before .before .hold .kept .0 ∙ c .before .before .
 same-length-2 : tie.Need-same-length-2 Inv-loop μ-loop
 same-length-2 c = c .before .before .before .before .before .before .before .loop .inv .3
 
+same-length-3 : tie.Need-same-length-3 Inv-loop μ-loop
+same-length-3 c = c .before .before .before .before .before .before .before .loop .inv .4
+
 returns : tie.Need-returns Inv-loop μ-loop
 returns c = omega arith
 
@@ -40,15 +47,22 @@ slice-aggregate-give : tie.Need-slice-aggregate-give Inv-loop μ-loop
 slice-aggregate-give c = sym (length-take-le _ _ (omega arith))
 
 give-requires : tie.Need-give-requires Inv-loop μ-loop
-give-requires c κs = tt
-
-same-length-3 : tie.Need-same-length-3 Inv-loop μ-loop
-same-length-3 c =
-    c .before .before .before .before .before .before .before .before .before .hold .kept .0 ∙ c .before .before .before .before .before .before .before .before .before .before .before .before .before .loop .inv .2
+give-requires c κs = record { reply = omega arith; octets = omega arith }
 
 same-length-4 : tie.Need-same-length-4 Inv-loop μ-loop
 same-length-4 c =
-    c .before .before .before .give .kept .1 .0 ∙ c .before .before .before .before .before .before .before .before .before .before .before .before .before .loop .inv .3
+    let i = c .before .before .before .before .before .before .before .before .before .before .before .before .before .before .before .before .loop .inv in
+    c .before .before .before .before .before .before .before .before .before .before .before .before .hold .kept .0 ∙ i .2
+
+same-length-5 : tie.Need-same-length-5 Inv-loop μ-loop
+same-length-5 c =
+    let i = c .before .before .before .before .before .before .before .before .before .before .before .before .before .before .before .before .loop .inv in
+    c .before .before .before .before .before .give .kept .1 .0 ∙ i .3
+
+same-length-6 : tie.Need-same-length-6 Inv-loop μ-loop
+same-length-6 c =
+    let i = c .before .before .before .before .before .before .before .before .before .before .before .before .before .before .before .before .loop .inv in
+    c .before .before .before .before .before .give .kept .1 .1 .0 ∙ i .4
 
 returns-2 : tie.Need-returns-2 Inv-loop μ-loop
 returns-2 c = omega arith
@@ -60,13 +74,20 @@ loop-less : tie.Need-loop-less Inv-loop μ-loop
 loop-less c = omega arith
 
 loop-again : tie.Need-loop-again Inv-loop μ-loop
-loop-again c = omega arith
+loop-again c =
+    let i = c .before .before .before .before .before .before .before .before .before .before .before .before .before .before .before .before .loop .inv in
+    let h = c .before .before .before .before .before .before .before .before .before .before .before .before .hold in
+    let g = c .before .before .before .before .before .give in
+    (omega arith, omega arith, h .kept .0 ∙ i .2, g .kept .1 .0 ∙ i .3, g .kept .1 .1 .0 ∙ i .4)
 
-same-length-5 : tie.Need-same-length-5 Inv-loop μ-loop
-same-length-5 c = c .before .loop .inv .2
+same-length-7 : tie.Need-same-length-7 Inv-loop μ-loop
+same-length-7 c = c .before .loop .inv .2
 
-same-length-6 : tie.Need-same-length-6 Inv-loop μ-loop
-same-length-6 c = c .before .loop .inv .3
+same-length-8 : tie.Need-same-length-8 Inv-loop μ-loop
+same-length-8 c = c .before .loop .inv .3
+
+same-length-9 : tie.Need-same-length-9 Inv-loop μ-loop
+same-length-9 c = c .before .loop .inv .4
 
 returns-3 : tie.Need-returns-3 Inv-loop μ-loop
 returns-3 c = omega arith
@@ -82,16 +103,19 @@ take-lines-spec =
     hold-requires
     same-length
     same-length-2
+    same-length-3
     returns
     slice-reshare-prefix-give
     slice-aggregate-give
     give-requires
-    same-length-3
     same-length-4
+    same-length-5
+    same-length-6
     returns-2
     add-from
     loop-less
     loop-again
-    same-length-5
-    same-length-6
+    same-length-7
+    same-length-8
+    same-length-9
     returns-3)

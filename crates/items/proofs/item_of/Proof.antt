@@ -1,0 +1,74 @@
+-- `items::item_of`: each arm is its kind; the last, that it is none of the six. Assumes nothing.
+use borrow.Author.Tests.{ne-eqb}
+use borrow.Author.Needs.{needs}
+use Rattle.meaning.specs.Description.{itemOf}
+use Rattle.items.proofs.item_of.Statement.{statement}
+use Rattle.items.proofs.item_of.Tie as tie
+
+bits-requires : tie.Need-bits-requires
+bits-requires c κs = search needs
+
+table-of-requires : tie.Need-table-of-requires
+table-of-requires c κs = search needs
+
+uint-of-requires : tie.Need-uint-of-requires
+uint-of-requires c κs = search needs
+
+block-of-requires : tie.Need-block-of-requires
+block-of-requires c κs = search needs
+
+set-of-requires : tie.Need-set-of-requires
+set-of-requires c κs = search needs
+
+array-of-requires : tie.Need-array-of-requires
+array-of-requires c κs = search needs
+
+if-of-requires : tie.Need-if-of-requires
+if-of-requires c κs = search needs
+
+returns : tie.Need-returns
+unfolding itemOf
+returns c = rw (← c .before .before .bits .ensures, c .before .match .keys1, c .table-of .ensures)
+
+returns-2 : tie.Need-returns-2
+unfolding itemOf
+returns-2 c = rw (← c .before .before .bits .ensures, c .before .match .keys2, c .uint-of .ensures)
+
+returns-3 : tie.Need-returns-3
+unfolding itemOf
+returns-3 c = rw (← c .before .before .bits .ensures, c .before .match .keys3, c .block-of .ensures)
+
+returns-4 : tie.Need-returns-4
+unfolding itemOf
+returns-4 c = rw (← c .before .before .bits .ensures, c .before .match .keys4, c .set-of .ensures)
+
+returns-5 : tie.Need-returns-5
+unfolding itemOf
+returns-5 c = rw (← c .before .before .bits .ensures, c .before .match .keys5, c .array-of .ensures)
+
+returns-6 : tie.Need-returns-6
+unfolding itemOf
+returns-6 c = rw (← c .before .before .bits .ensures, c .before .match .keys6, c .if-of .ensures)
+
+returns-7 : tie.Need-returns-7
+unfolding itemOf
+returns-7 c = rw (← c .before .bits .ensures) (simp (ne-eqb _ _ (c .match .rest .0 .0 .0 .0 .0 .1), ne-eqb _ _ (c .match .rest .0 .0 .0 .0 .1), ne-eqb _ _ (c .match .rest .0 .0 .0 .1), ne-eqb _ _ (c .match .rest .0 .0 .1), ne-eqb _ _ (c .match .rest .0 .1), ne-eqb _ _ (c .match .rest .1)))
+
+pub item-of-spec : {M : Type 1} → statement M
+item-of-spec =
+    tie.close
+    (tie.spec
+    bits-requires
+    table-of-requires
+    uint-of-requires
+    block-of-requires
+    set-of-requires
+    array-of-requires
+    if-of-requires
+    returns
+    returns-2
+    returns-3
+    returns-4
+    returns-5
+    returns-6
+    returns-7)

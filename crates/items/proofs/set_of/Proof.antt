@@ -1,0 +1,40 @@
+-- `items::set_of`: the two tests choose as the definition does. Assumes nothing.
+use borrow.Author.Needs.{needs}
+use Rattle.meaning.specs.Description.{setOf}
+use Rattle.items.proofs.set_of.Statement.{statement}
+use Rattle.items.proofs.set_of.Tie as tie
+
+names-slot-requires : tie.Need-names-slot-requires
+names-slot-requires c κs = search needs
+
+bits-requires : tie.Need-bits-requires
+bits-requires c κs = search needs
+
+both-requires : tie.Need-both-requires
+both-requires c κs = search needs
+
+reference-of-requires : tie.Need-reference-of-requires
+reference-of-requires c κs = search needs
+
+bits-requires-2 : tie.Need-bits-requires-2
+bits-requires-2 c κs = search needs
+
+returns : tie.Need-returns
+unfolding setOf
+returns c = rw (← c .before .before .before .before .before .names-slot .ensures, ← c .before .before .before .before .bits .ensures, ← c .before .before .before .both .ensures, c .before .before .if1 .taken, c .before .reference-of .ensures, c .bits2 .ensures)
+
+returns-2 : tie.Need-returns-2
+unfolding setOf
+returns-2 c = rw (← c .before .before .before .names-slot .ensures, ← c .before .before .bits .ensures, ← c .before .both .ensures, c .if1 .left)
+
+pub set-of-spec : {M : Type 1} → statement M
+set-of-spec =
+    tie.close
+    (tie.spec
+    names-slot-requires
+    bits-requires
+    both-requires
+    reference-of-requires
+    bits-requires-2
+    returns
+    returns-2)

@@ -1,0 +1,38 @@
+-- `lines::main`: the memory is as long as what is lent asks. Assumes nothing.
+use native.Mathlib.Omega.{arith}
+use borrow.Author.Needs.{needs}
+use Rattle.lines.proofs.main.Statement.{statement}
+use Rattle.lines.proofs.main.Tie as tie
+
+large-buffer-requires : tie.Need-large-buffer-requires
+large-buffer-requires c κs = search needs
+
+slice-aggregate-run : tie.Need-slice-aggregate-run
+slice-aggregate-run c = search needs
+
+slice-aggregate-run-2 : tie.Need-slice-aggregate-run-2
+slice-aggregate-run-2 c = search needs
+
+slice-aggregate-run-3 : tie.Need-slice-aggregate-run-3
+slice-aggregate-run-3 c = search needs
+
+slice-aggregate-run-4 : tie.Need-slice-aggregate-run-4
+slice-aggregate-run-4 c = search needs
+
+run-requires : tie.Need-run-requires
+run-requires c κs = record { reply = omega arith; octets = omega arith }
+
+returns : tie.Need-returns
+returns c = search needs
+
+pub main-spec : {M : Type 1} → statement M
+main-spec =
+    tie.close
+    (tie.spec
+    large-buffer-requires
+    slice-aggregate-run
+    slice-aggregate-run-2
+    slice-aggregate-run-3
+    slice-aggregate-run-4
+    run-requires
+    returns)

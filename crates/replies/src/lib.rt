@@ -1,0 +1,41 @@
+// An answer as the paper's numbers, for callers that know no enum: a line of text, or C.
+//
+// A refusal is three numbers: its own, then the item and the octet that it reports, each 0 where it
+// reports none. An answer starts with those three, all 0 where nothing is refused.
+use meaning::Refusal;
+use meaning::Verdict;
+ghost use mathlib.Core.Path.{_≡_};
+ghost use Rattle.meaning.specs.Refusals.{reported, verdictValues};
+
+// A refusal's number, item and octet.
+pub fn reported(r: Refusal) -> [u64; 3]
+    ensures { λ s. ⌜ s ≡ reported r ⌝ }
+{
+    match r {
+        Refusal::BadLength => [1, 0, 0],
+        Refusal::BreaksRule { rule, item } => [rule as u64, item as u64, 0],
+        Refusal::ImageTooLong => [8, 0, 0],
+        Refusal::ImageShort { item, octet } => [9, item as u64, octet.0 as u64],
+        Refusal::NoTable => [10, 0, 0],
+        Refusal::NoElement => [11, 0, 0],
+        Refusal::OutsideTable => [12, 0, 0],
+        Refusal::NotWritable => [13, 0, 0],
+        Refusal::HoldsDimension => [14, 0, 0],
+        Refusal::WrongSize => [15, 0, 0],
+        Refusal::NotADate => [16, 0, 0],
+        Refusal::NoSeason => [17, 0, 0],
+        Refusal::SeasonChangeArmed => [18, 0, 0],
+        Refusal::NoRowOrColumn => [19, 0, 0],
+        Refusal::NotACalendar => [20, 0, 0],
+    }
+}
+
+// Whether a question was granted, or why not.
+pub fn verdict_values(v: Verdict) -> [u64; 3]
+    ensures { λ r. ⌜ r ≡ verdictValues v ⌝ }
+{
+    match v {
+        Verdict::Passed => [0, 0, 0],
+        Verdict::Refused(r) => reported(r),
+    }
+}

@@ -1,0 +1,18 @@
+-- `sound::breaks5`: the tests are those of the definition. Assumes nothing.
+use borrow.Author.Needs.{needs}
+use Rattle.meaning.specs.Description.{breaks5}
+use Rattle.sound.proofs.breaks5.Statement.{statement}
+use Rattle.sound.proofs.breaks5.Tie as tie
+
+nests-requires : tie.Need-nests-requires
+nests-requires c κs = search needs
+
+both-requires : tie.Need-both-requires
+both-requires c κs = search needs
+
+returns : tie.Need-returns
+unfolding breaks5
+returns c = cc
+
+pub breaks5-spec : {M : Type 1} → statement M
+breaks5-spec = tie.close (tie.spec nests-requires both-requires returns)

@@ -1,0 +1,23 @@
+-- `sound::noted`: a UINT that sets no slot changes nothing; another sets one. Assumes nothing.
+use borrow.Author.Tests.{eq-eqb, ne-eqb}
+use borrow.Author.Needs.{needs}
+use Rattle.sound.specs.Walk.{noted}
+use Rattle.sound.proofs.noted.Statement.{statement}
+use Rattle.sound.proofs.noted.Tie as tie
+
+returns : tie.Need-returns
+unfolding noted
+returns c = rw (eq-eqb _ _ (c .if1 .taken))
+
+cast-later : tie.Need-cast-later
+cast-later c = search needs
+
+array-write-later : tie.Need-array-write-later
+array-write-later c = search needs
+
+returns-2 : tie.Need-returns-2
+unfolding noted
+returns-2 c = rw (ne-eqb _ _ (c .before .if1 .left))
+
+pub noted-spec : {M : Type 1} → statement M
+noted-spec = tie.close (tie.spec returns cast-later array-write-later returns-2)
