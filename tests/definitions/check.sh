@@ -12,9 +12,9 @@ build_second "$work"
 rustc --edition 2021 -O tests/definitions/translate.rs -o "$work/translate"
 
 mkdir "$work/repository" "$work/repository/crates"
-cp -r crates/meaning "$work/repository/crates/"
+cp -r crates/offsets crates/meaning "$work/repository/crates/"
 rm -rf "$work/repository/crates/meaning/must-fail"
-echo 'meaning:' >"$work/repository/crates.txt"
+printf 'offsets:\nmeaning: offsets\n' >"$work/repository/crates.txt"
 proofs=$work/repository/crates/meaning/proofs
 for kind in check places access calendar; do
     module=Random_$kind

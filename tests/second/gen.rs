@@ -300,6 +300,87 @@ fn sound(rng: &mut Rng) -> Maker {
     maker
 }
 
+/// A sound description of table 00 and one table more: ARRAYs and IFs in one
+/// another, one to four deep, with elements at each depth. The counts are wished
+/// to be small, so that most elements are there; or huge, round elements of no
+/// octets. An IF takes what is inside on its true or its false side.
+fn nested(rng: &mut Rng) -> Maker {
+    let huge = rng.chance(30);
+    let first = table(false, 0, rng.chance(60), 1);
+    let mut maker = Maker {
+        words: vec![first],
+        slots: Vec::new(),
+        tables: vec![(false, 0)],
+        wishes: [None; 64],
+        room: 0,
+    };
+    maker.dimension(rng, 1);
+    let from = maker.words.len();
+    maker.new_table(rng, 0);
+    let width = if huge { 4 } else { rng.pick(&[1, 2, 4]) };
+    let counts = [maker.dimension(rng, width), maker.dimension(rng, width)];
+    let size = maker.dimension(rng, 1).unwrap_or(1);
+    let choice = maker.dimension(rng, 1).unwrap_or(1);
+    for count in counts.iter().flatten() {
+        maker.wishes[*count as usize] = Some(if huge {
+            rng.pick(&[0xffff_ffff, 0xffff_ffff, 0x8000_0000, 0x1_0001, 0x1_0000])
+        } else {
+            rng.pick(&[1, 2, 2, 3, 3, 4])
+        });
+    }
+    maker.wishes[size as usize] = Some(if huge { 0 } else { rng.below(4) });
+    maker.wishes[choice as usize] = Some(rng.below(2));
+    let sized = set(reference(size, 0, 8), rng.chance(50));
+    let mut inner = vec![sized];
+    for _ in 0..rng.pick(&[1, 2, 3, 4, 4, 4]) {
+        let element = if huge { sized } else { rng.pick(&[sized, uint(2, 0), block(3)]) };
+        let mut outer = Vec::new();
+        if rng.chance(75) {
+            let count = rng.pick(&counts).unwrap_or(1);
+            outer.push(array(reference(count, 0, width * 8), inner.len()));
+            outer.extend_from_slice(&inner);
+        } else if rng.chance(50) {
+            outer.push(if_item(reference(choice, 0, 1), inner.len(), 1));
+            outer.extend_from_slice(&inner);
+            outer.push(element);
+        } else {
+            outer.push(if_item(reference(choice, 0, 1), 1, inner.len()));
+            outer.push(element);
+            outer.extend_from_slice(&inner);
+        }
+        if rng.chance(40) {
+            outer.push(element);
+        }
+        inner = outer;
+    }
+    maker.words.extend_from_slice(&inner);
+    maker.words[from] += (maker.words.len() - from - 1) as u32;
+    maker
+}
+
+/// A sound description and an image near the most octets: an ARRAY counted by a
+/// dimension of two octets, and a BLOCK of what is left.
+fn long(rng: &mut Rng) -> (Vec<u8>, Vec<u8>) {
+    let total = rng.pick(&[65_534, 65_535, 65_536, 65_537]);
+    let octets = rng.between(1, 16) as usize;
+    let (count, rest) = ((total - 3) / octets, (total - 3) % octets);
+    let mut words = vec![table(false, 0, rng.chance(60), 2), uint(1, 1), uint(2, 2)];
+    words.push(table(false, 5, true, if rest > 0 { 3 } else { 2 }));
+    words.push(array(reference(2, 0, 16), 1));
+    words.push(block(octets as u32));
+    if rest > 0 {
+        words.push(block(rest as u32));
+    }
+    let mut count = [count as u8, (count >> 8) as u8];
+    let order = rng.below(2) as u8;
+    if order == 1 {
+        count.reverse();
+    }
+    let mut image = vec![order, count[0], count[1]];
+    image.resize(rng.pick(&[total, total, total - 1, total + 1]), rng.octet());
+    (octets_of_words(&words), image)
+}
+
 // ----------------------------------------------------------------- images
 
 /// A number for a dimension: mostly small, so that images are.
@@ -604,6 +685,11 @@ fn pair(rng: &mut Rng) -> (Vec<u8>, Vec<u8>) {
         return (octets, image);
     }
     let maker = sound(rng);
+    with_image(rng, &maker)
+}
+
+/// A description that was made, and an image for it.
+fn with_image(rng: &mut Rng, maker: &Maker) -> (Vec<u8>, Vec<u8>) {
     let octets = octets_of_words(&maker.words);
     let image = match description::check(&octets) {
         Ok(items) => image_for(rng, &items, &maker.wishes),
@@ -686,6 +772,15 @@ fn some_name(rng: &mut Rng, laid: &Option<Layout>, among: Among) -> String {
         if rng.chance(92) {
             let mut elements: Vec<usize> =
                 (0..laid.items.len()).filter(|i| is_among(laid, *i, among)).collect();
+            // Half of the time one inside ARRAYs and IFs, where there is one.
+            let inside: Vec<usize> = elements
+                .iter()
+                .copied()
+                .filter(|i| bodies_round(&laid.items, *i).len() > 1)
+                .collect();
+            if !inside.is_empty() && rng.chance(50) {
+                elements = inside;
+            }
             if elements.is_empty() {
                 elements.push(1);
             }
@@ -706,8 +801,8 @@ fn some_name(rng: &mut Rng, laid: &Option<Layout>, among: Among) -> String {
                 }
             }
             count = match rng.below(30) {
-                0 => rng.below(5),
-                1 => any_number(rng),
+                0..=2 => rng.below(5),
+                3 => any_number(rng),
                 _ => arrays as u64,
             };
         } else if rng.chance(50) {
@@ -723,7 +818,14 @@ fn some_name(rng: &mut Rng, laid: &Option<Layout>, among: Among) -> String {
 }
 
 fn places_request(rng: &mut Rng) -> String {
-    let (d, m) = pair(rng);
+    let (d, m) = match rng.below(200) {
+        0 => long(rng),
+        1..=50 => {
+            let maker = nested(rng);
+            with_image(rng, &maker)
+        }
+        _ => pair(rng),
+    };
     let laid = lay_out(&d, &m).ok();
     let words = format!("{} {}", hex(&d), hex(&m));
     match rng.below(4) {
@@ -1390,6 +1492,8 @@ mod tests {
         let mut largest = 0;
         let mut deepest = 0;
         for seed in 0..20_000 {
+            let nested = nested(&mut Rng(seed));
+            assert!(description::check(&octets_of_words(&nested.words)).is_ok(), "seed {seed}");
             let maker = sound(&mut Rng(seed));
             let items = match description::check(&octets_of_words(&maker.words)) {
                 Ok(items) => items,

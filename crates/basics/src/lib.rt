@@ -1,10 +1,10 @@
-// The few words that the layers share, as crates/meaning/specs/Basics.antt has them: tests joined, and
-// an octet as a number.
+// The few words that the layers share, as crates/meaning/specs/Basics.antt has them: tests joined, an
+// octet as a number, bits of a number.
 //
 // `a && b` in an `if` leaves two ways to its `else`, and a proof has to go both; these have one.
 ghost use mathlib.Core.Path.{_≡_};
 ghost use mathlib.Core.Bool.{_&&_, _||_};
-ghost use Prim.Native.Nat.{_<_};
+ghost use Prim.Native.Nat.{_/_, _%_, _^_, _<_};
 
 pub fn both(a: bool, b: bool) -> bool
     ensures { λ r. ⌜ r ≡ (a && b) ⌝ }
@@ -23,4 +23,19 @@ pub fn wide(x: u8) -> u32
     ensures { λ r. ⌜ (r ≡ x) × (r < 256) ⌝ }
 {
     x as u32
+}
+
+// So many bits from bit `low` up, bit 0 least significant. A bit past 31 is 0, as the number has none.
+pub fn bit_range(number: u32, low: u32, width: u32) -> u32
+    ensures { λ r. ⌜ r ≡ number / 2 ^ low % 2 ^ width ⌝ }
+{
+    if 31 < low {
+        return 0;
+    }
+    let above = number as u64 >> low;
+    if 31 < width {
+        return above as u32;
+    }
+    let m = 1u64 << width;
+    (above % m) as u32
 }

@@ -2,6 +2,7 @@
 //
 // Nothing is refused here: a word that is no item is `Item::Malformed`, and so is what stands past
 // the last item.
+use basics::bit_range;
 use basics::both;
 use basics::wide;
 use meaning::Item;
@@ -17,8 +18,7 @@ fn bits(high: u32, low: u32, word: u32) -> u32
     requires { ⌜ (low ≤ high) × (high < 32) ⌝ }
     ensures { λ r. ⌜ r ≡ bits high low word ⌝ }
 {
-    let m = 1u64 << (high + 1 - low);
-    ((word as u64 >> low) % m) as u32
+    bit_range(word, low, high + 1 - low)
 }
 
 // The four octets of an item as a word, the first most significant.

@@ -32,10 +32,10 @@ fn hold(line: &mut [u8], held: usize, chunk: &[u8], from: usize, to: usize) -> u
 }
 
 // Answers a line, and whether its reply was written.
-fn give(line: &[u8], out: &mut [u8], description: &mut [u8]) -> bool
-    requires { ⌜ Memory (now out) (now description) ⌝ }
+fn give(line: &[u8], out: &mut [u8], description: &mut [u8], image: &mut [u8]) -> bool
+    requires { ⌜ Memory (now out) (now description) (now image) ⌝ }
 {
-    let n = reply::answer(line, out, description);
+    let n = reply::answer(line, out, description, image);
     io::write_all(STDOUT_FILENO, &out[..n])
 }
 
@@ -47,9 +47,10 @@ fn take_lines(
     held: usize,
     out: &mut [u8],
     description: &mut [u8],
+    image: &mut [u8],
 ) -> Stand
     requires { ⌜ held ≤ length (now line) ⌝ }
-    requires { ⌜ Memory (now out) (now description) ⌝ }
+    requires { ⌜ Memory (now out) (now description) (now image) ⌝ }
     ensures { λ r. ⌜ r .held ≤ length (now (line .entry)) ⌝ }
 {
     let mut n = held;
@@ -63,7 +64,7 @@ fn take_lines(
                 going: true,
             };
         }
-        if !give(&line[..n], out, description) {
+        if !give(&line[..n], out, description, image) {
             return Stand {
                 held: 0,
                 going: false,
@@ -85,29 +86,36 @@ fn read_some(
     held: usize,
     out: &mut [u8],
     description: &mut [u8],
+    image: &mut [u8],
 ) -> Stand
     requires { ⌜ held ≤ length (now line) ⌝ }
-    requires { ⌜ Memory (now out) (now description) ⌝ }
+    requires { ⌜ Memory (now out) (now description) (now image) ⌝ }
     ensures { λ r. ⌜ r .held ≤ length (now (line .entry)) ⌝ }
 {
     let got = libc::read(STDIN_FILENO, chunk);
     let n = io::count(got, chunk);
     if n == 0 {
         if 0 < held {
-            give(&line[..held], out, description);
+            give(&line[..held], out, description, image);
         }
         return Stand {
             held: 0,
             going: false,
         };
     }
-    take_lines(&chunk[..n], line, held, out, description)
+    take_lines(&chunk[..n], line, held, out, description, image)
 }
 
 // A proved loop has to end, and nothing says that the input does. So the loop counts its turns
 // down, from a number that no run uses up.
-pub fn run(chunk: &mut [u8], line: &mut [u8], out: &mut [u8], description: &mut [u8])
-    requires { ⌜ Memory (now out) (now description) ⌝ }
+pub fn run(
+    chunk: &mut [u8],
+    line: &mut [u8],
+    out: &mut [u8],
+    description: &mut [u8],
+    image: &mut [u8],
+)
+    requires { ⌜ Memory (now out) (now description) (now image) ⌝ }
 {
     let mut stand = Stand {
         held: 0,
@@ -116,7 +124,7 @@ pub fn run(chunk: &mut [u8], line: &mut [u8], out: &mut [u8], description: &mut 
     let mut turns = u64::MAX;
     while turns > 0 {
         let held = stand.held;
-        stand = read_some(chunk, line, held, out, description);
+        stand = read_some(chunk, line, held, out, description, image);
         if !stand.going {
             return;
         }

@@ -3,6 +3,7 @@
 mod input;
 mod put;
 mod questions;
+mod read;
 mod reply;
 
 // The longest line that is taken, and one octet more, by which a longer line is told.
@@ -11,11 +12,20 @@ const LINE: usize = 300001;
 const REPLY: usize = 131200;
 // The octets of a description: no line that is taken has hex digits for more.
 const DESCRIPTION: usize = 150000;
+// The octets of an image, likewise.
+const IMAGE: usize = 150000;
 
 fn main() {
     let mut chunk = io::large_buffer();
     let mut line = [0u8; LINE];
     let mut out = [0u8; REPLY];
     let mut description = [0u8; DESCRIPTION];
-    input::run(&mut chunk, &mut line, &mut out, &mut description);
+    let mut image = [0u8; IMAGE];
+    input::run(
+        &mut chunk,
+        &mut line,
+        &mut out,
+        &mut description,
+        &mut image,
+    );
 }

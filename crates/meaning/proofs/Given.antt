@@ -8,7 +8,6 @@ use mathlib.Core.Bool.{Bool, true, false, cond, _&&_, or-true, and-eq-true-iff}
 use native.Mathlib.Omega.{arith}
 use borrow.Author.Tests.{eq-eqb, eqb-true, eqb-false}
 use lib.Dec.{eqb}
-use Rattle.meaning.specs.declared.Item.the-variants.{Table, Set}
 use Rattle.meaning.specs.declared.Fields.{Fields}
 use Rattle.meaning.specs.Basics.{_=?_}
 use Rattle.meaning.specs.Description.{fieldsAt, isTable, isTableNamed, slotOctets, tableGiven}

@@ -6,7 +6,7 @@ use mathlib.Core.List.{List, [], _∷_, _++_}
 use mathlib.Core.Option.{Option, some, none}
 use lib.ListN.{length, take}
 use Rattle.meaning.specs.Basics.{if_then_else_, _=?_, _<?_, _≤?_, part, splice, octetsIn}
-use Rattle.meaning.specs.declared.TableOffset.{TableOffset}
+use Rattle.offsets.specs.declared.TableOffset.{TableOffset}
 use Rattle.meaning.specs.declared.ElementName.{ElementName}
 use Rattle.meaning.specs.declared.Refusal.{Refusal}
 use Rattle.meaning.specs.declared.Refusal.the-variants.{BadLength, BreaksRule, ImageTooLong, ImageShort, NoTable, NoElement, OutsideTable, NotWritable, HoldsDimension, WrongSize, NotADate, NoSeason, SeasonChangeArmed, NoRowOrColumn, NotACalendar}

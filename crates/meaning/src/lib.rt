@@ -1,11 +1,7 @@
 // What a description's items are, what each question answers, and why it may be refused: the values that pass between the layers and to callers.
 // No function stands here. The definitions in specs/ say what these values mean, section by section of the scope document; the layers above make them.
 
-// A place in a table, counted from the table's first octet.
-pub struct TableOffset(pub usize);
-
-// A place in the image, counted from the image's first octet.
-pub struct ImageOffset(pub usize);
+use offsets::ImageOffset;
 
 // A bit range of a slot's number: `width` bits from bit `low` up, bit 0 least significant.
 pub struct Reference {

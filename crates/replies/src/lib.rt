@@ -2,10 +2,12 @@
 //
 // A refusal is three numbers: its own, then the item and the octet that it reports, each 0 where it
 // reports none. An answer starts with those three, all 0 where nothing is refused.
+use meaning::Place;
 use meaning::Refusal;
+use meaning::Total;
 use meaning::Verdict;
 ghost use mathlib.Core.Path.{_≡_};
-ghost use Rattle.meaning.specs.Refusals.{reported, verdictValues};
+ghost use Rattle.meaning.specs.Refusals.{reported, verdictValues, totalValues, placeValues};
 
 // A refusal's number, item and octet.
 pub fn reported(r: Refusal) -> [u64; 3]
@@ -15,7 +17,7 @@ pub fn reported(r: Refusal) -> [u64; 3]
         Refusal::BadLength => [1, 0, 0],
         Refusal::BreaksRule { rule, item } => [rule as u64, item as u64, 0],
         Refusal::ImageTooLong => [8, 0, 0],
-        Refusal::ImageShort { item, octet } => [9, item as u64, octet.0 as u64],
+        Refusal::ImageShort { item, octet } => [9, item as u64, octet.octet() as u64],
         Refusal::NoTable => [10, 0, 0],
         Refusal::NoElement => [11, 0, 0],
         Refusal::OutsideTable => [12, 0, 0],
@@ -37,5 +39,31 @@ pub fn verdict_values(v: Verdict) -> [u64; 3]
     match v {
         Verdict::Passed => [0, 0, 0],
         Verdict::Refused(r) => reported(r),
+    }
+}
+
+// The total, behind a refusal's three numbers.
+pub fn total_values(t: Total) -> [u64; 4]
+    ensures { λ r. ⌜ r ≡ totalValues t ⌝ }
+{
+    match t {
+        Total::Octets(n) => [0, 0, 0, n as u64],
+        Total::Refused(r) => {
+            let s = reported(r);
+            [s[0], s[1], s[2], 0]
+        }
+    }
+}
+
+// The first octet in the image and the length, behind a refusal's three numbers.
+pub fn place_values(p: Place) -> [u64; 5]
+    ensures { λ r. ⌜ r ≡ placeValues p ⌝ }
+{
+    match p {
+        Place::At { start, length } => [0, 0, 0, start.octet() as u64, length as u64],
+        Place::Refused(r) => {
+            let s = reported(r);
+            [s[0], s[1], s[2], 0, 0]
+        }
     }
 }

@@ -19,8 +19,11 @@ slice-aggregate-run-3 c = search needs
 slice-aggregate-run-4 : tie.Need-slice-aggregate-run-4
 slice-aggregate-run-4 c = search needs
 
+slice-aggregate-run-5 : tie.Need-slice-aggregate-run-5
+slice-aggregate-run-5 c = search needs
+
 run-requires : tie.Need-run-requires
-run-requires c κs = record { reply = omega arith; octets = omega arith }
+run-requires c κs = record { reply = omega arith; items = omega arith; tables = omega arith }
 
 returns : tie.Need-returns
 returns c = search needs
@@ -34,5 +37,6 @@ main-spec =
     slice-aggregate-run-2
     slice-aggregate-run-3
     slice-aggregate-run-4
+    slice-aggregate-run-5
     run-requires
     returns)

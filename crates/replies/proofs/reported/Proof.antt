@@ -19,6 +19,9 @@ enum-told-2 c = search needs
 enum-known-r-2 : tie.Need-enum-known-r-2
 enum-known-r-2 c = search needs
 
+octet-requires : tie.Need-octet-requires
+octet-requires c κs = search needs
+
 enum-told-3 : tie.Need-enum-told-3
 enum-told-3 c = search needs
 
@@ -66,7 +69,7 @@ returns-3 c = search needs
 
 returns-4 : tie.Need-returns-4
 unfolding reported
-returns-4 c = rw (c .before .r2 .given .1)
+returns-4 c = rw (c .before .before .r2 .given .1, c .octet .ensures)
 
 returns-5 : tie.Need-returns-5
 unfolding reported
@@ -121,6 +124,7 @@ reported-spec =
     cast-t7
     enum-told-2
     enum-known-r-2
+    octet-requires
     enum-told-3
     enum-told-4
     enum-told-5

@@ -13,12 +13,12 @@ answer-requires c κs = search needs
 
 slice-reshare-prefix-write-all : tie.Need-slice-reshare-prefix-write-all
 slice-reshare-prefix-write-all c =
-    let a = c .before .before .before .before .answer in
+    let a = c .before .before .before .before .before .before .answer in
     omega (arith, put-within (a .ensures) zero-le, a .kept .1 .0)
 
 slice-aggregate-write-all : tie.Need-slice-aggregate-write-all
 slice-aggregate-write-all c =
-    let a = c .before .before .before .before .before .answer in
+    let a = c .before .before .before .before .before .before .before .answer in
     sym (length-take-le _ _ (omega (arith, put-within (a .ensures) zero-le, a .kept .1 .0)))
 
 write-all-requires : tie.Need-write-all-requires
@@ -29,6 +29,9 @@ same-length c = search needs
 
 same-length-2 : tie.Need-same-length-2
 same-length-2 c = search needs
+
+same-length-3 : tie.Need-same-length-3
+same-length-3 c = search needs
 
 returns : tie.Need-returns
 returns c = search needs
@@ -43,4 +46,5 @@ give-spec =
     write-all-requires
     same-length
     same-length-2
+    same-length-3
     returns)

@@ -9,15 +9,16 @@ use Rattle.lines.proofs.input.take_lines.Statement.{statement}
 use Rattle.lines.proofs.input.take_lines.Tie as tie
 
 abbrev Inv-loop : tie.InvT-loop
-Inv-loop chunk line₀ held out₀ description₀ n₀ from₀ line out description n from =
+Inv-loop chunk line₀ held out₀ description₀ image₀ n₀ from₀ line out description image n from =
     (n ≤ length line₀)
     × (from ≤ length chunk)
     × (length line ≡ length line₀)
     × (length out ≡ length out₀)
     × (length description ≡ length description₀)
+    × (length image ≡ length image₀)
 
 abbrev μ-loop : tie.MeasureT-loop
-μ-loop chunk line₀ held out₀ description₀ n₀ from₀ line out description n from = length chunk - from
+μ-loop chunk line₀ held out₀ description₀ image₀ n₀ from₀ line out description image n from = length chunk - from
 
 loop-holds : tie.Need-loop-holds Inv-loop μ-loop
 loop-holds c = omega arith
@@ -37,6 +38,9 @@ same-length-2 c = c .before .before .before .before .before .before .before .loo
 same-length-3 : tie.Need-same-length-3 Inv-loop μ-loop
 same-length-3 c = c .before .before .before .before .before .before .before .loop .inv .4
 
+same-length-4 : tie.Need-same-length-4 Inv-loop μ-loop
+same-length-4 c = c .before .before .before .before .before .before .before .loop .inv .5
+
 returns : tie.Need-returns Inv-loop μ-loop
 returns c = omega arith
 
@@ -47,22 +51,27 @@ slice-aggregate-give : tie.Need-slice-aggregate-give Inv-loop μ-loop
 slice-aggregate-give c = sym (length-take-le _ _ (omega arith))
 
 give-requires : tie.Need-give-requires Inv-loop μ-loop
-give-requires c κs = record { reply = omega arith; octets = omega arith }
-
-same-length-4 : tie.Need-same-length-4 Inv-loop μ-loop
-same-length-4 c =
-    let i = c .before .before .before .before .before .before .before .before .before .before .before .before .before .before .before .before .loop .inv in
-    c .before .before .before .before .before .before .before .before .before .before .before .before .hold .kept .0 ∙ i .2
+give-requires c κs = record { reply = omega arith; items = omega arith; tables = omega arith }
 
 same-length-5 : tie.Need-same-length-5 Inv-loop μ-loop
 same-length-5 c =
-    let i = c .before .before .before .before .before .before .before .before .before .before .before .before .before .before .before .before .loop .inv in
-    c .before .before .before .before .before .give .kept .1 .0 ∙ i .3
+    let i = c .before .before .before .before .before .before .before .before .before .before .before .before .before .before .before .before .before .before .before .loop .inv in
+    c .before .before .before .before .before .before .before .before .before .before .before .before .before .before .before .hold .kept .0 ∙ i .2
 
 same-length-6 : tie.Need-same-length-6 Inv-loop μ-loop
 same-length-6 c =
-    let i = c .before .before .before .before .before .before .before .before .before .before .before .before .before .before .before .before .loop .inv in
-    c .before .before .before .before .before .give .kept .1 .1 .0 ∙ i .4
+    let i = c .before .before .before .before .before .before .before .before .before .before .before .before .before .before .before .before .before .before .before .loop .inv in
+    c .before .before .before .before .before .before .before .give .kept .1 .0 ∙ i .3
+
+same-length-7 : tie.Need-same-length-7 Inv-loop μ-loop
+same-length-7 c =
+    let i = c .before .before .before .before .before .before .before .before .before .before .before .before .before .before .before .before .before .before .before .loop .inv in
+    c .before .before .before .before .before .before .before .give .kept .1 .1 .0 ∙ i .4
+
+same-length-8 : tie.Need-same-length-8 Inv-loop μ-loop
+same-length-8 c =
+    let i = c .before .before .before .before .before .before .before .before .before .before .before .before .before .before .before .before .before .before .before .loop .inv in
+    c .before .before .before .before .before .before .before .give .kept .1 .1 .1 .0 ∙ i .5
 
 returns-2 : tie.Need-returns-2 Inv-loop μ-loop
 returns-2 c = omega arith
@@ -75,19 +84,22 @@ loop-less c = omega arith
 
 loop-again : tie.Need-loop-again Inv-loop μ-loop
 loop-again c =
-    let i = c .before .before .before .before .before .before .before .before .before .before .before .before .before .before .before .before .loop .inv in
-    let h = c .before .before .before .before .before .before .before .before .before .before .before .before .hold in
-    let g = c .before .before .before .before .before .give in
-    (omega arith, omega arith, h .kept .0 ∙ i .2, g .kept .1 .0 ∙ i .3, g .kept .1 .1 .0 ∙ i .4)
-
-same-length-7 : tie.Need-same-length-7 Inv-loop μ-loop
-same-length-7 c = c .before .loop .inv .2
-
-same-length-8 : tie.Need-same-length-8 Inv-loop μ-loop
-same-length-8 c = c .before .loop .inv .3
+    let i = c .before .before .before .before .before .before .before .before .before .before .before .before .before .before .before .before .before .before .before .loop .inv in
+    let h = c .before .before .before .before .before .before .before .before .before .before .before .before .before .before .before .hold in
+    let g = c .before .before .before .before .before .before .before .give in
+    (omega arith, omega arith, h .kept .0 ∙ i .2, g .kept .1 .0 ∙ i .3, g .kept .1 .1 .0 ∙ i .4, g .kept .1 .1 .1 .0 ∙ i .5)
 
 same-length-9 : tie.Need-same-length-9 Inv-loop μ-loop
-same-length-9 c = c .before .loop .inv .4
+same-length-9 c = c .before .loop .inv .2
+
+same-length-10 : tie.Need-same-length-10 Inv-loop μ-loop
+same-length-10 c = c .before .loop .inv .3
+
+same-length-11 : tie.Need-same-length-11 Inv-loop μ-loop
+same-length-11 c = c .before .loop .inv .4
+
+same-length-12 : tie.Need-same-length-12 Inv-loop μ-loop
+same-length-12 c = c .before .loop .inv .5
 
 returns-3 : tie.Need-returns-3 Inv-loop μ-loop
 returns-3 c = omega arith
@@ -104,18 +116,21 @@ take-lines-spec =
     same-length
     same-length-2
     same-length-3
+    same-length-4
     returns
     slice-reshare-prefix-give
     slice-aggregate-give
     give-requires
-    same-length-4
     same-length-5
     same-length-6
+    same-length-7
+    same-length-8
     returns-2
     add-from
     loop-less
     loop-again
-    same-length-7
-    same-length-8
     same-length-9
+    same-length-10
+    same-length-11
+    same-length-12
     returns-3)

@@ -4,7 +4,9 @@ use mathlib.Core.Path.{sym}
 use native.Mathlib.Omega.{arith}
 use borrow.Author.Needs.{needs}
 use lib.Seq.{length-take-le}
-use Rattle.lines.proofs.AnswerLaws.{put-as, octets-are, octets-not, check-asked, check-no-form}
+use Rattle.lines.specs.Answer.{checkText}
+use Rattle.lines.proofs.OctetLaws.{octets-are, octets-not}
+use Rattle.lines.proofs.AnswerLaws.{put-as}
 use Rattle.lines.proofs.questions.check_reply.Statement.{statement}
 use Rattle.lines.proofs.questions.check_reply.Tie as tie
 
@@ -49,13 +51,14 @@ same-length-2 : tie.Need-same-length-2
 same-length-2 c = search needs
 
 returns : tie.Need-returns
+unfolding checkText
 returns c =
     let o = c .before .before .before .before .before .before .before .before .before .before .before .before .before .octets in
     let n = c .before .before .before .before .before .before .before .before .before .read .given in
     let v = c .before .before .before .before .before .before .check in
     let values = c .before .before .before .before .before .verdict-values in
-    put-as _ (c .before .before .put-line .ensures)
-    (check-asked _ _ (octets-are (o .ensures) (omega arith) _ (n .1)) (v .ensures) (values .ensures))
+    let s = octets-are (o .ensures) (omega arith) _ (n .1) in
+    put-as _ (c .before .before .put-line .ensures) (rw (s .word-is, values .ensures, v .ensures, s .octets))
 
 same-length-3 : tie.Need-same-length-3
 same-length-3 c = search needs
@@ -64,10 +67,11 @@ same-length-4 : tie.Need-same-length-4
 same-length-4 c = search needs
 
 returns-2 : tie.Need-returns-2
+unfolding checkText
 returns-2 c =
     let o = c .before .before .before .before .before .before .before .before .octets in
     let not = c .before .before .before .before .enum-told .given in
-    put-as _ (c .before .before .no-form .ensures) (check-no-form _ (octets-not (o .ensures) (omega arith) (not .1)))
+    put-as _ (c .before .before .no-form .ensures) (rw (octets-not (o .ensures) (omega arith) (not .1)))
 
 pub check-reply-spec : {M : Type 1} → statement M
 check-reply-spec =

@@ -2,8 +2,8 @@
 use mathlib.Core.Path.{_∙_}
 use native.Mathlib.Omega.{arith}
 use borrow.Author.Needs.{needs}
-use Rattle.words.proofs.LineLaws.{count-of}
-use Rattle.lines.proofs.AnswerLaws.{put-as, too-long, of-two, of-other}
+use Rattle.lines.specs.Answer.{answerWords}
+use Rattle.lines.proofs.AnswerLaws.{put-as, yes, no, counted, counted-other, too-long, taken}
 use Rattle.lines.proofs.reply.answer.Statement.{statement}
 use Rattle.lines.proofs.reply.answer.Tie as tie
 
@@ -29,20 +29,30 @@ same-length-3 : tie.Need-same-length-3
 same-length-3 c = search needs
 
 returns-2 : tie.Need-returns-2
+unfolding answerWords
 returns-2 c =
-    let places = c .before .before .before .before .before .before .before .before .split in
-    put-as _ (c .before .before .before .before .two-words .ensures) (of-two _ (omega arith) (omega (arith, count-of _ _ (places .ensures))))
+    let split = c .before .before .before .before .before .before .before .before .split .ensures in
+    let two = counted _ _ split 2 (c .before .before .before .before .before .before .before .if2 .taken) in
+    put-as _ (c .before .before .before .before .two-words .ensures) (yes _ _ two ∙ taken _ (omega arith))
 
-no-form-requires-2 : tie.Need-no-form-requires-2
-no-form-requires-2 c κs = search needs
+with-image-requires : tie.Need-with-image-requires
+with-image-requires c κs = search needs
 
 same-length-4 : tie.Need-same-length-4
 same-length-4 c = search needs
 
+same-length-5 : tie.Need-same-length-5
+same-length-5 c = search needs
+
+same-length-6 : tie.Need-same-length-6
+same-length-6 c = search needs
+
 returns-3 : tie.Need-returns-3
+unfolding answerWords
 returns-3 c =
-    let places = c .before .before .before .before .before .split in
-    put-as _ (c .before .before .no-form2 .ensures) (of-other _ (omega arith) (λ h. c .before .before .before .before .if2 .left (count-of _ _ (places .ensures) ∙ h)))
+    let split = c .before .before .before .before .before .before .before .before .before .before .before .split .ensures in
+    let two = counted-other _ _ split 2 (c .before .before .before .before .before .before .before .before .before .before .if2 .left) in
+    put-as _ (c .before .before .before .before .before .before .with-image .ensures) (no _ _ two ∙ taken _ (omega arith))
 
 pub answer-spec : {M : Type 1} → statement M
 answer-spec =
@@ -56,6 +66,8 @@ answer-spec =
     same-length-2
     same-length-3
     returns-2
-    no-form-requires-2
+    with-image-requires
     same-length-4
+    same-length-5
+    same-length-6
     returns-3)

@@ -2,8 +2,8 @@
 use mathlib.Core.Path.{ap, _∙_}
 use native.Mathlib.Omega.{arith}
 use borrow.Author.Needs.{needs}
-use Rattle.lines.specs.Answer.{checkText}
-use Rattle.lines.proofs.AnswerLaws.{put-as, word-short, word-at, named, two-check, two-other}
+use Rattle.lines.specs.Answer.{checkText, twoWords}
+use Rattle.lines.proofs.AnswerLaws.{put-as, yes, no, word-short, word-at, named}
 use Rattle.lines.proofs.reply.two_words.Statement.{statement}
 use Rattle.lines.proofs.reply.two_words.Tie as tie
 
@@ -31,6 +31,7 @@ same-length-2 : tie.Need-same-length-2
 same-length-2 c = search needs
 
 returns : tie.Need-returns
+unfolding twoWords
 returns c =
     let split = c .before .before .before .before .before .before .before .before .before .before .before .before .before .before .before .pre .1 .0 in
     let name = c .before .before .before .before .before .before .before .before .before .before .before .word in
@@ -38,7 +39,7 @@ returns c =
     let same = c .before .before .before .before .before .before .before .before .before .same in
     let is = c .before .before .before .before .before .before .before .before .if1 .taken in
     put-as _ (c .before .before .before .before .check-reply .ensures)
-    (ap checkText (word-at _ _ split 1 _ (d .ensures)) ∙ two-check _ (named _ _ split _ _ _ (name .ensures) (same .ensures) ∙ is))
+    (ap checkText (word-at _ _ split 1 _ (d .ensures)) ∙ yes _ _ (named _ _ split _ _ _ (name .ensures) (same .ensures) ∙ is))
 
 no-form-requires : tie.Need-no-form-requires
 no-form-requires c κs = search needs
@@ -47,12 +48,13 @@ same-length-3 : tie.Need-same-length-3
 same-length-3 c = search needs
 
 returns-2 : tie.Need-returns-2
+unfolding twoWords
 returns-2 c =
     let split = c .before .before .before .before .before .before .before .before .before .before .before .pre .1 .0 in
     let name = c .before .before .before .before .before .before .before .word in
     let same = c .before .before .before .before .before .same in
     let other = c .before .before .before .before .if1 .left in
-    put-as _ (c .before .before .no-form .ensures) (two-other _ (named _ _ split _ _ _ (name .ensures) (same .ensures) ∙ other))
+    put-as _ (c .before .before .no-form .ensures) (no _ _ (named _ _ split _ _ _ (name .ensures) (same .ensures) ∙ other))
 
 pub two-words-spec : {M : Type 1} → statement M
 two-words-spec =

@@ -1,0 +1,21 @@
+-- DEMAND 3, every clause, for every description and image. Assumes nothing.
+use Prim.Native.Nat.{ℕ}
+use mathlib.Core.List.{List}
+use Rattle.demands.specs.Demand3.{Demand3}
+use Rattle.demands.proofs.Outcomes.{passed-exactly, none-met, lays-or-short, short-exactly, total-inside}
+use Rattle.demands.proofs.Elements.{exactly-one}
+use Rattle.demands.proofs.Tables.{tables-follow}
+use Rattle.demands.proofs.Made.{table-made-up}
+
+pub demand-3 : (d img : List ℕ) → Demand3 d img
+demand-3 d img =
+    record {
+      passedExactly = passed-exactly d;
+      noneMet = none-met d img;
+      laysOrShort = lays-or-short d img;
+      shortExactly = short-exactly d img;
+      totalInside = total-inside d img;
+      exactlyOne = exactly-one d img;
+      tablesFollow = tables-follow d img;
+      tableMadeUp = table-made-up d img;
+    }

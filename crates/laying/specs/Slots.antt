@@ -1,0 +1,23 @@
+-- THE SLOTS AS NUMBERS: what the slots of laying out hold, for sizes and for known octets. Assumes nothing.
+use Prim.Native.Nat.{ℕ}
+use mathlib.Core.Path.{_≡_}
+use Rattle.meaning.specs.Layout.{Slot, Slots, unread, holds}
+use Rattle.laying.specs.Sizes.{Numbers}
+use Rattle.laying.specs.Sound.{Known}
+
+-- the number in a slot, and the octets of the dimension that set it; 0 where none did
+unfoldable pub numberOf : Slot → ℕ
+numberOf unread = 0
+numberOf (holds o x) = x
+
+unfoldable pub octetsOf : Slot → ℕ
+octetsOf unread = 0
+octetsOf (holds o x) = o
+
+-- v has the numbers of the slots
+pub record Numbered (s : Slots) (v : Numbers) : Type 0 where
+  pub numbers : (k : ℕ) → numberOf (s k) ≡ v k
+
+-- κ has the octets of the slots
+pub record Matches (s : Slots) (κ : Known) : Type 0 where
+  pub octets : (k : ℕ) → octetsOf (s k) ≡ κ k

@@ -1,0 +1,8 @@
+pub mod Laws
+pub mod Sizes
+pub mod Numbers
+pub mod Pieces
+pub mod Walks
+pub mod Through
+pub mod Surveys
+pub mod Replies

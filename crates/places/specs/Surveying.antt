@@ -1,0 +1,122 @@
+-- THE WHOLE IMAGE: what laying the tables one after another promises, by what laying out comes to. Assumes nothing.
+use Prim.Native.Nat.{ℕ, _+_, _-_, _<_, _≤_, min}
+use mathlib.Core.Path.{_≡_}
+use mathlib.Core.Bool.{_&&_}
+use mathlib.Core.List.{List, _++_}
+use mathlib.Core.Option.{Option, some, none}
+use lib.ListN.{length}
+use Rattle.meaning.specs.Basics.{if_then_else_, _=?_}
+use Rattle.meaning.specs.declared.Item.{Item}
+use Rattle.meaning.specs.declared.Item.the-variants.{Table, Uint, Block, Set, Array, If, Malformed}
+use Rattle.meaning.specs.declared.Place.{Place}
+use Rattle.meaning.specs.declared.Refusal.{Refusal}
+use Rattle.meaning.specs.declared.Verdict.{Verdict}
+use Rattle.meaning.specs.Description.{itemCount}
+use Rattle.meaning.specs.Passed.{Passes}
+use Rattle.meaning.specs.Layout.{Placed, Seat, Slots, Layout, laidOut, stoppedAt, layTables, layout, tablesOf, tableNamed}
+use Rattle.meaning.specs.Refusals.{Opened, opened, refused, openLaid}
+use Rattle.laying.specs.declared.Spot.{Spot}
+use Rattle.laying.specs.declared.Spot.the-variants.{Nowhere, At}
+use Rattle.laying.specs.Sizes.{seen}
+use Rattle.laying.specs.Sound.{FitTables}
+use Rattle.laying.specs.Slots.{Numbered}
+use Rattle.places.specs.declared.Asked.{Asked}
+use Rattle.places.specs.declared.Survey.{Survey}
+use Rattle.places.specs.declared.Answer.{Answer}
+use Rattle.places.specs.declared.Heading.{Heading}
+use Rattle.places.specs.declared.Walk.{Walk}
+use Rattle.places.specs.Parts.{numbersIn, leftOf, NameReady}
+
+-- a TABLE's manufacturer bit, number and items in body
+unfoldable pub headingOf : Item → Heading
+headingOf (Table m k w c) = record { manufacturer = m; number = k; items = c }
+headingOf (Uint o s) = record { manufacturer = 0; number = 0; items = 0 }
+headingOf (Block o) = record { manufacturer = 0; number = 0; items = 0 }
+headingOf (Set r u) = record { manufacturer = 0; number = 0; items = 0 }
+headingOf (Array r c) = record { manufacturer = 0; number = 0; items = 0 }
+headingOf (If r y f) = record { manufacturer = 0; number = 0; items = 0 }
+headingOf Malformed = record { manufacturer = 0; number = 0; items = 0 }
+
+-- the whole table, if it is the one asked for
+unfoldable pub seatIn : Heading → Asked → (octets : ℕ) → Spot
+seatIn h q n = if h .manufacturer =? q .manufacturer && h .number =? q .number then At 0 n else Nowhere
+
+-- what stands in the table at p, or else what is given; a sum that can't be counted stands at the last number
+unfoldable pub inTable : Place → (p : ℕ) → Spot → Place
+inTable otherwise p Nowhere = otherwise
+inTable otherwise p (At o n) = Place.At (record { 0 = min (p + o) 18446744073709551615 }) n
+
+unfoldable pub firstFound : Place → (p : ℕ) → Spot → Place
+firstFound (Place.At s n) p x = Place.At s n
+firstFound (Place.Refused r) p x = inTable (Place.Refused r) p x
+
+-- WHERE THINGS ARE, in the lists that laying out gives
+-- the place at a spot of the image, or a refusal
+unfoldable pub placeAt : Refusal → Spot → Place
+placeAt r Nowhere = Place.Refused r
+placeAt r (At p n) = Place.At (record { 0 = p }) n
+
+unfoldable pub seatSpot : Option Seat → Spot
+seatSpot none = Nowhere
+seatSpot (some t) = At (t .start) (t .size)
+
+abbrev pub seatSeen : (manufacturer number : ℕ) → List Seat → Spot
+seatSeen m k ts = seatSpot (tableNamed m k ts)
+
+-- what was laid before, then the rest
+unfoldable pub beforeAll : List Seat → List Placed → Layout → Layout
+beforeAll ts ps (laidOut us qs s n) = laidOut (ts ++ us) (ps ++ qs) s n
+beforeAll ts ps (stoppedAt qs x) = stoppedAt (ps ++ qs) x
+
+pub record SurveyReady (d img : List ℕ) (q : Asked) : Type 0 where
+  pub passes : Passes d
+  pub small : length img ≤ 65535
+  pub name : NameReady (q .name) 0
+
+-- the tables before item s.next are laid
+pub record Surveyed (d img : List ℕ) (q : Asked) (s : Survey) : Type 0 where
+  pub seats : List Seat
+  pub elements : List Placed
+  pub slots : Slots
+  pub numbered : Numbered slots (numbersIn (s .numbers))
+  pub whole : layout d img ≡ beforeAll seats elements (layTables (tablesOf d (itemCount d - s .next) 0 (s .next)) img slots (s .start .0))
+  pub fit : FitTables (tablesOf d (itemCount d - s .next) 0 (s .next))
+  pub ordered : s .next ≤ itemCount d
+  pub inside : s .start .0 ≤ length img
+  pub table : s .table ≡ placeAt Refusal.NoTable (seatSeen (q .manufacturer) (q .number) seats)
+  pub element : s .element ≡ placeAt Refusal.NoElement (seen (q .name .item) (leftOf (q .name) 0) elements)
+
+pub record TableReady (d img : List ℕ) (q : Asked) (s : Survey) : Type 0 where
+  pub ready : SurveyReady d img q
+  pub surveyed : Surveyed d img q s
+  pub more : s .next < itemCount d
+
+-- whether the walk over the table at p came to its end
+unfoldable pub verdictOf : (p : ℕ) → Walk → Verdict
+verdictOf p w =
+    if w .short then Verdict.Refused (Refusal.ImageShort (w .next) (record { 0 = min (p + w .octets) 18446744073709551615 }))
+    else Verdict.Passed
+
+-- one table more, or the refusal that laying out comes to
+pub record TableAs (d img : List ℕ) (q : Asked) (s : Survey) (r : Survey) : Type 0 where
+  pub passed : r .verdict ≡ Verdict.Passed → Surveyed d img q r × (s .next < r .next)
+  pub stopped : (x : Refusal) → r .verdict ≡ Verdict.Refused x → openLaid (layout d img) ≡ refused x
+
+-- THE ANSWER: the image opened, with its total, and where the table and the element asked for are; or the refusal
+unfoldable pub refusedBy : Refusal → Answer
+refusedBy r = record { verdict = Verdict.Refused r; total = 0; table = Place.Refused r; element = Place.Refused r }
+
+pub record LaidAs (q : Asked) (r : Answer) (ts : List Seat) (es : List Placed) (total : ℕ) : Type 0 where
+  pub passed : r .verdict ≡ Verdict.Passed
+  pub ends : r .total ≡ total
+  pub table : r .table ≡ placeAt Refusal.NoTable (seatSeen (q .manufacturer) (q .number) ts)
+  pub element : r .element ≡ placeAt Refusal.NoElement (seen (q .name .item) (leftOf (q .name) 0) es)
+
+abbrev pub AnswerAs : Asked → Answer → Opened → Type 0
+AnswerAs q r (opened ts es x n) = LaidAs q r ts es n
+AnswerAs q r (refused x) = r ≡ refusedBy x
+
+-- of an element that can't be named: the refusal, or else none
+unfoldable pub noElement : Verdict → Place
+noElement Verdict.Passed = Place.Refused Refusal.NoElement
+noElement (Verdict.Refused r) = Place.Refused r
