@@ -737,7 +737,8 @@ fn any_number(rng: &mut Rng) -> u64 {
 enum Among {
     Elements,
     Integers,
-    /// Integers that set no slot, in tables marked writable.
+    /// Those that set no slot, in tables marked writable.
+    Open,
     OpenIntegers,
 }
 
@@ -748,16 +749,32 @@ fn is_among(laid: &Layout, i: usize, among: Among) -> bool {
             matches!(item, Item::Uint { .. } | Item::Block { .. } | Item::Set { .. })
         }
         Among::Integers => matches!(item, Item::Uint { .. }),
-        Among::OpenIntegers => {
+        Among::Open | Among::OpenIntegers => {
             let open = match bodies_round(&laid.items, i).first() {
                 Some(body) => {
                     matches!(laid.items[body.owner], Item::Table { writable: true, .. })
                 }
                 None => false,
             };
-            open && matches!(item, Item::Uint { slot: 0, .. })
+            open && match item {
+                Item::Uint { slot, .. } => slot == 0,
+                Item::Block { .. } | Item::Set { .. } => among == Among::Open,
+                _ => false,
+            }
         }
     }
+}
+
+/// Whether an item has a place: no ARRAY round it is empty, no IF chose the
+/// other body.
+fn is_there(laid: &Layout, i: usize) -> bool {
+    bodies_round(&laid.items, i).iter().all(|body| match laid.items[body.owner] {
+        Item::Array { reference, .. } => value_of(reference, &laid.dimensions).unwrap_or(0) > 0,
+        Item::If { reference, .. } => {
+            (value_of(reference, &laid.dimensions).unwrap_or(0) == 0) == body.is_false_body
+        }
+        _ => true,
+    })
 }
 
 /// `item n s0 s1 s2 s3`: mostly an element with subscripts below its counts.
@@ -772,6 +789,9 @@ fn some_name(rng: &mut Rng, laid: &Option<Layout>, among: Among) -> String {
         if rng.chance(92) {
             let mut elements: Vec<usize> =
                 (0..laid.items.len()).filter(|i| is_among(laid, *i, among)).collect();
+            if rng.chance(60) {
+                elements.retain(|i| is_there(laid, *i));
+            }
             // Half of the time one inside ARRAYs and IFs, where there is one.
             let inside: Vec<usize> = elements
                 .iter()
@@ -844,10 +864,24 @@ fn data(rng: &mut Rng, length: usize) -> String {
 }
 
 fn range_request(rng: &mut Rng, words: &str, laid: &Option<Layout>) -> String {
-    let (mfr, num) = some_table(rng, laid);
+    let (mut mfr, mut num) = some_table(rng, laid);
     let mut size = rng.below(10);
     let mut start = 0;
     if let Some(laid) = laid {
+        // Often a table of some octets that is marked writable.
+        let open: Vec<(u32, u64)> = laid
+            .tables
+            .iter()
+            .filter_map(|place| match laid.items[place.item] {
+                Item::Table { manufacturer, number, writable: true, .. } if place.length > 0 => {
+                    Some((manufacturer as u32, u64::from(number)))
+                }
+                _ => None,
+            })
+            .collect();
+        if !open.is_empty() && rng.chance(50) {
+            (mfr, num) = rng.pick(&open);
+        }
         for place in &laid.tables {
             if let Item::Table { manufacturer, number, .. } = laid.items[place.item] {
                 if manufacturer as u32 == mfr && u64::from(number) == num {
@@ -857,8 +891,9 @@ fn range_request(rng: &mut Rng, words: &str, laid: &Option<Layout>) -> String {
             }
         }
     }
-    // Offset and length inside, at the end, over it, or next to a dimension.
-    let (offset, length) = match rng.below(12) {
+    // Offset and length inside, at the end, over it, next to a dimension, or
+    // with a sum past 2^64 that would come to something small.
+    let (offset, length) = match rng.below(16) {
         0 => (size, 0),
         1 => (size, 1),
         2 => (size.saturating_sub(1), 1),
@@ -881,7 +916,15 @@ fn range_request(rng: &mut Rng, words: &str, laid: &Option<Layout>) -> String {
                     offset = (d.at - start + rng.below(d.octets + 2)).saturating_sub(1);
                 }
             }
-            (offset, 1)
+            (offset, rng.pick(&[0, 1, 1, 1, 2, 3]))
+        }
+        9 => {
+            let wrapped = rng.below(size + 1).wrapping_sub(start);
+            (wrapped, rng.below(4))
+        }
+        10 => {
+            let length = 1 + rng.below(6);
+            (rng.below(size + 1).wrapping_sub(length), length)
         }
         _ => {
             let offset = rng.below(size + 1);
@@ -894,8 +937,13 @@ fn range_request(rng: &mut Rng, words: &str, laid: &Option<Layout>) -> String {
 }
 
 fn access_request(rng: &mut Rng) -> String {
-    let (d, m) = pair(rng);
-    let laid = lay_out(&d, &m).ok();
+    let (mut d, mut m) = pair(rng);
+    let mut laid = lay_out(&d, &m).ok();
+    // What can't be laid out says little of reads and writes: mostly another.
+    if laid.is_none() && rng.chance(75) {
+        (d, m) = pair(rng);
+        laid = lay_out(&d, &m).ok();
+    }
     let words = format!("{} {}", hex(&d), hex(&m));
     let item_of = |name: &str| -> Option<Item> {
         let number: u64 = name.split(' ').next()?.parse().ok()?;
@@ -914,7 +962,7 @@ fn access_request(rng: &mut Rng) -> String {
         }
         6..=8 => range_request(rng, &words, &laid),
         9 | 10 => {
-            let among = rng.pick(&[Among::Elements, Among::Elements, Among::OpenIntegers]);
+            let among = rng.pick(&[Among::Elements, Among::Open, Among::Open]);
             let name = some_name(rng, &laid, among);
             let length = match item_of(&name) {
                 Some(Item::Uint { octets, .. }) | Some(Item::Block { octets }) => octets,
@@ -943,7 +991,7 @@ fn access_request(rng: &mut Rng) -> String {
                 Some(Item::Uint { octets, .. }) => 1u64 << (8 * octets),
                 _ => 256,
             };
-            let value = match rng.below(6) {
+            let value = match rng.below(9) {
                 0 => limit,
                 1 => limit - 1,
                 2 => any_number(rng),

@@ -6,6 +6,8 @@ use Rattle.demands.proofs.Outcomes.{passed-exactly, none-met, lays-or-s
 use Rattle.demands.proofs.Elements.{exactly-one}
 use Rattle.demands.proofs.Tables.{tables-follow}
 use Rattle.demands.proofs.Made.{table-made-up}
+use Rattle.demands.proofs.RangeWrites.{range-stays}
+use Rattle.demands.proofs.ElementWrites.{octets-stay, number-stays}
 
 pub demand-3 : (d img : List ℕ) → Demand3 d img
 demand-3 d img =
@@ -18,4 +20,5 @@ demand-3 d img =
       exactlyOne = exactly-one d img;
       tablesFollow = tables-follow d img;
       tableMadeUp = table-made-up d img;
+      writesStayPut = record { range = range-stays d img; octets = octets-stay d img; number = number-stays d img };
     }

@@ -1,5 +1,5 @@
 -- Of demand 3: laid out, every octet below the total lies in exactly one element, known by its name, and no octet from the total on in any. Assumes nothing.
-use Prim.Native.Nat.{ℕ, _+_, _-_, _<_, _≤_}
+use Prim.Native.Nat.{ℕ, _-_, _<_, _≤_}
 use mathlib.Core.Path.{_≡_, _∙_, ap}
 use mathlib.Core.List.{List, _++_}
 use lib.ListN.{length, take, replicate, length-append, length-replicate}
@@ -16,11 +16,11 @@ use Rattle.laying.specs.Cover.{hits}
 use Rattle.laying.proofs.Cover.{exactly-one as octets-once, held-inside}
 use Rattle.laying.proofs.Names.{names-found, subscripts-few}
 use Rattle.demands.specs.Demand3.{Holds, OneElement, ExactlyOne}
-use Rattle.demands.proofs.Opened.{Opens, where-laid, where-found, total-opens}
-use Rattle.demands.proofs.Among.{Among, every-among, named-among, Hit, held-there, hits-among, hits-some, hits-one}
+use Rattle.laying.proofs.Opened.{Opens, where-laid, where-found, total-opens}
+use Rattle.laying.proofs.Among.{Among, every-among, named-among, Hit, held-there, hits-among, hits-some, hits-one}
 
 -- an element's name: its item, and its subscripts filled up to four places
-abbrev nameOf : Placed → ElementName
+abbrev pub nameOf : Placed → ElementName
 nameOf e =
     record {
       item = e .item;
@@ -64,7 +64,7 @@ module _ {d img : List ℕ} {ts : List Seat} {es : List Placed} {s : Slots} {tot
       }
 
   -- an element is found by its name
-  told : (e : Placed) → Among e es → whereReply d img (nameOf e) ≡ Place.At (record { 0 = e .start }) (e .size)
+  pub told : (e : Placed) → Among e es → whereReply d img (nameOf e) ≡ Place.At (record { 0 = e .start }) (e .size)
   unfolding elementIn elementPlace
   told e m =
       let few = every-among _ e es (subscripts-few d img ts es s total (o .laid)) m in

@@ -1,8 +1,13 @@
-pub mod Opened
 pub mod Outcomes
-pub mod Among
 pub mod Elements
 pub mod Tables
 pub mod Made
+pub mod Dimensions
+pub mod Writable
+pub mod Writes
+pub mod Allowed
+pub mod RangeWrites
+pub mod ElementWrites
 pub mod Demand3
+pub mod Demand2
 pub mod Wrong

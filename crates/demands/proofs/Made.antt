@@ -11,8 +11,8 @@ use Rattle.laying.specs.Cover.{MadeUp}
 use Rattle.laying.proofs.Cover.{held-inside}
 use Rattle.laying.proofs.Made.{tables-made}
 use Rattle.demands.specs.Demand3.{Holds, InBody, TableMadeUp}
-use Rattle.demands.proofs.Opened.{Opens, table-opens}
-use Rattle.demands.proofs.Among.{every-among, seat-among, held-there, hits-among, hits-one, of-among, of-some}
+use Rattle.laying.proofs.Opened.{Opens, table-opens}
+use Rattle.laying.proofs.Among.{every-among, seat-among, held-there, hits-among, hits-one, of-among, of-some}
 use Rattle.demands.proofs.Elements.{hit-below, holder}
 use Rattle.demands.proofs.Tables.{SeatIn, item-named, seats-in}
 

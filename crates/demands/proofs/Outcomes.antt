@@ -15,7 +15,7 @@ use Rattle.laying.proofs.Lays.{passed-lays, short-runs-past}
 use Rattle.laying.proofs.Cover.{stopped-covers}
 use Rattle.laying.proofs.Cover.{total-inside as inside-image}
 use Rattle.demands.specs.Demand3.{PassedExactly, Passed, NoneMet, LaysOrShort, FirstPast, ShortExactly, TotalInside}
-use Rattle.demands.proofs.Opened.{open-laid, total-opens}
+use Rattle.laying.proofs.Opened.{open-laid, total-opens}
 
 -- a description is passed exactly when it meets the rules
 pub passed-exactly : (d : List ℕ) → PassedExactly d
@@ -55,13 +55,13 @@ module _ (d img : List ℕ) (p : Passed d img) where
   -- laid out, the total
   laid-total : (ts : List Seat) (es : List Placed) (s : Slots) (n : ℕ) → layout d img ≡ laidOut ts es s n → totalReply d img ≡ Total.Octets n
   unfolding totalReply totalIn openLaid
-  laid-total ts es s n e = rw (open-laid d img p, e)
+  laid-total ts es s n e = rw (open-laid d img (p .passes) (p .allowed), e)
 
   -- short, the item and its octet
   short-total : (es : List Placed) (i q : ℕ) → layout d img ≡ stoppedAt es (short i q)
       → totalReply d img ≡ Total.Refused (Refusal.ImageShort i (record { 0 = q }))
   unfolding totalReply totalIn openLaid stopRefusal
-  short-total es i q e = rw (open-laid d img p, e)
+  short-total es i q e = rw (open-laid d img (p .passes) (p .allowed), e)
 
 -- it lays out, or is refused as short
 pub lays-or-short : (d img : List ℕ) → Passed d img → LaysOrShort d img

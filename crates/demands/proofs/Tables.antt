@@ -43,7 +43,7 @@ use Rattle.laying.proofs.Nested.{Run, first-keeps, first-ends, rest-body}
 use Rattle.laying.proofs.Tops.{table-item, top, whole-run}
 use Rattle.laying.proofs.Cover.{tables-follow as follow-on}
 use Rattle.demands.specs.Demand3.{tablesFrom, itemsOf, Told, TablesFollow}
-use Rattle.demands.proofs.Opened.{Opens, table-laid, total-opens}
+use Rattle.laying.proofs.Opened.{Opens, table-laid, total-opens}
 
 -- THE TABLES OF THE DESCRIPTION
 module _ {d : List ℕ} (p : PassedLaws d) where
@@ -64,7 +64,7 @@ module _ {d : List ℕ} (p : PassedLaws d) where
           go (no a) (no b) = rw (beyond d k i (omega arith)) g
 
   -- so none of them is a TABLE
-  body-none : (at i : ℕ) → isTable (fieldsAt d at) ≡ true → at < i → i < at + 1 + fieldsAt d at .first → i < itemCount d → isTable (fieldsAt d i) ≡ false
+  pub body-none : (at i : ℕ) → isTable (fieldsAt d at) ≡ true → at < i → i < at + 1 + fieldsAt d at .first → i < itemCount d → isTable (fieldsAt d i) ≡ false
   body-none at i t l h n = p .keeps i n .within (tabled-round at i t l h)
 
 -- items that aren't TABLEs may be passed over

@@ -4,12 +4,17 @@ use mathlib.Core.Path.{_≡_, refl, sym, _∙_, ap}
 use mathlib.Core.List.{[], _∷_, _++_}
 use native.Mathlib.Omega.{arith}
 use Rattle.meaning.specs.declared.ElementName.{ElementName}
+use Rattle.meaning.specs.declared.Refusal.{Refusal}
+use Rattle.meaning.specs.declared.Verdict.{Verdict}
 use Rattle.meaning.specs.declared.Total.{Total}
-use Rattle.meaning.specs.Examples.{D, first, second, plain, at}
-use Rattle.meaning.specs.Refusals.{placeValues, totalReply, tableReply, whereReply}
+use Rattle.meaning.specs.Examples.{D, D-writable, first, second, plain, at, offset}
+use Rattle.meaning.specs.Refusals.{totalReply, tableReply, whereReply, writeRangeReply, writeRangeImage, writeOctetsReply, writeOctetsImage}
+use Rattle.meaning.specs.Refusals.{writeNumberReply, writeNumberImage}
 use Rattle.meaning.proofs.Computing.{computing}
+use Rattle.demands.specs.Demand2.{octetsAt}
 use Rattle.demands.specs.Demand3.{Holds, SameName}
-use Rattle.demands.specs.Wrong.{octets, WrongPrograms}
+use Rattle.demands.specs.Wrong.{WrongPrograms}
+use Rattle.laying.proofs.Opened.{placeStart, placeLength}
 use Rattle.demands.proofs.Elements.{exactly-one}
 
 -- THE REPLIES, COMPUTED
@@ -21,23 +26,23 @@ second-total : totalReply D second ≡ Total.Octets 6
 unfolding computing
 second-total = refl
 
-first-table : tableReply D first 0 5 ≡ octets 2 6
+first-table : tableReply D first 0 5 ≡ octetsAt 2 6
 unfolding computing
 first-table = refl
 
-second-table : tableReply D second 0 5 ≡ octets 2 4
+second-table : tableReply D second 0 5 ≡ octetsAt 2 4
 unfolding computing
 second-table = refl
 
-block-there : whereReply D first (plain 5) ≡ octets 2 2
+block-there : whereReply D first (plain 5) ≡ octetsAt 2 2
 unfolding computing
 block-there = refl
 
-number0-there : whereReply D first (at 7 0) ≡ octets 4 2
+number0-there : whereReply D first (at 7 0) ≡ octetsAt 4 2
 unfolding computing
 number0-there = refl
 
-number1-there : whereReply D first (at 7 1) ≡ octets 6 2
+number1-there : whereReply D first (at 7 1) ≡ octetsAt 6 2
 unfolding computing
 number1-there = refl
 
@@ -51,6 +56,33 @@ zeros-total : totalReply D (0 ∷ 0 ∷ 0 ∷ 0 ∷ 0 ∷ 0 ∷ []) ≡ Total.Oc
 unfolding computing
 zeros-total = refl
 
+-- THE WRITES, COMPUTED
+-- the block of Table 5, as a range of the table and as an element; and the number after it
+range-written : writeRangeImage D first 0 5 (offset 0) (1 ∷ 2 ∷ []) ≡ 0x00 ∷ 0x82 ∷ 1 ∷ 2 ∷ 0x34 ∷ 0x12 ∷ 0x78 ∷ 0x56 ∷ []
+unfolding computing
+range-written = refl
+
+octets-written : writeOctetsImage D first (plain 5) (1 ∷ 2 ∷ []) ≡ 0x00 ∷ 0x82 ∷ 1 ∷ 2 ∷ 0x34 ∷ 0x12 ∷ 0x78 ∷ 0x56 ∷ []
+unfolding computing
+octets-written = refl
+
+number-written : writeNumberImage D first (at 7 0) 0x0102 ≡ 0x00 ∷ 0x82 ∷ 0xAA ∷ 0xBB ∷ 2 ∷ 1 ∷ 0x78 ∷ 0x56 ∷ []
+unfolding computing
+number-written = refl
+
+-- a dimension of a writable table
+range-dimension : (x : ℕ) → writeRangeReply D-writable first 0 0 (offset 1) (x ∷ []) ≡ Verdict.Refused Refusal.HoldsDimension
+unfolding computing
+range-dimension x = refl
+
+octets-dimension : (x : ℕ) → writeOctetsReply D-writable first (plain 2) (x ∷ []) ≡ Verdict.Refused Refusal.HoldsDimension
+unfolding computing
+octets-dimension x = refl
+
+number-dimension : (x : ℕ) → writeNumberReply D-writable first (plain 2) x ≡ Verdict.Refused Refusal.HoldsDimension
+unfolding computing
+number-dimension x = refl
+
 -- TWO OCTETS IN TWO ELEMENTS
 -- an element that holds an octet below the total has the name of any other that does
 same-name : (q r : ElementName) (x : ℕ) → x < 8 → Holds D first q x → Holds D first r x → SameName q r
@@ -60,21 +92,16 @@ same-name q r x l h g =
     let b = one .only r g in
     record { item = sym (a .item) ∙ b .item; subscripts = sym (a .subscripts) ∙ b .subscripts }
 
--- a place tells its octet and its length
-place-told : (p q n m : ℕ) → octets p n ≡ octets q m → (p ≡ q) × (n ≡ m)
-unfolding placeValues
-place-told p q n m e =
-    let v : 0 ∷ 0 ∷ 0 ∷ p ∷ n ∷ [] ≡ 0 ∷ 0 ∷ 0 ∷ q ∷ m ∷ [] = ap placeValues e in
-    (cc, cc)
-
 -- an element that holds two octets holds those between
 between : (q : ElementName) (x y z : ℕ) → x ≤ z → z ≤ y → Holds D first q x → Holds D first q y → Holds D first q z
 between q x y z a b h g =
-    let t = place-told (h .start) (g .start) (h .size) (g .size) (sym (h .reply) ∙ g .reply) in
+    let same = sym (h .reply) ∙ g .reply in
+    let start : h .start ≡ g .start = ap placeStart same in
+    let size : h .size ≡ g .size = ap placeLength same in
     record { start = h .start; size = h .size; reply = h .reply; from = omega arith; to = omega arith }
 
 -- the element of that name holds octet x, by its place
-holds : (q : ElementName) (p n x : ℕ) → whereReply D first q ≡ octets p n → p ≤ x → x < p + n → Holds D first q x
+holds : (q : ElementName) (p n x : ℕ) → whereReply D first q ≡ octetsAt p n → p ≤ x → x < p + n → Holds D first q x
 holds q p n x e a b = record { start = p; size = n; reply = e; from = a; to = b }
 
 -- octets 3 and 4 lie in different elements, as do 5 and 6
@@ -91,7 +118,7 @@ apart6 q h g =
     let z : _≡_ {A = ℕ} 0 1 = cc (a .subscripts, b .subscripts) in
     omega arith
 
--- all three are ruled out
+-- all are ruled out
 pub wrong-programs : WrongPrograms
 wrong-programs =
     record {
@@ -114,4 +141,11 @@ wrong-programs =
             longer = longer-total;
             lengths = λ f h. let z : _≡_ {A = ℕ} 6 2 = cc (second-total, zeros-total, h second, h (0 ∷ 0 ∷ 0 ∷ 0 ∷ 0 ∷ 0 ∷ [])) in omega arith;
           };
+      neverWrites =
+          record {
+            range = λ h. let z : _≡_ {A = ℕ} 1 0xAA = cc (range-written, h D first 0 5 (offset 0) (1 ∷ 2 ∷ [])) in omega arith;
+            octets = λ h. let z : _≡_ {A = ℕ} 1 0xAA = cc (octets-written, h D first (plain 5) (1 ∷ 2 ∷ [])) in omega arith;
+            number = λ h. let z : _≡_ {A = ℕ} 2 0x34 = cc (number-written, h D first (at 7 0) 0x0102) in omega arith;
+          };
+      writesDimensions = record { range = range-dimension; octets = octets-dimension; number = number-dimension };
     }

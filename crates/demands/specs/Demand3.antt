@@ -1,6 +1,6 @@
 -- DEMAND 3: "A description is passed exactly when it meets the rules. A passed one, over any image of at most 65,535 octets, never meets a dimension not yet
 -- read, a bit outside its element or an array of unequal elements: it lays out, or is refused as short exactly where the walk first runs past the end. Laid
--- out, every octet below the total lies in exactly one element."
+-- out, every octet below the total lies in exactly one element; after an accepted write every element stands where it stood."
 -- Each clause is one named statement over the replies: `soundness` is the reply of "is this description sound", `totalReply` of "lay the image out",
 -- `tableReply` of "where is this table", `whereReply` of "where is this element" (crate meaning, specs/Description and specs/Refusals). The public calls are
 -- proved to give these replies, for every input. proofs/Demand3.antt proves every statement here, for every description and image.
@@ -10,6 +10,7 @@ use mathlib.Core.Logic.{_⊎_}
 use mathlib.Core.Bool.{true}
 use mathlib.Core.List.{List, [], _∷_}
 use lib.ListN.{length, take}
+use Rattle.offsets.specs.declared.TableOffset.{TableOffset}
 use Rattle.meaning.specs.Basics.{if_then_else_}
 use Rattle.meaning.specs.declared.ElementName.{ElementName}
 use Rattle.meaning.specs.declared.Refusal.{Refusal}
@@ -18,7 +19,7 @@ use Rattle.meaning.specs.declared.Place.{Place}
 use Rattle.meaning.specs.Description.{itemCount, fieldsAt, isTable}
 use Rattle.meaning.specs.Passed.{Passes, MeetsRules, Exactly}
 use Rattle.meaning.specs.Layout.{Placed, Seat, unreadDimension, bitOutside, unequalElements, short, noItem, stoppedAt, layout}
-use Rattle.meaning.specs.Refusals.{totalReply, tableReply, whereReply}
+use Rattle.meaning.specs.Refusals.{totalReply, tableReply, whereReply, writeRangeImage, writeOctetsImage, writeNumberImage}
 use Rattle.laying.specs.Cover.{hits, Follow}
 use Rattle.laying.specs.Every.{Every}
 use Rattle.laying.specs.Outcomes.{ShortAt}
@@ -122,6 +123,18 @@ TableMadeUp d img = (i p n : ℕ) → i < itemCount d → isTable (fieldsAt d i)
     → tableReply d img (fieldsAt d i .manufacturer) (fieldsAt d i .number) ≡ Place.At (record { 0 = p }) n
     → (q : ElementName) (x : ℕ) → Holds d img q x → Exactly (InBody d i (q .item)) ((p ≤ x) × (x < p + n))
 
+-- AFTER A WRITE EVERY TABLE AND ELEMENT STANDS WHERE IT STOOD: the replies of layout, table and where are the same for every question. That an accepted write
+-- writes at all is demand 2's (specs/Demand2)
+pub record StaysPut (d img later : List ℕ) : Type 0 where
+  pub total : totalReply d later ≡ totalReply d img
+  pub tables : (m k : ℕ) → tableReply d later m k ≡ tableReply d img m k
+  pub elements : (q : ElementName) → whereReply d later q ≡ whereReply d img q
+
+pub record WritesStayPut (d img : List ℕ) : Type 0 where
+  pub range : (m k : ℕ) (o : TableOffset) (new : List ℕ) → StaysPut d img (writeRangeImage d img m k o new)
+  pub octets : (q : ElementName) (new : List ℕ) → StaysPut d img (writeOctetsImage d img q new)
+  pub number : (q : ElementName) (x : ℕ) → StaysPut d img (writeNumberImage d img q x)
+
 -- ALL OF IT
 pub record Demand3 (d img : List ℕ) : Type 0 where
   pub passedExactly : PassedExactly d
@@ -132,3 +145,4 @@ pub record Demand3 (d img : List ℕ) : Type 0 where
   pub exactlyOne : (total : ℕ) → totalReply d img ≡ Total.Octets total → ExactlyOne d img total
   pub tablesFollow : (total : ℕ) → totalReply d img ≡ Total.Octets total → TablesFollow d img total
   pub tableMadeUp : TableMadeUp d img
+  pub writesStayPut : WritesStayPut d img

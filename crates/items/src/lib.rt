@@ -5,12 +5,14 @@
 use basics::bit_range;
 use basics::both;
 use basics::wide;
+use meaning::Fields;
 use meaning::Item;
 use meaning::Reference;
 ghost use mathlib.Core.Path.{_≡_};
 ghost use Prim.Native.Nat.{_<_, _≤_};
 ghost use Rattle.meaning.specs.Basics.{bits};
-ghost use Rattle.meaning.specs.Description.{itemCount, wordAt, referenceOf, namesSlot, octetsOfCode, tableOf, uintOf, blockOf, setOf, arrayOf, ifOf, itemOf};
+ghost use Rattle.meaning.specs.Description.{itemCount, wordAt, referenceOf, namesSlot, octetsOfCode, tableOf, uintOf, blockOf, setOf, arrayOf, ifOf, itemOf, fieldsOf};
+ghost use Rattle.meaning.specs.Ranges.{Ranged};
 ghost use Rattle.items.specs.Read.{readAt};
 
 // Bits high..low of a word, bit 0 least significant.
@@ -153,14 +155,113 @@ fn item_of(word: u32) -> Item
     }
 }
 
+// Opens an item into its fields, each 0 where its kind has none.
+fn fields_of(item: Item) -> Fields
+    requires { ⌜ Ranged item ⌝ }
+    ensures { λ r. ⌜ r ≡ fieldsOf item ⌝ }
+{
+    match item {
+        Item::Table {
+            manufacturer,
+            number,
+            writable,
+            items,
+        } => Fields {
+            kind: 1,
+            manufacturer,
+            number,
+            writable,
+            first: items,
+            second: 0,
+            sets: 0,
+            octets: 0,
+            slot: 0,
+            bits: 0,
+        },
+        Item::Uint { octets, slot } => Fields {
+            kind: 2,
+            manufacturer: 0,
+            number: 0,
+            writable: 0,
+            first: 0,
+            second: 0,
+            sets: slot,
+            octets,
+            slot: 0,
+            bits: 0,
+        },
+        Item::Block { octets: _ } => Fields {
+            kind: 3,
+            manufacturer: 0,
+            number: 0,
+            writable: 0,
+            first: 0,
+            second: 0,
+            sets: 0,
+            octets: 0,
+            slot: 0,
+            bits: 0,
+        },
+        Item::Set { of, unit: _ } => Fields {
+            kind: 4,
+            manufacturer: 0,
+            number: 0,
+            writable: 0,
+            first: 0,
+            second: 0,
+            sets: 0,
+            octets: 0,
+            slot: of.slot,
+            bits: of.low + of.width,
+        },
+        Item::Array { of, items } => Fields {
+            kind: 5,
+            manufacturer: 0,
+            number: 0,
+            writable: 0,
+            first: items,
+            second: 0,
+            sets: 0,
+            octets: 0,
+            slot: of.slot,
+            bits: of.low + of.width,
+        },
+        Item::If { of, yes, no } => Fields {
+            kind: 6,
+            manufacturer: 0,
+            number: 0,
+            writable: 0,
+            first: yes,
+            second: no,
+            sets: 0,
+            octets: 0,
+            slot: of.slot,
+            bits: of.low + of.width,
+        },
+        Item::Malformed => Fields {
+            kind: 0,
+            manufacturer: 0,
+            number: 0,
+            writable: 0,
+            first: 0,
+            second: 0,
+            sets: 0,
+            octets: 0,
+            slot: 0,
+            bits: 0,
+        },
+    }
+}
+
 // A place in a description: before item `at`.
 pub struct Cursor {
     pub at: usize,
 }
 
-// The item read, and the next place.
+// The item read, its fields, and the next place.
 pub struct Read {
     pub item: Item,
+    pub fields: Fields,
     pub next: Cursor,
 }
 
@@ -172,13 +273,16 @@ impl Cursor {
     {
         let at = self.at;
         if at < description.len() / 4 {
+            let item = item_of(word_at(description, at));
             return Read {
-                item: item_of(word_at(description, at)),
+                item,
+                fields: fields_of(item),
                 next: Cursor { at: at + 1 },
             };
         }
         Read {
             item: Item::Malformed,
+            fields: fields_of(Item::Malformed),
             next: self,
         }
     }

@@ -1,5 +1,5 @@
--- Laid out, every octet below the total lies in exactly one element and no other octet in any; tables follow one another; the total is inside the image; and
--- where the image is short, the elements before the short item fill the image up to its octet. Of any description and image. Assumes nothing.
+-- Laid out, every octet below the total lies in exactly one element and no other octet in any, and each element ends by the total; tables follow one another; the
+-- total is inside the image; and where the image is short, the elements before the short item fill the image up to its octet. Of any description and image. Assumes nothing.
 use Prim.Native.Nat.{ℕ, zero, suc, _+_, _-_, _*_, _<_, _≤_, min}
 use mathlib.Core.Path.{_≡_, refl, subst}
 use mathlib.Core.Bool.{Bool, true, false, _&&_}
@@ -14,7 +14,9 @@ use Rattle.meaning.specs.Layout.{Slot, Slots, unread, holds, setSlot, bitRange,
 use Rattle.meaning.specs.Layout.{unequalElements, Laid, laid, stopped, also, andThen, reading, inImage, placed, ofSize, repeated}
 use Rattle.meaning.specs.Layout.{layBody, layNode, Seat, Layout, laidOut, stoppedAt, before, seated, layTables, layout}
 use Rattle.laying.specs.Cover.{held, hits, Follow}
+use Rattle.laying.specs.Every.{Every}
 use Rattle.laying.proofs.Either.{tested}
+use Rattle.laying.proofs.Every.{every-map, every-append}
 
 -- 1 from octet p on
 abbrev pub since : ℕ → ℕ → ℕ
@@ -48,19 +50,29 @@ unfolding hits
 hits-append x [] qs = omega arith
 hits-append x (p ∷ ps) qs = omega (arith, hits-append x ps qs)
 
--- elements that hold each octet from p to q once, and no other
+-- an element ends by octet q
+abbrev pub EndsBy : (q : ℕ) → Placed → Type 0
+EndsBy q e = e .start + e .size ≤ q
+
+-- elements that hold each octet from p to q once, and no other; all of them, those of no octets too, end by q
 pub record Fill (p : ℕ) (ps : List Placed) (q : ℕ) : Type 0 where
   pub order : p ≤ q
   pub once : (x : ℕ) → hits x ps + since q x ≡ since p x
+  pub ends : Every (EndsBy q) ps
 
 -- no elements fill nothing
 fill-none : (p : ℕ) → Fill p [] p
-unfolding hits
-fill-none p = record { order = omega arith; once = λ x. omega arith }
+unfolding hits Every
+fill-none p = record { order = omega arith; once = λ x. omega arith; ends = tt }
 
 -- filled up to q, and from there on
 fill-append : (p q r : ℕ) (ps qs : List Placed) → Fill p ps q → Fill q qs r → Fill p (ps ++ qs) r
-fill-append p q r ps qs f g = record { order = omega (arith, f .order, g .order); once = λ x. omega (arith, f .once x, g .once x, hits-append x ps qs) }
+fill-append p q r ps qs f g =
+    record {
+      order = omega (arith, f .order, g .order);
+      once = λ x. omega (arith, f .once x, g .once x, hits-append x ps qs);
+      ends = every-append (EndsBy r) ps qs (every-map (EndsBy q) (EndsBy r) (λ e h. omega (arith, g .order)) ps (f .ends)) (g .ends);
+    }
 
 -- octets that are held, and those that aren't
 fill-octets : (p : ℕ) (ps : List Placed) (q : ℕ) → Fill p ps q → (x : ℕ) → p ≤ x → (x < q → hits x ps ≡ 1) × (q ≤ x → hits x ps ≡ 0)
@@ -129,8 +141,8 @@ c-image false l i p (stopped ps x) c = λ j y e. let t : true ≡ false = c j y 
 
 -- one element
 c-placed : (l i k : ℕ) (subs : List ℕ) (s : Slots) (p n : ℕ) → Covers true l p (placed i k subs s p n)
-unfolding placed hits
-c-placed l i k subs s p n = (record { order = omega arith; once = λ x. omega (arith, held-since x p n) }, λ e. absurd (never (cc)))
+unfolding placed hits Every
+c-placed l i k subs s p n = (record { order = omega arith; once = λ x. omega (arith, held-since x p n); ends = (omega arith, tt) }, λ e. absurd (never (cc)))
 
 -- an element of an array, of one size with the others
 c-size : (a : Bool) (l i w p : ℕ) (o : Laid) → Covers a l p o → Covers a l p (ofSize i w p o)
@@ -220,6 +232,10 @@ module _ (d img : List ℕ) (ts : List Seat) (es : List Placed) (s : Slots) (tot
   -- tables follow one another from octet 0 to the total
   pub tables-follow : Follow 0 ts total
   tables-follow = whole .follow
+
+  -- each element ends by the total
+  pub elements-end : Every (EndsBy total) es
+  elements-end = whole .fill .ends
 
   -- the total is inside the image
   pub total-inside : total ≤ length img

@@ -17,3 +17,9 @@ pub every-append : {A : Type 0} (P : A → Type 0) (xs ys : List A) → Every P 
 unfolding Every
 every-append P [] ys h k = k
 every-append P (x ∷ xs) ys h k = (h .0, every-append P xs ys (h .1) k)
+
+-- and of each of the two
+pub every-split : {A : Type 0} (P : A → Type 0) (xs ys : List A) → Every P (xs ++ ys) → Every P xs × Every P ys
+unfolding Every
+every-split P [] ys h = (tt, h)
+every-split P (x ∷ xs) ys h = let r = every-split P xs ys (h .1) in ((h .0, r .0), r .1)

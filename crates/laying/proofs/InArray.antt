@@ -1,20 +1,23 @@
--- Inside an ARRAY no slot is set and nothing is short: a body goes as far as its size, and its elements stand where its spots say, or it is stopped by what a
--- passed description never meets. So an array's elements are of one size. Assumes nothing.
+-- Inside an ARRAY no slot is set and nothing is short: a body goes as far as its size, its elements stand where its spots say, and no octet of it is one of a
+-- dimension; or it is stopped by what a passed description never meets. So an array's elements are of one size. Assumes nothing.
 use Prim.Native.Nat.{ℕ, zero, suc, _+_, _-_, _*_}
 use mathlib.Core.Path.{_≡_, refl, _∙_, ap, ap₂, sym, subst⁻¹}
-use mathlib.Core.Bool.{Bool, true, false, cond}
+use mathlib.Core.Bool.{Bool, true, false, cond, _||_}
 use mathlib.Core.List.{List, [], _∷_, _++_}
 use lib.Dec.{leb, eqb}
 use native.Mathlib.Nat.{suc-mul}
 use native.Mathlib.Omega.{arith}
 use Rattle.meaning.specs.declared.Reference.{Reference}
 use Rattle.meaning.specs.Layout.{Node, Body, uint, block, set, array, choice, stray, done, more, Slot, Slots, unread, holds, setSlot, bitRange, setOctets, Placed, Stop, unreadDimension, bitOutside, unequalElements, short, noItem, Laid, laid, stopped, also, andThen, reading, inImage, placed, ofSize, repeated, layBody, layNode}
+use Rattle.meaning.specs.Refusals.{holdsDimension}
 use Rattle.laying.specs.declared.Spot.{Spot}
 use Rattle.laying.specs.declared.Spot.the-variants.{Nowhere}
 use Rattle.laying.specs.Sizes.{Numbers, value, bodySize, itemSize, orElse, further, leafSpot, arraySpot, bodySpot, itemSpot, seen, past}
 use Rattle.laying.specs.Sound.{FitBody, FitNode}
 use Rattle.laying.specs.Slots.{numberOf, Numbered}
+use Rattle.laying.specs.Dimensions.{dimensionAt}
 use Rattle.laying.proofs.Spots.{further-or, further-twice, further-nowhere, past-as, past-or, past-further, past-nowhere, past-more, seen-none, seen-append, seen-one, someSpot, some-none, some-more, some-all}
+use Rattle.laying.proofs.Dimensions.{holds-none, holds-append, holds-one}
 
 -- where each name stands
 abbrev pub Spots : Type 0
@@ -28,18 +31,21 @@ NotShort (unequalElements i) = Unit {0}
 NotShort (short i p) = ⊥
 NotShort (noItem i) = Unit {0}
 
--- o goes n octets from p on, leaves the slots as they are, and its elements stand where f says; or it is stopped, but not as short
-abbrev pub Goes : (p n : ℕ) → Slots → Spots → Laid → Type 0
-Goes p n s f (laid ps t q) = (t ≡ s) × (q ≡ p + n) × ((i : ℕ) (xs : List ℕ) → seen i xs ps ≡ further p (f i xs))
-Goes p n s f (stopped ps x) = NotShort x
+-- o goes n octets from p on, leaves the slots as they are, its elements stand where f says, and of dimensions it holds what one of slot k would that took all of it;
+-- or it is stopped, but not as short
+abbrev pub Goes : (k p n : ℕ) → Slots → Spots → Laid → Type 0
+Goes k p n s f (laid ps t q) = (t ≡ s) × (q ≡ p + n) × ((i : ℕ) (xs : List ℕ) → seen i xs ps ≡ further p (f i xs)) × ((a m : ℕ) → holdsDimension ps a m ≡ dimensionAt k p n a m)
+Goes k p n s f (stopped ps x) = NotShort x
 
 -- the same by another name for the octets and the spots
-g-as : (p n m : ℕ) (s : Slots) (f g : Spots) (o : Laid) → n ≡ m → ((i : ℕ) (xs : List ℕ) → f i xs ≡ g i xs) → Goes p n s f o → Goes p m s g o
-g-as p n m s f g (laid ps t q) e h k = (k .0, k .1 ∙ ap (λ (x : ℕ). p + x) e, λ i xs. k .2 i xs ∙ ap (further p) (h i xs))
+g-as : (p n m : ℕ) (s : Slots) (f g : Spots) (o : Laid) → n ≡ m → ((i : ℕ) (xs : List ℕ) → f i xs ≡ g i xs) → Goes 0 p n s f o → Goes 0 p m s g o
+unfolding dimensionAt
+g-as p n m s f g (laid ps t q) e h k = (k .0, k .1 ∙ ap (λ (x : ℕ). p + x) e, λ i xs. k .2 i xs ∙ ap (further p) (h i xs), k .3)
 g-as p n m s f g (stopped ps x) e h k = k
 
-g-none : (p : ℕ) (s : Slots) → Goes p 0 s (λ i xs. Nowhere) (laid [] s p)
-g-none p s = (refl, omega arith, λ i xs. seen-none i xs ∙ sym (further-nowhere p))
+g-none : (p : ℕ) (s : Slots) → Goes 0 p 0 s (λ i xs. Nowhere) (laid [] s p)
+unfolding dimensionAt
+g-none p s = (refl, omega arith, λ i xs. seen-none i xs ∙ sym (further-nowhere p), λ a m. holds-none a m)
 
 abbrev pub joined : (n : ℕ) → Spots → Spots → Spots
 joined n f g = λ i xs. orElse (f i xs) (further n (g i xs))
@@ -50,25 +56,31 @@ pub seen-joined : (p n : ℕ) (f g : Spots) (ps qs : List Placed) (i : ℕ) (xs 
 seen-joined p n f g ps qs i xs a b =
     seen-append i xs ps qs ∙ ap₂ orElse a (b ∙ sym (further-twice p n (g i xs))) ∙ sym (further-or p (f i xs) (further n (g i xs)))
 
-g-also : (p n m : ℕ) (s : Slots) (f g : Spots) (ps : List Placed) (o : Laid) → ((i : ℕ) (xs : List ℕ) → seen i xs ps ≡ further p (f i xs)) → Goes (p + n) m s g o
-    → Goes p (n + m) s (joined n f g) (also ps o)
-g-also p n m s f g ps (laid qs t q) h k = (k .0, omega (arith, k .1), λ i xs. seen-joined p n f g ps qs i xs (h i xs) (k .2 i xs))
-g-also p n m s f g ps (stopped qs x) h k = k
+g-also : (p n m : ℕ) (s : Slots) (f g : Spots) (ps : List Placed) (o : Laid) → ((i : ℕ) (xs : List ℕ) → seen i xs ps ≡ further p (f i xs))
+    → ((a l : ℕ) → holdsDimension ps a l ≡ dimensionAt 0 p n a l) → Goes 0 (p + n) m s g o → Goes 0 p (n + m) s (joined n f g) (also ps o)
+unfolding dimensionAt
+g-also p n m s f g ps (laid qs t q) h j k = (
+  k .0,
+  omega (arith, k .1),
+  λ i xs. seen-joined p n f g ps qs i xs (h i xs) (k .2 i xs),
+  λ a l. holds-append a l ps qs ∙ ap₂ _||_ (j a l) (k .3 a l),
+)
+g-also p n m s f g ps (stopped qs x) h j k = k
 
-g-then : (p n m : ℕ) (s : Slots) (f g : Spots) (o : Laid) (h : Slots → ℕ → Laid) → Goes p n s f o → Goes (p + n) m s g (h s (p + n))
-    → Goes p (n + m) s (joined n f g) (andThen o h)
+g-then : (p n m : ℕ) (s : Slots) (f g : Spots) (o : Laid) (h : Slots → ℕ → Laid) → Goes 0 p n s f o → Goes 0 (p + n) m s g (h s (p + n))
+    → Goes 0 p (n + m) s (joined n f g) (andThen o h)
 unfolding andThen
 g-then p n m s f g (laid ps t q) h k j =
-    subst⁻¹ (λ (t : Slots). Goes p (n + m) s (joined n f g) (also ps (h t q))) (k .0)
-    (subst⁻¹ (λ (q : ℕ). Goes p (n + m) s (joined n f g) (also ps (h s q))) (k .1) (g-also p n m s f g ps (h s (p + n)) (k .2) j))
+    subst⁻¹ (λ (t : Slots). Goes 0 p (n + m) s (joined n f g) (also ps (h t q))) (k .0)
+    (subst⁻¹ (λ (q : ℕ). Goes 0 p (n + m) s (joined n f g) (also ps (h s q))) (k .1) (g-also p n m s f g ps (h s (p + n)) (k .2) (k .3) j))
 g-then p n m s f g (stopped ps x) h k j = k
 
-g-pick : (p n : ℕ) (s : Slots) (f : Spots) (b : Bool) (o q : Laid) → Goes p n s f o → Goes p n s f q → Goes p n s f (cond b o q)
+g-pick : (p n : ℕ) (s : Slots) (f : Spots) (b : Bool) (o q : Laid) → Goes 0 p n s f o → Goes 0 p n s f q → Goes 0 p n s f (cond b o q)
 g-pick p n s f true o q j k = j
 g-pick p n s f false o q j k = k
 
 -- whatever size is asked of each element
-g-sized : (i w p n : ℕ) (s : Slots) (f : Spots) (o : Laid) → Goes p n s f o → Goes p n s f (ofSize i w p o)
+g-sized : (i w p n : ℕ) (s : Slots) (f : Spots) (o : Laid) → Goes 0 p n s f o → Goes 0 p n s f (ofSize i w p o)
 unfolding ofSize
 g-sized i w p n s f (laid ps t q) h = g-pick p n s f (eqb (q - p) w) (laid ps t q) (stopped [] (unequalElements i)) h tt
 g-sized i w p n s f (stopped ps x) h = h
@@ -93,8 +105,8 @@ module _ (subs : List ℕ) where
   round f = λ i xs. past subs (f i) xs
 
   -- elements of an array, each w octets long
-  g-repeated : (element : ℕ → Slots → ℕ → Laid) (w : ℕ) (s : Slots) (f : Spots) → ((j p : ℕ) → Goes p w s (λ i xs. past (subs ++ (j ∷ [])) (f i) xs) (element j s p))
-      → (i v c j p : ℕ) → Goes p (c * w) s (round (λ i xs. someSpot j c w (f i) xs)) (repeated element i v c j s p)
+  g-repeated : (element : ℕ → Slots → ℕ → Laid) (w : ℕ) (s : Slots) (f : Spots) → ((j p : ℕ) → Goes 0 p w s (λ i xs. past (subs ++ (j ∷ [])) (f i) xs) (element j s p))
+      → (i v c j p : ℕ) → Goes 0 p (c * w) s (round (λ i xs. someSpot j c w (f i) xs)) (repeated element i v c j s p)
   unfolding repeated
   g-repeated element w s f h i v zero j p =
       g-as p 0 (0 * w) s (λ i xs. Nowhere) _ (laid [] s p) (omega arith)
@@ -109,20 +121,20 @@ module _ (subs : List ℕ) where
       (g-then p w (c * w) s _ _ (ofSize i v p (element j s p)) (repeated element i v c (j + 1)) (g-sized i v p w s _ (element j s p) (h j p))
       (g-repeated element w s f h i v c (j + 1) (p + w)))
 
-  pub g-array : (element : ℕ → Slots → ℕ → Laid) (w : ℕ) (s : Slots) (f : Spots) → ((j p : ℕ) → Goes p w s (λ i xs. past (subs ++ (j ∷ [])) (f i) xs) (element j s p))
-      → (i v c p : ℕ) → Goes p (c * w) s (round (λ i xs. arraySpot c w (f i) xs)) (repeated element i v c 0 s p)
+  pub g-array : (element : ℕ → Slots → ℕ → Laid) (w : ℕ) (s : Slots) (f : Spots) → ((j p : ℕ) → Goes 0 p w s (λ i xs. past (subs ++ (j ∷ [])) (f i) xs) (element j s p))
+      → (i v c p : ℕ) → Goes 0 p (c * w) s (round (λ i xs. arraySpot c w (f i) xs)) (repeated element i v c 0 s p)
   g-array element w s f h i v c p =
       g-as p (c * w) (c * w) s (round (λ i xs. someSpot 0 c w (f i) xs)) _ (repeated element i v c 0 s p) refl
       (λ i xs. past-as subs (someSpot 0 c w (f i)) (arraySpot c w (f i)) xs (λ ys. some-all c w (f i) ys)) (g-repeated element w s f h i v c 0 p)
 
 -- one element
-pub g-placed : (j k : ℕ) (subs : List ℕ) (s : Slots) (p n : ℕ) → Goes p n s (λ i xs. past subs (λ ys. leafSpot j i ys n) xs) (placed j k subs s p n)
+pub g-placed : (j k : ℕ) (subs : List ℕ) (s : Slots) (p n : ℕ) → Goes k p n s (λ i xs. past subs (λ ys. leafSpot j i ys n) xs) (placed j k subs s p n)
 unfolding placed
-g-placed j k subs s p n = (refl, refl, λ i xs. seen-one j k subs p n i xs)
+g-placed j k subs s p n = (refl, refl, λ i xs. seen-one j k subs p n i xs, λ a m. holds-one a m _)
 
 -- either body
-chosen : (subs : List ℕ) (p : ℕ) (s : Slots) (b : Bool) (n m : ℕ) (f g : ℕ → List ℕ → Spot) (o q : Laid) → Goes p n s (round subs f) o → Goes p m s (round subs g) q
-    → Goes p (cond b n m) s (round subs (λ i xs. cond b (f i xs) (g i xs))) (cond b o q)
+chosen : (subs : List ℕ) (p : ℕ) (s : Slots) (b : Bool) (n m : ℕ) (f g : ℕ → List ℕ → Spot) (o q : Laid) → Goes 0 p n s (round subs f) o → Goes 0 p m s (round subs g) q
+    → Goes 0 p (cond b n m) s (round subs (λ i xs. cond b (f i xs) (g i xs))) (cond b o q)
 chosen subs p s true n m f g o q j k = j
 chosen subs p s false n m f g o q j k = k
 
@@ -130,7 +142,7 @@ mutual
   unfolding layBody FitBody bodySize bodySpot inImage setSlot
 
   pub g-body : (b : Body) (img subs : List ℕ) (s : Slots) (v : Numbers) (p : ℕ) → Numbered s v → FitBody true b
-      → Goes p (bodySize b v) s (λ i xs. past subs (λ ys. bodySpot b v i ys) xs) (layBody b img true subs s p)
+      → Goes 0 p (bodySize b v) s (λ i xs. past subs (λ ys. bodySpot b v i ys) xs) (layBody b img true subs s p)
   g-body done img subs s v p a h = g-as p 0 0 s (λ i xs. Nowhere) _ (laid [] s p) refl (λ i xs. sym (past-nowhere subs xs)) (g-none p s)
   g-body (more n b) img subs s v p a h =
       g-as p (itemSize n v + bodySize b v) _ s _ _ (andThen (layNode n img true subs s p) (λ t q. layBody b img true subs t q)) refl
@@ -140,17 +152,17 @@ mutual
       (g-node n img subs s v p a (h .0)) (g-body b img subs s v (p + itemSize n v) a (h .1)))
 
   pub g-node : (n : Node) (img subs : List ℕ) (s : Slots) (v : Numbers) (p : ℕ) → Numbered s v → FitNode true n
-      → Goes p (itemSize n v) s (λ i xs. past subs (λ ys. itemSpot n v i ys) xs) (layNode n img true subs s p)
+      → Goes 0 p (itemSize n v) s (λ i xs. past subs (λ ys. itemSpot n v i ys) xs) (layNode n img true subs s p)
   g-node (uint j o k) img subs s v p a h = rw (h refl) (g-placed j 0 subs s p o)
   g-node (block j o) img subs s v p a h = g-placed j 0 subs s p o
   g-node (set j r u) img subs s v p a h =
-      reads (Goes p (setOctets u (value v r)) s (λ i xs. past subs (λ ys. leafSpot j i ys (setOctets u (value v r))) xs)) s v r j _ a tt tt
+      reads (Goes 0 p (setOctets u (value v r)) s (λ i xs. past subs (λ ys. leafSpot j i ys (setOctets u (value v r))) xs)) s v r j _ a tt tt
       (g-placed j 0 subs s p (setOctets u (value v r)))
   g-node (array j r b) img subs s v p a h =
-      reads (Goes p (value v r * bodySize b v) s (λ i xs. past subs (arraySpot (value v r) (bodySize b v) (λ ys. bodySpot b v i ys)) xs)) s v r j _ a tt tt
+      reads (Goes 0 p (value v r * bodySize b v) s (λ i xs. past subs (arraySpot (value v r) (bodySize b v) (λ ys. bodySpot b v i ys)) xs)) s v r j _ a tt tt
       (g-array subs (λ j t q. layBody b img true (subs ++ (j ∷ [])) t q) (bodySize b v) s (λ i ys. bodySpot b v i ys)
       (λ j q. g-body b img (subs ++ (j ∷ [])) s v q a h) j _ (value v r) p)
   g-node (choice j r y f) img subs s v p a h =
-      reads (Goes p (cond (eqb (value v r) 0) (bodySize f v) (bodySize y v)) s (λ i xs. past subs (λ ys. cond (eqb (value v r) 0) (bodySpot f v i ys) (bodySpot y v i ys)) xs)) s v r j _ a tt tt
+      reads (Goes 0 p (cond (eqb (value v r) 0) (bodySize f v) (bodySize y v)) s (λ i xs. past subs (λ ys. cond (eqb (value v r) 0) (bodySpot f v i ys) (bodySpot y v i ys)) xs)) s v r j _ a tt tt
       (chosen subs p s (eqb (value v r) 0) _ _ (λ i ys. bodySpot f v i ys) (λ i ys. bodySpot y v i ys) _ _ (g-body f img subs s v p a (h .1)) (g-body y img subs s v p a (h .0)))
   g-node (stray j) img subs s v p a h = absurd h

@@ -4,6 +4,7 @@ pub mod Nested
 pub mod Bodies
 pub mod Tops
 pub mod Spots
+pub mod Dimensions
 pub mod InArray
 pub mod Inside
 pub mod Whole
@@ -16,3 +17,9 @@ pub mod Apart
 pub mod Rising
 pub mod Names
 pub mod Made
+pub mod Kept
+pub mod Own
+pub mod First
+pub mod Among
+pub mod Opened
+pub mod Found

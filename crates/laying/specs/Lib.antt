@@ -1,8 +1,11 @@
 pub mod Sizes
 pub mod Sound
 pub mod Slots
+pub mod Dimensions
 pub mod Tree
 pub mod Outcomes
 pub mod Cover
 pub mod Every
 pub mod Names
+pub mod Kept
+pub mod Own

@@ -3,4 +3,3 @@ pub mod PutLaws
 pub mod OctetLaws
 pub mod ReadLaws
 pub mod AnswerLaws
-pub mod Fits

@@ -10,8 +10,13 @@ use lib.Seq.{take-suc, take-all, length-take-le}
 use Rattle.words.specs.Put.{laid, IsPut}
 use Rattle.words.specs.Number.{decimalText}
 use Rattle.words.proofs.NumberLaws.{text-short}
+use Rattle.words.specs.Hex.{hexText}
+use Rattle.words.proofs.HexLaws.{text-short as hex-short}
 use Rattle.words.proofs.PutLaws.{put, put-next, put-then}
-use Rattle.lines.specs.Answer.{spacedText, numbersText, numbersLine}
+use Rattle.meaning.specs.declared.Verdict.{Verdict}
+use Rattle.meaning.specs.Refusals.{verdictValues}
+use Rattle.replies.proofs.Laws.{verdict-three}
+use Rattle.lines.specs.Answer.{spacedText, numbersText, numbersLine, octetsLine, writtenLine, noForm, Replied}
 
 -- one number more at the end
 spaced-more : (xs : List ℕ) (n : ℕ) → spacedText (xs ++ (n ∷ [])) ≡ spacedText xs ++ (32 ∷ decimalText n)
@@ -67,6 +72,11 @@ pub spaced-all : {out : List ℕ} {at : ℕ} {numbers now : List ℕ} {to i : �
 spaced-all {numbers = numbers} {i = i} s h = rw (take-all i numbers h) at (s .is)
 
 -- THE REPLIES
+-- a line of no form
+pub no-form-put : {out later : List ℕ} {r : ℕ} → 2 ≤ length out → IsPut out 0 noForm later r → Replied out noForm later r
+unfolding noForm
+no-form-put h p = record { room = omega arith; put = p }
+
 first : (numbers : List ℕ) → 1 ≤ length numbers → decimalText (getD numbers 0 0) ++ spacedText (drop 1 numbers) ≡ numbersText numbers
 unfolding numbersText
 first [] h = absurd (not-suc-le-zero h)
@@ -92,6 +102,46 @@ module _ {out now : List ℕ} {at : ℕ} (numbers : List ℕ) (some : 1 ≤ leng
 
 -- and the line feed
 pub line-put : {out now later : List ℕ} {at next : ℕ} (numbers : List ℕ) → 21 * length numbers + 1 ≤ length out
-    → IsPut out 0 (numbersText numbers) now at → IsPut now at (10 ∷ []) later next → IsPut out 0 (numbersLine numbers) later next
+    → IsPut out 0 (numbersText numbers) now at → IsPut now at (10 ∷ []) later next → Replied out (numbersLine numbers) later next
 unfolding numbersLine
-line-put numbers h p q = put-then p q (omega (arith, numbers-short numbers))
+line-put numbers h p q =
+    record {
+      room = omega (arith, length-append (numbersText numbers) (10 ∷ []), numbers-short numbers);
+      put = put-then p q (omega (arith, numbers-short numbers));
+    }
+
+-- octets in hex, and the line feed
+octets-short : (octets : List ℕ) → length (octetsLine octets) ≤ 2 * length octets + 2
+unfolding octetsLine
+octets-short octets = omega (arith, length-append (hexText octets) (10 ∷ []), hex-short octets)
+
+pub hex-put : {out now later : List ℕ} {at behind next : ℕ} (octets : List ℕ) → at + 2 * length octets + 2 ≤ length out
+    → IsPut out at (hexText octets) now behind → IsPut now behind (10 ∷ []) later next → IsPut out at (octetsLine octets) later next
+unfolding octetsLine
+hex-put octets h p q = put-then p q (omega (arith, hex-short octets))
+
+pub part-put : {out later : List ℕ} {next : ℕ} (octets : List ℕ) → 2 * length octets + 2 ≤ length out → IsPut out 0 (octetsLine octets) later next
+    → Replied out (octetsLine octets) later next
+part-put octets h p = record { room = omega (arith, octets-short octets); put = p }
+
+-- a verdict's three numbers are put, then a space: there is room for the image
+verdict-short : (v : Verdict) → length (numbersText (verdictValues v)) ≤ 63
+verdict-short v = omega (arith, numbers-short (verdictValues v), verdict-three v)
+
+module _ {out now : List ℕ} {at : ℕ} (v : Verdict) (image : List ℕ) (room : 2 * length image + 66 ≤ length out)
+    (p : IsPut out 0 (numbersText (verdictValues v)) now at) {spaced : List ℕ} {behind : ℕ} (q : IsPut now at (32 ∷ []) spaced behind) where
+  pub image-room : length now ≡ length out → length spaced ≡ length now → behind + 2 * length image + 2 ≤ length spaced
+  image-room l k =
+      let s : length (numbersText (verdictValues v)) ≤ 63 = verdict-short v in
+      let e : at ≡ 0 + length (numbersText (verdictValues v)) = put-next p (omega arith) in
+      omega (arith, put-next q (omega arith))
+
+  pub written-put : {later : List ℕ} {next : ℕ} → IsPut spaced behind (octetsLine image) later next → Replied out (writtenLine v image) later next
+  unfolding writtenLine
+  written-put r =
+      let s : length (numbersText (verdictValues v)) ≤ 63 = verdict-short v in
+      let o : length (octetsLine image) ≤ 2 * length image + 2 = octets-short image in
+      record {
+        room = omega (arith, length-append (numbersText (verdictValues v)) (32 ∷ octetsLine image));
+        put = rw append-assoc at (put-then (put-then p q (omega arith)) r (omega (arith, length-append (numbersText (verdictValues v)) (32 ∷ []))));
+      }

@@ -1,15 +1,19 @@
 -- The reply to a line: docs/LINES.md, question by question. Octets are ASCII: a space is 32, a line feed 10, `?` 63. Assumes nothing.
-use Prim.Native.Nat.{ℕ, _+_, _≤_}
+use Prim.Native.Nat.{ℕ, _+_, _*_, _≤_}
 use mathlib.Core.Bool.{Bool, true, _&&_}
 use mathlib.Core.List.{List, [], _∷_, _++_}
 use lib.ListN.{length, getD, replicate}
 use Rattle.meaning.specs.Basics.{if_then_else_, _=?_, _<?_}
 use Rattle.meaning.specs.declared.ElementName.{ElementName}
-use Rattle.meaning.specs.Refusals.{verdictValues, totalValues, placeValues, totalReply, tableReply, whereReply}
+use Rattle.meaning.specs.declared.Verdict.{Verdict}
+use Rattle.offsets.specs.declared.TableOffset.{TableOffset}
+use Rattle.meaning.specs.Refusals.{verdictValues, totalValues, placeValues, numberValues, totalReply, tableReply, whereReply, tableOctets, elementOctets, numberReply}
+use Rattle.meaning.specs.Refusals.{writeRangeReply, writeRangeImage, writeOctetsReply, writeOctetsImage, writeNumberReply, writeNumberImage}
 use Rattle.meaning.specs.Description.{soundness}
 use Rattle.words.specs.Number.{isNumber, valueOf, decimalText}
-use Rattle.words.specs.Hex.{areOctets, octetsOf}
+use Rattle.words.specs.Hex.{areOctets, octetsOf, hexText}
 use Rattle.words.specs.Line.{lineWords, isName}
+use Rattle.words.specs.Put.{IsPut}
 
 -- TEXTS
 -- numbers, each behind a space
@@ -25,6 +29,14 @@ numbersText (n ∷ rest) = decimalText n ++ spacedText rest
 -- a reply of numbers alone, with the line feed that ends it
 unfoldable pub numbersLine : List ℕ → List ℕ
 numbersLine numbers = numbersText numbers ++ 10 ∷ []
+
+-- a reply of octets alone
+unfoldable pub octetsLine : List ℕ → List ℕ
+octetsLine octets = hexText octets ++ 10 ∷ []
+
+-- a write's reply: the verdict's numbers, and the image after the call
+unfoldable pub writtenLine : Verdict → (image : List ℕ) → List ℕ
+writtenLine v image = numbersText (verdictValues v) ++ 32 ∷ octetsLine image
 
 -- the reply to a line of no form: `?`
 unfoldable pub noForm : List ℕ
@@ -48,6 +60,10 @@ numbersIn words from (m ∷ most) = valueOf (nth words from) ∷ numbersIn words
 -- `mfr num`, from word 3 on
 abbrev pub tableLimits : List ℕ
 tableLimits = 1 ∷ 65535 ∷ []
+
+-- `mfr num offset`, from word 3 on
+abbrev pub rangeLimits : List ℕ
+rangeLimits = 1 ∷ 65535 ∷ 18446744073709551615 ∷ []
 
 -- `S`, from word 3 on: `item n s0 s1 s2 s3`
 abbrev pub elementLimits : List ℕ
@@ -75,17 +91,57 @@ layoutText d m = numbersLine (totalValues (totalReply d m))
 abbrev pub tableName : List ℕ
 tableName = 116 ∷ 97 ∷ 98 ∷ 108 ∷ 101 ∷ []
 
-unfoldable pub tableText : List (List ℕ) → (d m : List ℕ) → List ℕ
-tableText words d m =
-    if areNumbers words 3 tableLimits then numbersLine (placeValues (tableReply d m (valueOf (nth words 3)) (valueOf (nth words 4)))) else noForm
+unfoldable pub tableText : (d m : List ℕ) → (mfr num : ℕ) → List ℕ
+tableText d m mfr num = numbersLine (placeValues (tableReply d m mfr num))
+
+-- `tablepart D M mfr num`
+abbrev pub tablepartName : List ℕ
+tablepartName = 116 ∷ 97 ∷ 98 ∷ 108 ∷ 101 ∷ 112 ∷ 97 ∷ 114 ∷ 116 ∷ []
+
+unfoldable pub tablepartText : (d m : List ℕ) → (mfr num : ℕ) → List ℕ
+tablepartText d m mfr num = octetsLine (tableOctets d m mfr num)
 
 -- `where D M S`
 abbrev pub whereName : List ℕ
 whereName = 119 ∷ 104 ∷ 101 ∷ 114 ∷ 101 ∷ []
 
-unfoldable pub whereText : List (List ℕ) → (d m : List ℕ) → List ℕ
-whereText words d m =
-    if areNumbers words 3 elementLimits then numbersLine (placeValues (whereReply d m (elementOf (numbersIn words 3 elementLimits)))) else noForm
+unfoldable pub whereText : (d m : List ℕ) → ElementName → List ℕ
+whereText d m element = numbersLine (placeValues (whereReply d m element))
+
+-- `octets D M S`
+abbrev pub octetsName : List ℕ
+octetsName = 111 ∷ 99 ∷ 116 ∷ 101 ∷ 116 ∷ 115 ∷ []
+
+unfoldable pub octetsText : (d m : List ℕ) → ElementName → List ℕ
+octetsText d m element = octetsLine (elementOctets d m element)
+
+-- `number D M S`
+abbrev pub numberName : List ℕ
+numberName = 110 ∷ 117 ∷ 109 ∷ 98 ∷ 101 ∷ 114 ∷ []
+
+unfoldable pub numberText : (d m : List ℕ) → ElementName → List ℕ
+numberText d m element = numbersLine (numberValues (numberReply d m element))
+
+-- `writerange D M mfr num offset DATA`
+abbrev pub writerangeName : List ℕ
+writerangeName = 119 ∷ 114 ∷ 105 ∷ 116 ∷ 101 ∷ 114 ∷ 97 ∷ 110 ∷ 103 ∷ 101 ∷ []
+
+unfoldable pub writerangeText : (d m : List ℕ) → (mfr num : ℕ) → TableOffset → (data′ : List ℕ) → List ℕ
+writerangeText d m mfr num offset new = writtenLine (writeRangeReply d m mfr num offset new) (writeRangeImage d m mfr num offset new)
+
+-- `writeoctets D M S DATA`
+abbrev pub writeoctetsName : List ℕ
+writeoctetsName = 119 ∷ 114 ∷ 105 ∷ 116 ∷ 101 ∷ 111 ∷ 99 ∷ 116 ∷ 101 ∷ 116 ∷ 115 ∷ []
+
+unfoldable pub writeoctetsText : (d m : List ℕ) → ElementName → (data′ : List ℕ) → List ℕ
+writeoctetsText d m element new = writtenLine (writeOctetsReply d m element new) (writeOctetsImage d m element new)
+
+-- `writenumber D M S value`
+abbrev pub writenumberName : List ℕ
+writenumberName = 119 ∷ 114 ∷ 105 ∷ 116 ∷ 101 ∷ 110 ∷ 117 ∷ 109 ∷ 98 ∷ 101 ∷ 114 ∷ []
+
+unfoldable pub writenumberText : (d m : List ℕ) → ElementName → (value : ℕ) → List ℕ
+writenumberText d m element value = writtenLine (writeNumberReply d m element value) (writeNumberImage d m element value)
 
 -- WHICH QUESTION IS ASKED: by the number of words, then by the first of them
 unfoldable pub twoWords : List (List ℕ) → List ℕ
@@ -94,19 +150,64 @@ twoWords words = if isName (nth words 0) checkName then checkText (nth words 1) 
 unfoldable pub threeWords : List (List ℕ) → (d m : List ℕ) → List ℕ
 threeWords words d m = if isName (nth words 0) layoutName then layoutText d m else noForm
 
-unfoldable pub fiveWords : List (List ℕ) → (d m : List ℕ) → List ℕ
-fiveWords words d m = if isName (nth words 0) tableName then tableText words d m else noForm
+-- of a table
+unfoldable pub tableWords : (name : List ℕ) → (d m : List ℕ) → (mfr num : ℕ) → List ℕ
+tableWords name d m mfr num =
+    if isName name tableName then tableText d m mfr num
+    else if isName name tablepartName then tablepartText d m mfr num
+    else noForm
 
-unfoldable pub nineWords : List (List ℕ) → (d m : List ℕ) → List ℕ
-nineWords words d m = if isName (nth words 0) whereName then whereText words d m else noForm
+unfoldable pub fiveWords : List (List ℕ) → (d m : List ℕ) → List ℕ
+fiveWords words d m = if areNumbers words 3 tableLimits then tableWords (nth words 0) d m (valueOf (nth words 3)) (valueOf (nth words 4)) else noForm
+
+-- a range of a table, with the octets to be written in word 6
+unfoldable pub rangeWords : List (List ℕ) → (d m : List ℕ) → List ℕ
+rangeWords words d m =
+    if areNumbers words 3 rangeLimits && areOctets (nth words 6)
+    then writerangeText d m (valueOf (nth words 3)) (valueOf (nth words 4)) (record { 0 = valueOf (nth words 5) }) (octetsOf (nth words 6))
+    else noForm
+
+unfoldable pub sevenWords : List (List ℕ) → (d m : List ℕ) → List ℕ
+sevenWords words d m = if isName (nth words 0) writerangeName then rangeWords words d m else noForm
+
+-- of an element
+unfoldable pub elementWords : (name : List ℕ) → (d m : List ℕ) → ElementName → List ℕ
+elementWords name d m element =
+    if isName name whereName then whereText d m element
+    else if isName name octetsName then octetsText d m element
+    else if isName name numberName then numberText d m element
+    else noForm
+
+-- what is to be written to an element: octets, or a number
+unfoldable pub octetsWritten : (word : List ℕ) → (d m : List ℕ) → ElementName → List ℕ
+octetsWritten word d m element = if areOctets word then writeoctetsText d m element (octetsOf word) else noForm
+
+unfoldable pub numberWritten : (word : List ℕ) → (d m : List ℕ) → ElementName → List ℕ
+numberWritten word d m element = if isNumber word 18446744073709551615 then writenumberText d m element (valueOf word) else noForm
+
+unfoldable pub writeWords : (name word : List ℕ) → (d m : List ℕ) → ElementName → List ℕ
+writeWords name word d m element =
+    if isName name writeoctetsName then octetsWritten word d m element
+    else if isName name writenumberName then numberWritten word d m element
+    else noForm
+
+-- an element is named the same way in all of them
+unfoldable pub withElement : List (List ℕ) → (d m : List ℕ) → ElementName → List ℕ
+withElement words d m element =
+    if length words =? 9 then elementWords (nth words 0) d m element
+    else if length words =? 10 then writeWords (nth words 0) (nth words 9) d m element
+    else noForm
+
+unfoldable pub elementQuestions : List (List ℕ) → (d m : List ℕ) → List ℕ
+elementQuestions words d m = if areNumbers words 3 elementLimits then withElement words d m (elementOf (numbersIn words 3 elementLimits)) else noForm
 
 -- the questions about an image, by the octets of D and M
 unfoldable pub imageWords : List (List ℕ) → (d m : List ℕ) → List ℕ
 imageWords words d m =
     if length words =? 3 then threeWords words d m
     else if length words =? 5 then fiveWords words d m
-    else if length words =? 9 then nineWords words d m
-    else noForm
+    else if length words =? 7 then sevenWords words d m
+    else elementQuestions words d m
 
 -- all of them have D and M behind the name
 unfoldable pub bothGiven : List (List ℕ) → Bool
@@ -122,8 +223,18 @@ answerWords words = if length words =? 2 then twoWords words else withImage word
 unfoldable pub answerText : List ℕ → List ℕ
 answerText line = if 300000 <? length line then noForm else answerWords (lineWords line)
 
--- MEMORY that the program lends itself: room for any reply, and for the octets of a description and of an image in a line that is taken
-pub record Memory (out description image : List ℕ) : Type 0 where
-  pub reply : 131200 ≤ length out
+-- MEMORY that the program lends itself: room for any reply, for the octets of a description, an image and data in a line that is taken. The longest
+-- reply is an image in hex behind a refusal's three numbers, or five numbers: 20 digits each, and what stands between
+abbrev pub roomFor : (image : List ℕ) → ℕ
+roomFor image = 2 * length image + 110
+
+pub record Memory (out description image given : List ℕ) : Type 0 where
+  pub reply : roomFor image ≤ length out
   pub items : 150000 ≤ length description
   pub tables : 150000 ≤ length image
+  pub new : 150000 ≤ length given
+
+-- a reply is put at the start of `out`, which has room for all of it: so none is left out
+pub record Replied (out text later : List ℕ) (r : ℕ) : Type 0 where
+  pub room : length text ≤ length out
+  pub put : IsPut out 0 text later r

@@ -32,10 +32,16 @@ fn hold(line: &mut [u8], held: usize, chunk: &[u8], from: usize, to: usize) -> u
 }
 
 // Answers a line, and whether its reply was written.
-fn give(line: &[u8], out: &mut [u8], description: &mut [u8], image: &mut [u8]) -> bool
-    requires { ⌜ Memory (now out) (now description) (now image) ⌝ }
+fn give(
+    line: &[u8],
+    out: &mut [u8],
+    description: &mut [u8],
+    image: &mut [u8],
+    given: &mut [u8],
+) -> bool
+    requires { ⌜ Memory (now out) (now description) (now image) (now given) ⌝ }
 {
-    let n = reply::answer(line, out, description, image);
+    let n = reply::answer(line, out, description, image, given);
     io::write_all(STDOUT_FILENO, &out[..n])
 }
 
@@ -48,9 +54,10 @@ fn take_lines(
     out: &mut [u8],
     description: &mut [u8],
     image: &mut [u8],
+    given: &mut [u8],
 ) -> Stand
     requires { ⌜ held ≤ length (now line) ⌝ }
-    requires { ⌜ Memory (now out) (now description) (now image) ⌝ }
+    requires { ⌜ Memory (now out) (now description) (now image) (now given) ⌝ }
     ensures { λ r. ⌜ r .held ≤ length (now (line .entry)) ⌝ }
 {
     let mut n = held;
@@ -64,7 +71,7 @@ fn take_lines(
                 going: true,
             };
         }
-        if !give(&line[..n], out, description, image) {
+        if !give(&line[..n], out, description, image, given) {
             return Stand {
                 held: 0,
                 going: false,
@@ -87,23 +94,24 @@ fn read_some(
     out: &mut [u8],
     description: &mut [u8],
     image: &mut [u8],
+    given: &mut [u8],
 ) -> Stand
     requires { ⌜ held ≤ length (now line) ⌝ }
-    requires { ⌜ Memory (now out) (now description) (now image) ⌝ }
+    requires { ⌜ Memory (now out) (now description) (now image) (now given) ⌝ }
     ensures { λ r. ⌜ r .held ≤ length (now (line .entry)) ⌝ }
 {
     let got = libc::read(STDIN_FILENO, chunk);
     let n = io::count(got, chunk);
     if n == 0 {
         if 0 < held {
-            give(&line[..held], out, description, image);
+            give(&line[..held], out, description, image, given);
         }
         return Stand {
             held: 0,
             going: false,
         };
     }
-    take_lines(&chunk[..n], line, held, out, description, image)
+    take_lines(&chunk[..n], line, held, out, description, image, given)
 }
 
 // A proved loop has to end, and nothing says that the input does. So the loop counts its turns
@@ -114,8 +122,9 @@ pub fn run(
     out: &mut [u8],
     description: &mut [u8],
     image: &mut [u8],
+    given: &mut [u8],
 )
-    requires { ⌜ Memory (now out) (now description) (now image) ⌝ }
+    requires { ⌜ Memory (now out) (now description) (now image) (now given) ⌝ }
 {
     let mut stand = Stand {
         held: 0,
@@ -124,7 +133,7 @@ pub fn run(
     let mut turns = u64::MAX;
     while turns > 0 {
         let held = stand.held;
-        stand = read_some(chunk, line, held, out, description, image);
+        stand = read_some(chunk, line, held, out, description, image, given);
         if !stand.going {
             return;
         }

@@ -8,12 +8,14 @@ mod reply;
 
 // The longest line that is taken, and one octet more, by which a longer line is told.
 const LINE: usize = 300001;
-// The longest reply: an image of 65,540 octets in hex, a refusal's three numbers, a line feed.
-const REPLY: usize = 131200;
+// The longest reply: an image as long as it can be, in hex, behind a refusal's three numbers.
+const REPLY: usize = 300110;
 // The octets of a description: no line that is taken has hex digits for more.
 const DESCRIPTION: usize = 150000;
 // The octets of an image, likewise.
 const IMAGE: usize = 150000;
+// The octets to be written, likewise.
+const GIVEN: usize = 150000;
 
 fn main() {
     let mut chunk = io::large_buffer();
@@ -21,11 +23,13 @@ fn main() {
     let mut out = [0u8; REPLY];
     let mut description = [0u8; DESCRIPTION];
     let mut image = [0u8; IMAGE];
+    let mut given = [0u8; GIVEN];
     input::run(
         &mut chunk,
         &mut line,
         &mut out,
         &mut description,
         &mut image,
+        &mut given,
     );
 }

@@ -1,14 +1,16 @@
 // Replies, put together at the start of out.
+use meaning::Verdict;
 ghost use mathlib.Core.List.{_∷_};
 ghost use Prim.Native.Nat.{_+_, _*_, _≤_};
 ghost use lib.ListN.{length};
 ghost use Rattle.words.specs.Put.{IsPut};
 ghost use Rattle.words.specs.Number.{decimalText};
-ghost use Rattle.lines.specs.Answer.{noForm, spacedText, numbersText, numbersLine};
+ghost use Rattle.lines.specs.Answer.{noForm, spacedText, numbersText, numbersLine, octetsLine, writtenLine, Replied};
 
 // The reply to a line of no form.
 pub fn no_form(out: &mut [u8]) -> usize
-    ensures { λ r. ⌜ IsPut (now (out .entry)) 0 noForm (now (out .exit)) r ⌝ }
+    requires { ⌜ 2 ≤ length (now out) ⌝ }
+    ensures { λ r. ⌜ Replied (now (out .entry)) noForm (now (out .exit)) r ⌝ }
 {
     words::put_text(out, 0, b"?\n")
 }
@@ -50,8 +52,36 @@ fn put_numbers(out: &mut [u8], numbers: &[u64]) -> usize
 pub fn put_line(out: &mut [u8], numbers: &[u64]) -> usize
     requires { ⌜ 1 ≤ length (now numbers) ⌝ }
     requires { ⌜ 21 * length (now numbers) + 1 ≤ length (now out) ⌝ }
-    ensures { λ r. ⌜ IsPut (now (out .entry)) 0 (numbersLine (now (numbers .entry))) (now (out .exit)) r ⌝ }
+    ensures { λ r. ⌜ Replied (now (out .entry)) (numbersLine (now (numbers .entry))) (now (out .exit)) r ⌝ }
 {
     let at = put_numbers(out, numbers);
     words::put_octet(out, at, b'\n')
+}
+
+// Octets in hex, and the line feed.
+fn put_hex(out: &mut [u8], at: usize, octets: &[u8]) -> usize
+    requires { ⌜ at + 2 * length (now octets) + 2 ≤ length (now out) ⌝ }
+    ensures { λ r. ⌜ IsPut (now (out .entry)) at (octetsLine (now (octets .entry))) (now (out .exit)) r ⌝ }
+{
+    let behind = words::put_octets(out, at, octets);
+    words::put_octet(out, behind, b'\n')
+}
+
+// A reply of octets alone.
+pub fn put_part(out: &mut [u8], octets: &[u8]) -> usize
+    requires { ⌜ 2 * length (now octets) + 2 ≤ length (now out) ⌝ }
+    ensures { λ r. ⌜ Replied (now (out .entry)) (octetsLine (now (octets .entry))) (now (out .exit)) r ⌝ }
+{
+    put_hex(out, 0, octets)
+}
+
+// A write's reply: its verdict, and the image after the call.
+pub fn put_written(out: &mut [u8], verdict: Verdict, image: &[u8]) -> usize
+    requires { ⌜ 2 * length (now image) + 66 ≤ length (now out) ⌝ }
+    ensures { λ r. ⌜ Replied (now (out .entry)) (writtenLine verdict (now (image .entry))) (now (out .exit)) r ⌝ }
+{
+    let values = replies::verdict_values(verdict);
+    let at = put_numbers(out, &values);
+    let behind = words::put_octet(out, at, b' ');
+    put_hex(out, behind, image)
 }

@@ -1,28 +1,20 @@
-// The questions, a function each: from a question's words to its reply. D and M are handed over as
-// octets, but for `check`.
+// The questions, a function each: from what is asked to its reply.
 use crate::put;
-use crate::read;
+use meaning::ElementName;
+use offsets::TableOffset;
 use words::Octets;
-use words::Words;
-ghost use mathlib.Core.Path.{_≡_};
 ghost use Prim.Native.Nat.{_≤_};
 ghost use lib.ListN.{length};
-ghost use Rattle.words.specs.Put.{IsPut};
-ghost use Rattle.words.specs.Line.{lineWords, splitOf};
-ghost use Rattle.lines.specs.Answer.{checkText, layoutText, tableText, whereText};
-
-// What a number may come to: mfr 1 and num 65,535; the six numbers of an element are not limited.
-const TABLE: [u64; 2] = [1, 65535];
-
-const ELEMENT: [u64; 6] = [u64::MAX; 6];
+ghost use Rattle.lines.specs.Answer.{checkText, layoutText, tableText, tablepartText, whereText, octetsText, numberText};
+ghost use Rattle.lines.specs.Answer.{writerangeText, writeoctetsText, writenumberText, roomFor, Replied};
 
 // `check D`. The octets of D are read into description, which has room for them: an octet is two
 // digits of the line.
 pub fn check_reply(d: &[u8], out: &mut [u8], description: &mut [u8]) -> usize
     requires { ⌜ length (now d) ≤ 300000 ⌝ }
-    requires { ⌜ 131200 ≤ length (now out) ⌝ }
+    requires { ⌜ 110 ≤ length (now out) ⌝ }
     requires { ⌜ 150000 ≤ length (now description) ⌝ }
-    ensures { λ r. ⌜ IsPut (now (out .entry)) 0 (checkText (now (d .entry))) (now (out .exit)) r ⌝ }
+    ensures { λ r. ⌜ Replied (now (out .entry)) (checkText (now (d .entry))) (now (out .exit)) r ⌝ }
 {
     let read = words::octets(d, description);
     match read {
@@ -34,39 +26,101 @@ pub fn check_reply(d: &[u8], out: &mut [u8], description: &mut [u8]) -> usize
     }
 }
 
-// `layout D M`.
+// `layout D M`, D and M being these octets, here and in all that follow.
 pub fn layout_reply(d: &[u8], m: &[u8], out: &mut [u8]) -> usize
-    requires { ⌜ 131200 ≤ length (now out) ⌝ }
-    ensures { λ r. ⌜ IsPut (now (out .entry)) 0 (layoutText (now (d .entry)) (now (m .entry))) (now (out .exit)) r ⌝ }
+    requires { ⌜ roomFor (now m) ≤ length (now out) ⌝ }
+    ensures { λ r. ⌜ Replied (now (out .entry)) (layoutText (now (d .entry)) (now (m .entry))) (now (out .exit)) r ⌝ }
 {
     let values = replies::total_values(places::total(d, m));
     put::put_line(out, &values)
 }
 
 // `table D M mfr num`.
-pub fn table_reply(line: &[u8], split: Words, d: &[u8], m: &[u8], out: &mut [u8]) -> usize
-    requires { ⌜ split ≡ splitOf (now line) ⌝ }
-    requires { ⌜ 131200 ≤ length (now out) ⌝ }
-    ensures { λ r. ⌜ IsPut (now (out .entry)) 0 (tableText (lineWords (now (line .entry))) (now (d .entry)) (now (m .entry))) (now (out .exit)) r ⌝ }
+pub fn table_reply(d: &[u8], m: &[u8], mfr: u32, num: u32, out: &mut [u8]) -> usize
+    requires { ⌜ roomFor (now m) ≤ length (now out) ⌝ }
+    ensures { λ r. ⌜ Replied (now (out .entry)) (tableText (now (d .entry)) (now (m .entry)) mfr num) (now (out .exit)) r ⌝ }
 {
-    let mut asked = [0u64; 2];
-    if !read::numbers(line, split, 3, &TABLE, &mut asked) {
-        return put::no_form(out);
-    }
-    let values = replies::place_values(places::table_place(d, m, asked[0] as u32, asked[1] as u32));
+    let values = replies::place_values(places::table_place(d, m, mfr, num));
     put::put_line(out, &values)
 }
 
-// `where D M S`.
-pub fn where_reply(line: &[u8], split: Words, d: &[u8], m: &[u8], out: &mut [u8]) -> usize
-    requires { ⌜ split ≡ splitOf (now line) ⌝ }
-    requires { ⌜ 131200 ≤ length (now out) ⌝ }
-    ensures { λ r. ⌜ IsPut (now (out .entry)) 0 (whereText (lineWords (now (line .entry))) (now (d .entry)) (now (m .entry))) (now (out .exit)) r ⌝ }
+// `tablepart D M mfr num`.
+pub fn tablepart_reply(d: &[u8], m: &[u8], mfr: u32, num: u32, out: &mut [u8]) -> usize
+    requires { ⌜ roomFor (now m) ≤ length (now out) ⌝ }
+    ensures { λ r. ⌜ Replied (now (out .entry)) (tablepartText (now (d .entry)) (now (m .entry)) mfr num) (now (out .exit)) r ⌝ }
 {
-    let mut asked = [0u64; 6];
-    if !read::numbers(line, split, 3, &ELEMENT, &mut asked) {
-        return put::no_form(out);
-    }
-    let values = replies::place_values(places::element_place(d, m, read::element(asked)));
+    put::put_part(out, access::table_part(d, m, mfr, num))
+}
+
+// `where D M S`.
+pub fn where_reply(d: &[u8], m: &[u8], element: ElementName, out: &mut [u8]) -> usize
+    requires { ⌜ roomFor (now m) ≤ length (now out) ⌝ }
+    ensures { λ r. ⌜ Replied (now (out .entry)) (whereText (now (d .entry)) (now (m .entry)) element) (now (out .exit)) r ⌝ }
+{
+    let values = replies::place_values(places::element_place(d, m, element));
     put::put_line(out, &values)
+}
+
+// `octets D M S`.
+pub fn octets_reply(d: &[u8], m: &[u8], element: ElementName, out: &mut [u8]) -> usize
+    requires { ⌜ roomFor (now m) ≤ length (now out) ⌝ }
+    ensures { λ r. ⌜ Replied (now (out .entry)) (octetsText (now (d .entry)) (now (m .entry)) element) (now (out .exit)) r ⌝ }
+{
+    put::put_part(out, access::element_part(d, m, element))
+}
+
+// `number D M S`.
+pub fn number_reply(d: &[u8], m: &[u8], element: ElementName, out: &mut [u8]) -> usize
+    requires { ⌜ roomFor (now m) ≤ length (now out) ⌝ }
+    ensures { λ r. ⌜ Replied (now (out .entry)) (numberText (now (d .entry)) (now (m .entry)) element) (now (out .exit)) r ⌝ }
+{
+    let values = replies::number_values(access::element_number(d, m, element));
+    put::put_line(out, &values)
+}
+
+// `writerange D M mfr num offset DATA`, DATA being `given`.
+pub fn writerange_reply(
+    d: &[u8],
+    m: &mut [u8],
+    mfr: u32,
+    num: u32,
+    offset: TableOffset,
+    given: &[u8],
+    out: &mut [u8],
+) -> usize
+    requires { ⌜ roomFor (now m) ≤ length (now out) ⌝ }
+    ensures { λ r. ⌜ Replied (now (out .entry)) (writerangeText (now (d .entry)) (now (m .entry)) mfr num offset (now (given .entry))) (now (out .exit)) r ⌝ }
+{
+    let verdict = access::write_range(d, m, mfr, num, offset, given);
+    put::put_written(out, verdict, m)
+}
+
+// `writeoctets D M S DATA`.
+pub fn writeoctets_reply(
+    d: &[u8],
+    m: &mut [u8],
+    element: ElementName,
+    given: &[u8],
+    out: &mut [u8],
+) -> usize
+    requires { ⌜ roomFor (now m) ≤ length (now out) ⌝ }
+    ensures { λ r. ⌜ Replied (now (out .entry)) (writeoctetsText (now (d .entry)) (now (m .entry)) element (now (given .entry))) (now (out .exit)) r ⌝ }
+{
+    let verdict = access::write_octets(d, m, element, given);
+    put::put_written(out, verdict, m)
+}
+
+// `writenumber D M S value`.
+pub fn writenumber_reply(
+    d: &[u8],
+    m: &mut [u8],
+    element: ElementName,
+    value: u64,
+    out: &mut [u8],
+) -> usize
+    requires { ⌜ roomFor (now m) ≤ length (now out) ⌝ }
+    ensures { λ r. ⌜ Replied (now (out .entry)) (writenumberText (now (d .entry)) (now (m .entry)) element value) (now (out .exit)) r ⌝ }
+{
+    let verdict = access::write_number(d, m, element, value);
+    put::put_written(out, verdict, m)
 }

@@ -7,3 +7,5 @@ pub mod Rules
 pub mod Nesting
 pub mod Given
 pub mod Passed
+pub mod Splices
+pub mod Octets

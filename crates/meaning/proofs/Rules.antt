@@ -78,11 +78,13 @@ bodies (If r y n) h = refl
 bodies Malformed h = absurd (h refl)
 
 -- AN ITEM THAT BREAKS NO RULE
-either-false : (a b : Bool) → (a || b) ≡ false → (a ≡ false) × (b ≡ false)
+-- a test of which one side or the other would do fails: both fail
+pub either-false : (a b : Bool) → (a || b) ≡ false → (a ≡ false) × (b ≡ false)
 either-false true b e = absurd (true≢false e)
 either-false false b e = (refl, e)
 
-both-false : (a b : Bool) → (a && b) ≡ false → a ≡ true → b ≡ false
+-- one of which both sides have to hold fails where one holds: the other fails
+pub both-false : (a b : Bool) → (a && b) ≡ false → a ≡ true → b ≡ false
 both-false true b e h = e
 both-false false b e h = absurd (true≢false (sym h))
 

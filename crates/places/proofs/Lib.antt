@@ -1,6 +1,5 @@
 pub mod Laws
 pub mod Sizes
-pub mod Numbers
 pub mod Pieces
 pub mod Walks
 pub mod Through

@@ -1,18 +1,20 @@
 -- One piece of a walk, a leaf or a whole ARRAY: it ends inside the image, or the walk is short there; and so it is in laying out. Assumes nothing.
-use Prim.Native.Nat.{ℕ, zero, suc, _+_, _<_, _≤_}
-use mathlib.Core.Path.{_≡_, refl, _∙_, ap, sym, subst, subst⁻¹}
-use mathlib.Core.Bool.{Bool, true, false, cond}
+use Prim.Native.Nat.{ℕ, zero, suc, _+_, _-_, _<_, _≤_, min, max}
+use mathlib.Core.Path.{_≡_, refl, _∙_, ap, sym, subst⁻¹}
+use mathlib.Core.Bool.{Bool, true, false, cond, _&&_, _||_}
 use mathlib.Core.List.{List}
 use lib.ListN.{length, getD, set}
-use lib.Dec.{eqb, leb}
+use lib.Dec.{eqb, leb, ltb}
 use lib.Seq.{getD-set-same, getD-set-other}
-use borrow.Author.Tests.{eqb-true, eqb-false, ne-eqb, le-leb, lt-leb, leb-true, leb-false}
+use borrow.Author.Tests.{eqb-true, eqb-false, ne-eqb, le-leb, lt-leb, leb-true, leb-false, ltb-true, ltb-false, lt-ltb}
 use native.Mathlib.Omega.{arith}
 use Rattle.meaning.specs.Layout.{Placed, Slots, holds, setSlot, unreadDimension, bitOutside, unequalElements, short, noItem, Laid, laid, stopped, inImage, numberAt}
+use Rattle.meaning.specs.Refusals.{holdsDimension}
 use Rattle.laying.specs.declared.Spot.{Spot}
 use Rattle.laying.specs.declared.Spot.the-variants.{Nowhere, At}
 use Rattle.laying.specs.Sizes.{orElse, further, seen}
 use Rattle.laying.specs.Slots.{numberOf, Numbered}
+use Rattle.laying.specs.Dimensions.{dimensionAt}
 use Rattle.laying.proofs.Spots.{further-or, further-twice}
 use Rattle.laying.proofs.InArray.{Spots, Goes}
 use Rattle.laying.proofs.Inside.{Within}
@@ -22,6 +24,39 @@ use Rattle.places.specs.declared.Aim.{Aim}
 use Rattle.places.specs.Parts.{numbersIn, cut, cutSpot, cutFurther, leftOf, SpanAs}
 use Rattle.places.specs.Walking.{place, noted, pastPiece, shortHere, stepOf, Small, Ends}
 
+-- A DIMENSION'S OCTETS
+-- two tests are one, where they come to it
+two-tests : (a b c d x y : ℕ) → (a < b → c < d → x < y) → (x < y → (a < b) × (c < d)) → (ltb a b && ltb c d) ≡ ltb x y
+two-tests a b c d x y on off = go (ltb a b) refl (ltb c d) refl
+  where
+    neither : (t : Bool) → ltb x y ≡ t → (x < y → ⊥) → false ≡ t
+    neither true e clash = absurd (clash (ltb-true x y e))
+    neither false e clash = refl
+
+    go : (t : Bool) → ltb a b ≡ t → (u : Bool) → ltb c d ≡ u → (t && u) ≡ ltb x y
+    go true e true f = sym (lt-ltb x y (on (ltb-true a b e) (ltb-true c d f)))
+    go true e false f = neither (ltb x y) refl (λ h. omega (arith, off h .1, ltb-false c d f))
+    go false e u f = neither (ltb x y) refl (λ h. omega (arith, off h .0, ltb-false a b e))
+
+-- what stands at q, m octets long, for n octets at p
+module _ (k q m p n : ℕ) where
+  pub dimension-none : k ≡ 0 → false ≡ dimensionAt k q m p n
+  unfolding dimensionAt
+  dimension-none e = rw e
+
+  pub dimension-later : (k ≡ 0 → ⊥) → p < q → (ltb 0 m && ltb (q - p) n) ≡ dimensionAt k q m p n
+  unfolding dimensionAt
+  dimension-later ne h =
+      let z : 0 < k = omega (arith, ne) in
+      rw (lt-ltb 0 k z) (two-tests 0 m (q - p) n (max p q) (min (p + n) (q + m)) (λ a b. omega arith) (λ a. (omega arith, omega arith)))
+
+  pub dimension-earlier : (k ≡ 0 → ⊥) → q ≤ p → (ltb 0 n && ltb (p - q) m) ≡ dimensionAt k q m p n
+  unfolding dimensionAt
+  dimension-earlier ne h =
+      let z : 0 < k = omega (arith, ne) in
+      rw (lt-ltb 0 k z) (two-tests 0 n (p - q) m (max p q) (min (p + n) (q + m)) (λ a b. omega arith) (λ a. (omega arith, omega arith)))
+
+-- A PIECE
 module _ (img : List ℕ) (a : Aim) (w : Walk) (piece : Span) (k next : ℕ) where
   -- it ends inside the image, or not
   pub step-case : (P : Walk → Type 0) → (place a w + piece .size ≤ length img → P (pastPiece img a w piece k next)) → (length img < place a w + piece .size → P (shortHere w))
@@ -33,11 +68,11 @@ module _ (img : List ℕ) (a : Aim) (w : Walk) (piece : Span) (k next : ℕ) whe
       go true e = on (leb-true _ _ e)
       go false e = off (leb-false _ _ e)
 
-  pub step-on : (h : ℕ) (numbers : List ℕ) (spot : Spot) → place a w + piece .size ≤ length img → h ≡ place a w → numbers ≡ noted img (w .numbers) k h (piece .size)
-      → spot ≡ orElse (w .spot) (cutFurther (w .octets) (piece .spot))
-      → record { numbers = numbers; octets = w .octets + piece .size; spot = spot; next = next; short = false } ≡ stepOf img a w piece k next
+  pub step-on : (h : ℕ) (numbers : List ℕ) (spot : Spot) (held : Bool) → place a w + piece .size ≤ length img → h ≡ place a w → numbers ≡ noted img (w .numbers) k h (piece .size)
+      → spot ≡ orElse (w .found .spot) (cutFurther (w .octets) (piece .spot)) → held ≡ (w .found .held || dimensionAt k h (piece .size) (a .from .0) (a .octets))
+      → record { numbers = numbers; octets = w .octets + piece .size; found = record { spot = spot; held = held }; next = next; short = false } ≡ stepOf img a w piece k next
   unfolding stepOf
-  step-on h numbers spot le e n s = rw (le-leb _ _ le, n, s, e)
+  step-on h numbers spot held le e n s d = rw (le-leb _ _ le, n, s, d, e)
 
   pub step-short : length img < place a w + piece .size → shortHere w ≡ stepOf img a w piece k next
   unfolding stepOf
@@ -76,17 +111,17 @@ noted-numbers img numbers s (suc k) p n h a =
 -- THE SAME PIECE IN LAYING OUT: o goes n octets from here on, and leaves slots whose numbers the walk then has
 module _ (img : List ℕ) (a : Aim) (w : Walk) (piece : Span) (k next n : ℕ) (spot : Spot) (small : length img ≤ 65535) (said : SpanAs piece n spot) (inside : Within spot n) where
   ends-off : (j p : ℕ) (ps : List Placed) (s : Slots) → w .next ≡ j → p ≡ place a w → length img < place a w + piece .size
-      → Ends a (w .spot) (shortHere w) (inImage false (length img) j p (laid ps s (p + n)))
+      → Ends a (w .found) (shortHere w) (inImage false (length img) j p (laid ps s (p + n)))
   unfolding inImage
   ends-off j p ps s e h lt =
       let l : length img < p + n = omega (arith, said .size-is) in
       rw (lt-leb (p + n) (length img) l) (refl, e, sym h)
 
   ends-on : (j p : ℕ) (ps : List Placed) (t : Slots) (f : Spots) → p ≡ place a w → f (a .name .item) (leftOf (a .name) 0) ≡ spot
-      → ((i : ℕ) (xs : List ℕ) → seen i xs ps ≡ further p (f i xs)) → Numbered t (numbersIn (noted img (w .numbers) k (place a w) n))
-      → place a w + piece .size ≤ length img → Ends a (w .spot) (pastPiece img a w piece k next) (inImage false (length img) j p (laid ps t (p + n)))
+      → ((i : ℕ) (xs : List ℕ) → seen i xs ps ≡ further p (f i xs)) → ((x m : ℕ) → holdsDimension ps x m ≡ dimensionAt k p n x m)
+      → Numbered t (numbersIn (noted img (w .numbers) k (place a w) n)) → place a w + piece .size ≤ length img → Ends a (w .found) (pastPiece img a w piece k next) (inImage false (length img) j p (laid ps t (p + n)))
   unfolding inImage
-  ends-on j p ps t f h fs sees numbers le =
+  ends-on j p ps t f h fs sees dims numbers le =
       let z : piece .size ≡ n = omega (arith, said .size-is) in
       let l : p + n ≤ length img = omega arith in
       let u : cutFurther (w .octets) (piece .spot) ≡ further (w .octets) spot = ap (cutFurther (w .octets)) (said .spot-is) ∙ uncut (w .octets) n spot (omega arith) inside in
@@ -94,18 +129,21 @@ module _ (img : List ℕ) (a : Aim) (w : Walk) (piece : Span) (k next n : ℕ) (
         refl,
         omega arith,
         numbers,
-        further-or (a .start .0) (w .spot) (further (w .octets) spot)
-            ∙ ap (orElse (further (a .start .0) (w .spot))) (further-twice (a .start .0) (w .octets) spot ∙ rw (← h, ← fs) (sym (sees (a .name .item) (leftOf (a .name) 0)))),
+        record {
+          spot = further-or (a .start .0) (w .found .spot) (further (w .octets) spot)
+              ∙ ap (orElse (further (a .start .0) (w .found .spot))) (further-twice (a .start .0) (w .octets) spot ∙ rw (← h, ← fs) (sym (sees (a .name .item) (leftOf (a .name) 0))));
+          held = ap (λ (x : Bool). w .found .held || x) (rw (← h) (sym (dims (a .from .0) (a .octets))));
+        },
       )
 
-  pub piece-ends : (j p : ℕ) (t : Slots) (f : Spots) (o : Laid) → w .next ≡ j → p ≡ place a w → f (a .name .item) (leftOf (a .name) 0) ≡ spot → Goes p n t f o
-      → Numbered t (numbersIn (noted img (w .numbers) k (place a w) n)) → Ends a (w .spot) (stepOf img a w piece k next) (inImage false (length img) j p o)
+  pub piece-ends : (j p : ℕ) (t : Slots) (f : Spots) (o : Laid) → w .next ≡ j → p ≡ place a w → f (a .name .item) (leftOf (a .name) 0) ≡ spot → Goes k p n t f o
+      → Numbered t (numbersIn (noted img (w .numbers) k (place a w) n)) → Ends a (w .found) (stepOf img a w piece k next) (inImage false (length img) j p o)
   unfolding inImage
   piece-ends j p t f (laid ps s q) e h fs g numbers =
-      subst⁻¹ (λ (s : Slots). Ends a (w .spot) (stepOf img a w piece k next) (inImage false (length img) j p (laid ps s q))) (g .0)
-      (subst⁻¹ (λ (q : ℕ). Ends a (w .spot) (stepOf img a w piece k next) (inImage false (length img) j p (laid ps t q))) (g .1)
-      (step-case img a w piece k next (λ (r : Walk). Ends a (w .spot) r (inImage false (length img) j p (laid ps t (p + n))))
-      (ends-on j p ps t f h fs (g .2) numbers) (ends-off j p ps t e h)))
+      subst⁻¹ (λ (s : Slots). Ends a (w .found) (stepOf img a w piece k next) (inImage false (length img) j p (laid ps s q))) (g .0)
+      (subst⁻¹ (λ (q : ℕ). Ends a (w .found) (stepOf img a w piece k next) (inImage false (length img) j p (laid ps t q))) (g .1)
+      (step-case img a w piece k next (λ (r : Walk). Ends a (w .found) r (inImage false (length img) j p (laid ps t (p + n))))
+      (ends-on j p ps t f h fs (g .2) (g .3) numbers) (ends-off j p ps t e h)))
   piece-ends j p t f (stopped ps (unreadDimension i)) e h fs g numbers = tt
   piece-ends j p t f (stopped ps (bitOutside i)) e h fs g numbers = tt
   piece-ends j p t f (stopped ps (unequalElements i)) e h fs g numbers = tt

@@ -1,26 +1,27 @@
 -- The tables laid one after another: what is laid and what is left come to the whole image, at the start, after each table and at the end. Assumes nothing.
 use Prim.Native.Nat.{ℕ, zero, suc, _+_, _-_, _<_, _≤_, min}
 use mathlib.Core.Path.{_≡_, refl, _∙_, ap, ap₂, sym, subst, subst⁻¹}
-use mathlib.Core.Bool.{Bool, true, false, cond, _&&_, false≢true}
-use mathlib.Core.List.{List, [], _∷_, _++_, append-assoc}
+use mathlib.Core.Bool.{Bool, true, false, cond, _&&_, _||_, false≢true}
+use mathlib.Core.List.{List, [], _∷_, _++_, append-assoc, append-nil}
 use mathlib.Core.Option.{Option, some, none}
 use lib.ListN.{length, getD, replicate}
 use lib.Dec.{eqb, leb}
-use borrow.Author.Tests.{leb-true, lt-ltb, le-ltb}
+use borrow.Author.Tests.{leb-true, le-leb, lt-ltb, le-ltb}
 use native.Mathlib.Omega.{arith}
+use Rattle.meaning.specs.declared.ElementName.{ElementName}
 use Rattle.meaning.specs.declared.Item.{Item}
 use Rattle.meaning.specs.declared.Item.the-variants.{Table, Uint, Block, Set, Array, If, Malformed}
 use Rattle.meaning.specs.declared.Place.{Place}
 use Rattle.meaning.specs.declared.Refusal.{Refusal}
 use Rattle.meaning.specs.declared.Verdict.{Verdict}
-use Rattle.meaning.specs.Description.{itemCount, itemAt, soundness}
+use Rattle.meaning.specs.Description.{itemCount, itemAt, fieldsOf, fieldsAt, soundness}
 use Rattle.meaning.specs.Passed.{Passes}
-use Rattle.meaning.specs.Layout.{Body, Tables, noMore, table, strayTable, Placed, Seat, Slots, unread, Laid, laid, stopped, Stop, unreadDimension, bitOutside, unequalElements, short, noItem, Layout, laidOut, stoppedAt, before, seated, layBody, layTables, layout, treeOf, tablesOf, tableAt, tabled, bodyAt, tableNamed}
+use Rattle.meaning.specs.Layout.{Body, Tables, noMore, table, strayTable, Placed, Seat, Slots, unread, Laid, laid, stopped, Stop, unreadDimension, bitOutside, unequalElements, short, noItem, Layout, laidOut, stoppedAt, before, seated, layBody, layTables, layout, treeOf, tablesOf, tableAt, tabled, bodyAt, elementNamed, tableNamed}
 use Rattle.meaning.proofs.Passed.{passed-laws}
-use Rattle.meaning.specs.Refusals.{refused, stopRefusal, openLaid, openSound, openImage}
+use Rattle.meaning.specs.Refusals.{refused, stopRefusal, openLaid, openSound, openImage, elementIn, elementPlace, holdsDimension}
 use Rattle.laying.specs.declared.Spot.{Spot}
 use Rattle.laying.specs.declared.Spot.the-variants.{Nowhere, At}
-use Rattle.laying.specs.Sizes.{orElse, further, seen}
+use Rattle.laying.specs.Sizes.{orElse, further, spotOf, seen}
 use Rattle.laying.specs.Sound.{FitTables}
 use Rattle.laying.specs.Slots.{numberOf, Numbered}
 use Rattle.laying.specs.Outcomes.{Lays}
@@ -28,16 +29,21 @@ use Rattle.laying.proofs.Steps.{tables-none, tables-step}
 use Rattle.laying.proofs.Fit.{sound-fit}
 use Rattle.laying.proofs.Tops.{passed-sound}
 use Rattle.laying.proofs.Lays.{passed-lays}
-use Rattle.laying.proofs.Spots.{or-nowhere, seen-none, seen-append}
+use Rattle.laying.proofs.Spots.{seen-none, seen-append}
+use Rattle.laying.proofs.Dimensions.{holds-none, holds-append}
+use Rattle.offsets.specs.declared.TableStart.{TableStart}
 use Rattle.places.specs.declared.Asked.{Asked}
+use Rattle.places.specs.declared.TableFound.the-variants.{No, Yes}
 use Rattle.places.specs.declared.Survey.{Survey}
 use Rattle.places.specs.declared.Answer.{Answer}
-use Rattle.places.specs.declared.Heading.{Heading}
+use Rattle.meaning.specs.declared.Fields.{Fields}
+use Rattle.places.specs.declared.Found.{Found}
 use Rattle.places.specs.declared.Walk.{Walk}
 use Rattle.places.specs.declared.Aim.{Aim}
 use Rattle.places.specs.Parts.{numbersIn, leftOf}
 use Rattle.places.specs.Walking.{Small, Ends, WalkBodyReady, WalksBody}
-use Rattle.places.specs.Surveying.{headingOf, seatIn, inTable, firstFound, placeAt, seatSpot, seatSeen, beforeAll, Surveyed, TableReady, verdictOf, TableAs, refusedBy, AnswerAs}
+use Rattle.places.specs.Opening.{tableFound, refusedBy, answerTo}
+use Rattle.places.specs.Surveying.{seatIn, firstTable, inTable, firstFound, placeAt, beforeAll, Surveyed, TableReady, verdictOf, TableAs}
 
 -- WHERE THINGS ARE
 pub found-is : (r : Refusal) (x : Spot) (p : ℕ) (s : Spot) → p ≤ 65535 → Small s → firstFound (placeAt r x) p s ≡ placeAt r (orElse x (further p s))
@@ -46,38 +52,35 @@ found-is r (At o n) p s h k = refl
 found-is r Nowhere p Nowhere h k = refl
 found-is r Nowhere p (At o n) h k = let e : min (p + o) 18446744073709551615 ≡ p + o = omega arith in rw e
 
+-- as the replies have it
+element-is : (q : ElementName) (es : List Placed) → q .count ≤ 4 → placeAt Refusal.NoElement (seen (q .item) (leftOf q 0) es) ≡ elementPlace (elementIn q es)
+unfolding elementIn leftOf placeAt spotOf elementPlace
+element-is q es h = rw (le-leb (q .count) 4 h) (go (elementNamed (q .item) (leftOf q 0) es))
+  where
+    go : (e : Option Placed) → placeAt Refusal.NoElement (spotOf e) ≡ elementPlace e
+    go none = refl
+    go (some e) = refl
+
 -- tables one after another
-seat-append : (m k : ℕ) (ts us : List Seat) → seatSeen m k (ts ++ us) ≡ orElse (seatSeen m k ts) (seatSeen m k us)
-unfolding tableNamed seatSpot orElse
+seat-append : (m k : ℕ) (ts us : List Seat) → tableFound (tableNamed m k (ts ++ us)) ≡ firstTable (tableFound (tableNamed m k ts)) (tableFound (tableNamed m k us))
+unfolding tableNamed tableFound firstTable
 seat-append m k [] us = refl
 seat-append m k (t ∷ ts) us = go (eqb (t .manufacturer) m && eqb (t .number) k) (seat-append m k ts us)
   where
-    go : (b : Bool) → seatSeen m k (ts ++ us) ≡ orElse (seatSeen m k ts) (seatSeen m k us)
-        → seatSpot (cond b (some t) (tableNamed m k (ts ++ us))) ≡ orElse (seatSpot (cond b (some t) (tableNamed m k ts))) (seatSeen m k us)
+    go : (b : Bool) → tableFound (tableNamed m k (ts ++ us)) ≡ firstTable (tableFound (tableNamed m k ts)) (tableFound (tableNamed m k us))
+        → tableFound (cond b (some t) (tableNamed m k (ts ++ us))) ≡ firstTable (tableFound (cond b (some t) (tableNamed m k ts))) (tableFound (tableNamed m k us))
     go true h = refl
     go false h = h
 
-seat-none : (m k : ℕ) → seatSeen m k [] ≡ Nowhere
-unfolding tableNamed seatSpot
-seat-none m k = refl
-
 -- the table asked for
-seat-one : (q : Asked) (h : Heading) (i p n : ℕ)
-    → seatSeen (q .manufacturer) (q .number) (record { item = i; manufacturer = h .manufacturer; number = h .number; start = p; size = n } ∷ []) ≡ further p (seatIn h q n)
-unfolding tableNamed seatSpot seatIn further
-seat-one q h i p n = go (eqb (h .manufacturer) (q .manufacturer) && eqb (h .number) (q .number))
+seat-one : (q : Asked) (h : Fields) (i n : ℕ) (s : TableStart)
+    → tableFound (tableNamed (q .manufacturer) (q .number) (record { item = i; manufacturer = h .manufacturer; number = h .number; start = s .0; size = n } ∷ [])) ≡ seatIn h q i s n
+unfolding tableNamed tableFound seatIn
+seat-one q h i n s = go (eqb (h .manufacturer) (q .manufacturer) && eqb (h .number) (q .number))
   where
-    go : (b : Bool) → seatSpot (cond {A = Option Seat} b (some (record { item = i; manufacturer = h .manufacturer; number = h .number; start = p; size = n })) none) ≡ further p (cond b (At 0 n) Nowhere)
-    go true = let e : p + 0 ≡ p = omega arith in rw e
+    go : (b : Bool) → tableFound (cond {A = Option Seat} b (some (record { item = i; manufacturer = h .manufacturer; number = h .number; start = s .0; size = n })) none) ≡ cond b (Yes i s n) No
+    go true = refl
     go false = refl
-
-pub seat-small : (h : Heading) (q : Asked) (n : ℕ) → Small (seatIn h q n)
-unfolding seatIn
-seat-small h q n = go (eqb (h .manufacturer) (q .manufacturer) && eqb (h .number) (q .number))
-  where
-    go : (b : Bool) → Small (cond b (At 0 n) Nowhere)
-    go true = omega arith
-    go false = tt
 
 -- WHAT WAS LAID BEFORE, THEN THE REST
 before-one : (ts : List Seat) (ps : List Placed) (t : Seat) (qs : List Placed) (o : Layout) → beforeAll ts ps (before t qs o) ≡ beforeAll (ts ++ (t ∷ [])) (ps ++ qs) o
@@ -92,12 +95,12 @@ before-none (stoppedAt qs x) = refl
 
 -- THE FIRST OF THE TABLES LEFT
 pub record TableThere (d : List ℕ) (it : Item) (at n : ℕ) (rest : Tables) : Type 0 where
-  pub few : headingOf it .items ≤ n
-  pub used : tabled it n ≡ headingOf it .items
-  pub is : tableAt d it at n rest ≡ table at (headingOf it .manufacturer) (headingOf it .number) (bodyAt 4 d (at + 1) (headingOf it .items)) rest
+  pub few : fieldsOf it .first ≤ n
+  pub used : tabled it n ≡ fieldsOf it .first
+  pub is : tableAt d it at n rest ≡ table at (fieldsOf it .manufacturer) (fieldsOf it .number) (bodyAt 4 d (at + 1) (fieldsOf it .first)) rest
 
 table-there : (d : List ℕ) (it : Item) (at n : ℕ) (rest : Tables) → FitTables (tableAt d it at n rest) → TableThere d it at n rest
-unfolding tableAt tabled headingOf FitTables
+unfolding tableAt tabled fieldsOf FitTables
 table-there d (Table m k w c) at n rest f = go (leb c n) refl f
   where
     go : (b : Bool) → leb c n ≡ b → FitTables (cond b (table at m k (bodyAt 4 d (at + 1) c) rest) (strayTable at)) → TableThere d (Table m k w c) at n rest
@@ -121,11 +124,12 @@ pub set-out : (d img : List ℕ) (q : Asked) (p : ℕ) → p ≡ 0 → Passes d
       numbers = replicate 64 0;
       start = record { 0 = p };
       next = 0;
-      table = Place.Refused Refusal.NoTable;
+      table = No;
       element = Place.Refused Refusal.NoElement;
+      held = false;
       verdict = Verdict.Passed;
     })
-unfolding layout treeOf numberOf placeAt tableNamed seatSpot
+unfolding layout treeOf numberOf placeAt tableNamed tableFound
 set-out d img q p e h =
     let z : itemCount d - 0 ≡ itemCount d = omega arith in
     record {
@@ -139,6 +143,7 @@ set-out d img q p e h =
       inside = omega arith;
       table = refl;
       element = ap (placeAt Refusal.NoElement) (sym (seen-none (q .name .item) (leftOf (q .name) 0)));
+      held = sym (holds-none (q .from .0) (q .octets));
     }
 
 -- ONE TABLE MORE
@@ -151,7 +156,7 @@ abbrev refusalOf : Verdict → Refusal
 refusalOf Verdict.Passed = Refusal.NoTable
 refusalOf (Verdict.Refused r) = r
 
-module _ (d img : List ℕ) (q : Asked) (s : Survey) (ready : TableReady d img q s) (h : Heading) (hd : h ≡ headingOf (itemAt d (s .next))) where
+module _ (d img : List ℕ) (q : Asked) (s : Survey) (ready : TableReady d img q s) (h : Fields) (hd : h ≡ fieldsAt d (s .next)) where
   abbrev g : Surveyed d img q s
   g = ready .surveyed
 
@@ -162,7 +167,7 @@ module _ (d img : List ℕ) (q : Asked) (s : Survey) (ready : TableReady d img q
   rest = tablesOf d (n - tabled (itemAt d (s .next)) n) 0 (s .next + 1 + tabled (itemAt d (s .next)) n)
 
   abbrev body : Body
-  body = bodyAt 4 d (s .next + 1) (h .items)
+  body = bodyAt 4 d (s .next + 1) (h .first)
 
   split : tablesOf d (itemCount d - s .next) 0 (s .next) ≡ tableAt d (itemAt d (s .next)) (s .next) n rest
   split = let e : itemCount d - s .next ≡ suc n = omega (arith, ready .more) in ap (λ (x : ℕ). tablesOf d x 0 (s .next)) e ∙ tables-step d (s .next) n
@@ -173,22 +178,25 @@ module _ (d img : List ℕ) (q : Asked) (s : Survey) (ready : TableReady d img q
   is-table : tablesOf d (itemCount d - s .next) 0 (s .next) ≡ table (s .next) (h .manufacturer) (h .number) body rest
   is-table = split ∙ there .is ∙ rw hd
 
-  few : h .items ≤ n
+  few : h .first ≤ n
   few = rw hd (there .few)
 
-  used : tabled (itemAt d (s .next)) n ≡ h .items
-  used = there .used ∙ sym (ap (λ (x : Heading). x .items) hd)
+  used : tabled (itemAt d (s .next)) n ≡ h .first
+  used = there .used ∙ sym (ap (λ (x : Fields). x .first) hd)
 
   fits : FitTables (table (s .next) (h .manufacturer) (h .number) body rest)
   fits = subst FitTables is-table (g .fit)
 
   abbrev aim : Aim
-  aim = record { start = s .start; name = q .name }
+  aim = record { start = s .start; name = q .name; from = q .from; octets = q .octets }
+
+  abbrev none-here : Found
+  none-here = record { spot = Nowhere; held = s .held }
 
   abbrev from : Walk
-  from = record { numbers = s .numbers; octets = 0; spot = Nowhere; next = s .next + 1; short = false }
+  from = record { numbers = s .numbers; octets = 0; found = none-here; next = s .next + 1; short = false }
 
-  pub table-ready : WalkBodyReady d img aim from (h .items) 4
+  pub table-ready : WalkBodyReady d img aim from (h .first) 4
   unfolding FitTables
   table-ready = record {
     ready = record {
@@ -204,19 +212,19 @@ module _ (d img : List ℕ) (q : Asked) (s : Survey) (ready : TableReady d img q
     fit = fits .0;
   }
 
-  pub table-few : s .next + 1 + h .items ≤ 512
+  pub table-few : s .next + 1 + h .first ≤ 512
   table-few = omega (arith, few, passed-laws d (ready .ready .passes) .few, ready .more)
 
   whole-is : layout d img ≡ beforeAll (g .seats) (g .elements) (seated (s .next) (h .manufacturer) (h .number) (s .start .0) (layBody body img false [] (g .slots) (s .start .0)) (λ t x. layTables rest img t x))
   unfolding layTables
   whole-is = g .whole ∙ ap (λ (x : Tables). beforeAll (g .seats) (g .elements) (layTables x img (g .slots) (s .start .0))) is-table
 
-  module _ (w : Walk) (walks : WalksBody d img aim from (h .items) 4 w) (r : Survey) (numbers : r .numbers ≡ w .numbers) (start : r .start .0 ≡ min (s .start .0 + w .octets) 18446744073709551615)
-      (next : r .next ≡ s .next + 1 + h .items) (seat : r .table ≡ firstFound (s .table) (s .start .0) (seatIn h q (w .octets))) (element : r .element ≡ firstFound (s .element) (s .start .0) (w .spot))
-      (verdict : r .verdict ≡ verdictOf (s .start .0) w) where
+  module _ (w : Walk) (walks : WalksBody d img aim from (h .first) 4 w) (r : Survey) (numbers : r .numbers ≡ w .numbers) (start : r .start .0 ≡ min (s .start .0 + w .octets) 18446744073709551615)
+      (next : r .next ≡ s .next + 1 + h .first) (seat : r .table ≡ firstTable (s .table) (seatIn h q (s .next) (s .start) (w .octets)))
+      (element : r .element ≡ firstFound (s .element) (s .start .0) (w .found .spot)) (held : r .held ≡ w .found .held) (verdict : r .verdict ≡ verdictOf (s .start .0) w) where
     -- where it starts no octet is counted twice
-    ends : Ends aim Nowhere w (layBody body img false [] (g .slots) (s .start .0))
-    ends = let z : s .start .0 + 0 ≡ s .start .0 = omega arith in subst (λ (p : ℕ). Ends aim Nowhere w (layBody body img false [] (g .slots) p)) z (walks .ends (g .slots) (g .numbered))
+    ends : Ends aim none-here w (layBody body img false [] (g .slots) (s .start .0))
+    ends = let z : s .start .0 + 0 ≡ s .start .0 = omega arith in subst (λ (p : ℕ). Ends aim none-here w (layBody body img false [] (g .slots) p)) z (walks .ends (g .slots) (g .numbered))
 
     verdict-going : w .short ≡ false → r .verdict ≡ Verdict.Passed
     unfolding verdictOf
@@ -226,7 +234,7 @@ module _ (d img : List ℕ) (q : Asked) (s : Survey) (ready : TableReady d img q
     unfolding verdictOf
     verdict-short e = let m : min (s .start .0 + w .octets) 18446744073709551615 ≡ s .start .0 + w .octets = omega (arith, walks .inside, ready .ready .small) in verdict ∙ rw (e, m)
 
-    laid-on : (ps : List Placed) (t : Slots) (x : ℕ) → Ends aim Nowhere w (laid ps t x)
+    laid-on : (ps : List Placed) (t : Slots) (x : ℕ) → Ends aim none-here w (laid ps t x)
         → layout d img ≡ beforeAll (g .seats) (g .elements) (seated (s .next) (h .manufacturer) (h .number) (s .start .0) (laid ps t x) (λ t x. layTables rest img t x)) → Surveyed d img q r
     unfolding seated FitTables orElse further
     laid-on ps t x e wh =
@@ -247,13 +255,13 @@ module _ (d img : List ℕ) (q : Asked) (s : Survey) (ready : TableReady d img q
           fit = subst FitTables same (fits .1);
           ordered = omega (arith, next, few, ready .more);
           inside = omega (arith, st, e .1, walks .inside);
-          table = seat ∙ ap (λ (y : Place). firstFound y (s .start .0) (seatIn h q (w .octets))) (g .table) ∙ found-is _ _ _ _ le (seat-small h q (w .octets))
-              ∙ ap (placeAt Refusal.NoTable) (ap (orElse (seatSeen (q .manufacturer) (q .number) (g .seats))) (rw sz (sym (seat-one q h (s .next) (s .start .0) (x - s .start .0)))) ∙ sym (seat-append _ _ (g .seats) (t0 ∷ [])));
-          element = element ∙ ap (λ (y : Place). firstFound y (s .start .0) (w .spot)) (g .element) ∙ found-is _ _ _ _ le (walks .found)
-              ∙ ap (placeAt Refusal.NoElement) (ap (orElse (seen (q .name .item) (leftOf (q .name) 0) (g .elements))) (e .3) ∙ sym (seen-append _ _ (g .elements) ps));
+          table = seat ∙ ap₂ firstTable (g .table) (rw sz (sym (seat-one q h (s .next) (x - s .start .0) (s .start)))) ∙ sym (seat-append (q .manufacturer) (q .number) (g .seats) (t0 ∷ []));
+          element = element ∙ ap (λ (y : Place). firstFound y (s .start .0) (w .found .spot)) (g .element) ∙ found-is _ _ _ _ le (walks .found)
+              ∙ ap (placeAt Refusal.NoElement) (ap (orElse (seen (q .name .item) (leftOf (q .name) 0) (g .elements))) (e .3 .spot) ∙ sym (seen-append _ _ (g .elements) ps));
+          held = held ∙ e .3 .held ∙ ap (λ (y : Bool). y || holdsDimension ps (q .from .0) (q .octets)) (g .held) ∙ sym (holds-append (q .from .0) (q .octets) (g .elements) ps);
         }
 
-    short-here : (ps : List Placed) (i x : ℕ) → Ends aim Nowhere w (stopped ps (short i x))
+    short-here : (ps : List Placed) (i x : ℕ) → Ends aim none-here w (stopped ps (short i x))
         → layout d img ≡ beforeAll (g .seats) (g .elements) (seated (s .next) (h .manufacturer) (h .number) (s .start .0) (stopped ps (short i x)) (λ t x. layTables rest img t x))
         → openLaid (layout d img) ≡ refused (refusalOf (r .verdict))
     unfolding seated beforeAll openLaid stopRefusal
@@ -269,7 +277,7 @@ module _ (d img : List ℕ) (q : Asked) (s : Survey) (ready : TableReady d img q
     unfolding Lays
     table-as = go (layBody body img false [] (g .slots) (s .start .0)) ends whole-is
       where
-        go : (o : Laid) → Ends aim Nowhere w o
+        go : (o : Laid) → Ends aim none-here w o
             → layout d img ≡ beforeAll (g .seats) (g .elements) (seated (s .next) (h .manufacturer) (h .number) (s .start .0) o (λ t x. layTables rest img t x)) → TableAs d img q s r
         go (laid ps t x) e wh = record {
           passed = λ v. (laid-on ps t x e wh, omega (arith, next));
@@ -285,31 +293,32 @@ module _ (d img : List ℕ) (q : Asked) (s : Survey) (ready : TableReady d img q
         go (stopped ps (noItem i)) e wh = absurd (never ps (noItem i) (λ l. l) wh)
 
 -- AT THE END
-pub laid-all : (d img : List ℕ) (q : Asked) (s : Survey) → Surveyed d img q s → itemCount d ≤ s .next → (r : Answer) → r .verdict ≡ Verdict.Passed → r .total ≡ s .start .0
-    → r .table ≡ s .table → r .element ≡ s .element → AnswerAs q r (openLaid (layout d img))
-unfolding layTables beforeAll openLaid
-laid-all d img q s g le r passed total seat element =
+pub laid-all : (d img : List ℕ) (q : Asked) (s : Survey) → Surveyed d img q s → itemCount d ≤ s .next → q .name .count ≤ 4 → (total : ℕ) → total ≡ s .start .0
+    → record { verdict = Verdict.Passed; total = total; table = s .table; element = s .element; held = s .held } ≡ answerTo q (openLaid (layout d img))
+unfolding layTables beforeAll openLaid answerTo
+laid-all d img q s g le h total e =
     let z : itemCount d - s .next ≡ 0 = omega arith in
-    let e : tablesOf d (itemCount d - s .next) 0 (s .next) ≡ noMore = ap (λ (x : ℕ). tablesOf d x 0 (s .next)) z ∙ tables-none d (s .next) in
-    let w : layout d img ≡ laidOut (g .seats ++ []) (g .elements ++ []) (g .slots) (s .start .0) = g .whole ∙ ap (λ (x : Tables). beforeAll (g .seats) (g .elements) (layTables x img (g .slots) (s .start .0))) e in
-    subst⁻¹ (λ (o : Layout). AnswerAs q r (openLaid o)) w
-    (record {
-      passed = passed;
-      ends = total;
-      table = seat ∙ g .table ∙ ap (placeAt Refusal.NoTable) (sym (seat-append _ _ (g .seats) [] ∙ ap (orElse _) (seat-none _ _) ∙ or-nowhere _));
-      element = element ∙ g .element ∙ ap (placeAt Refusal.NoElement) (sym (seen-append _ _ (g .elements) [] ∙ ap (orElse _) (seen-none _ _) ∙ or-nowhere _));
-    })
+    let none : tablesOf d (itemCount d - s .next) 0 (s .next) ≡ noMore = ap (λ (x : ℕ). tablesOf d x 0 (s .next)) z ∙ tables-none d (s .next) in
+    let w : layout d img ≡ laidOut (g .seats) (g .elements) (g .slots) (s .start .0) = g .whole
+    ∙ ap (λ (x : Tables). beforeAll (g .seats) (g .elements) (layTables x img (g .slots) (s .start .0))) none
+    ∙ ap₂ (λ (a : List Seat) (b : List Placed). laidOut a b (g .slots) (s .start .0)) (append-nil (g .seats)) (append-nil (g .elements)) in
+    rw (w, e, g .table, g .element, g .held, element-is (q .name) (g .elements) h)
 
 -- 1 TO 9 COME FIRST
 module _ (d img : List ℕ) (q : Asked) (r : Answer) where
-  pub opened-refused : (x : Refusal) → soundness d ≡ Verdict.Refused x → r ≡ refusedBy x → AnswerAs q r (openImage d img)
-  unfolding openImage openSound
+  pub opened-refused : (x : Refusal) → soundness d ≡ Verdict.Refused x → r ≡ refusedBy x → r ≡ answerTo q (openImage d img)
+  unfolding openImage openSound answerTo
   opened-refused x e h = rw e h
 
-  pub opened-long : soundness d ≡ Verdict.Passed → 65535 < length img → r ≡ refusedBy Refusal.ImageTooLong → AnswerAs q r (openImage d img)
-  unfolding openImage openSound
+  pub opened-long : soundness d ≡ Verdict.Passed → 65535 < length img → r ≡ refusedBy Refusal.ImageTooLong → r ≡ answerTo q (openImage d img)
+  unfolding openImage openSound answerTo
   opened-long e l h = rw (e, lt-ltb 65535 (length img) l) h
 
-  pub opened-laid : soundness d ≡ Verdict.Passed → length img ≤ 65535 → AnswerAs q r (openLaid (layout d img)) → AnswerAs q r (openImage d img)
+  pub opened-laid : soundness d ≡ Verdict.Passed → length img ≤ 65535 → r ≡ answerTo q (openLaid (layout d img)) → r ≡ answerTo q (openImage d img)
   unfolding openImage openSound
   opened-laid e l h = rw (e, le-ltb 65535 (length img) l) h
+
+  -- the refusal that laying out comes to
+  pub laid-refused : (x : Refusal) → openLaid (layout d img) ≡ refused x → r ≡ refusedBy x → r ≡ answerTo q (openLaid (layout d img))
+  unfolding answerTo
+  laid-refused x e h = rw e h

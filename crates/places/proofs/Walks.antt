@@ -24,6 +24,7 @@ use Rattle.places.specs.declared.Part.the-variants.{Leaf, Bodies}
 use Rattle.places.specs.declared.Opened.{Opened}
 use Rattle.places.specs.declared.Span.{Span}
 use Rattle.places.specs.declared.Sized.{Sized}
+use Rattle.places.specs.declared.Found.{Found}
 use Rattle.places.specs.declared.Walk.{Walk}
 use Rattle.places.specs.declared.Aim.{Aim}
 use Rattle.places.specs.Parts.{numbersIn, partOf, branchOf, leftOf, OpenedAs, SpanAs, ItemReady, ItemAs, PartAs}
@@ -34,12 +35,12 @@ use Rattle.places.proofs.Pieces.{step-case, small-or, small-cut, piece-
 -- what laying out makes of a part: a leaf is placed; a chosen body is laid; an ARRAY goes as far as its size. Each outside arrays, and each up to what a passed
 -- description never meets
 abbrev pub PartLays : (d img : List ℕ) → Node → Numbers → (at depth : ℕ) → Part → Type 0
-PartLays d img n v at k (Leaf o slot) = (a : Aim) (b : Spot) (r : Walk) (s : Slots) (p : ℕ) → Numbered s v
+PartLays d img n v at k (Leaf o slot) = (a : Aim) (b : Found) (r : Walk) (s : Slots) (p : ℕ) → Numbered s v
     → Ends a b r (inImage false (length img) at p (placed at slot [] (setSlot slot (holds o (numberAt img p o)) s) p o)) → Ends a b r (layNode n img false [] s p)
-PartLays d img n v at k (Bodies zero t from m) = (a : Aim) (b : Spot) (r : Walk) (s : Slots) (p : ℕ) → Numbered s v
+PartLays d img n v at k (Bodies zero t from m) = (a : Aim) (b : Found) (r : Walk) (s : Slots) (p : ℕ) → Numbered s v
     → Ends a b r (layBody (bodyAt (k - 1) d from m) img false [] s p) → Ends a b r (layNode n img false [] s p)
-PartLays d img n v at k (Bodies (suc e) t from m) = (a : Aim) (b : Spot) (r : Walk) (s : Slots) (p : ℕ) → Numbered s v
-    → ((o : Laid) → Goes p (itemSize n v) s (λ i xs. itemSpot n v i xs) o → Ends a b r (inImage false (length img) at p o)) → Ends a b r (layNode n img false [] s p)
+PartLays d img n v at k (Bodies (suc e) t from m) = (a : Aim) (b : Found) (r : Walk) (s : Slots) (p : ℕ) → Numbered s v
+    → ((o : Laid) → Goes 0 p (itemSize n v) s (λ i xs. itemSpot n v i xs) o → Ends a b r (inImage false (length img) at p o)) → Ends a b r (layNode n img false [] s p)
 
 module _ (d img : List ℕ) (v : Numbers) (at left k : ℕ) where
   array-lays : (r : Reference) (c : ℕ) → FitBody true (innerAt k d (at + 1) c) → PartLays d img (array at r (innerAt k d (at + 1) c)) v at k (Bodies 1 (value v r) (at + 1) c)
@@ -80,7 +81,7 @@ module _ (d img : List ℕ) (v : Numbers) (at left k : ℕ) where
   part-lays Malformed f = absurd f
 
 -- a walk that isn't short ends where it ends, whichever item is next
-ends-at : (a : Aim) (b : Spot) (r : Walk) (next : ℕ) (o : Laid) → r .short ≡ false → Ends a b r o → Ends a b (atItem r next) o
+ends-at : (a : Aim) (b : Found) (r : Walk) (next : ℕ) (o : Laid) → r .short ≡ false → Ends a b r o → Ends a b (atItem r next) o
 unfolding atItem
 ends-at a b r next (laid ps s q) e h = h
 ends-at a b r next (stopped ps (unreadDimension i)) e h = tt
@@ -114,11 +115,11 @@ module _ (d img : List ℕ) (a : Aim) (w : Walk) (left k : ℕ) (ready : WalkIte
 
   -- a piece is stepped over
   module _ (piece : Span) (slot n : ℕ) (spot : Spot) (said : SpanAs piece n spot) (inside : Within spot n) where
-    stepped : ((s : Slots) → Numbered s v → Ends a (w .spot) (stepOf img a w piece slot (w .next + 1 + o .inside)) (layNode node img false [] s (place a w)))
+    stepped : ((s : Slots) → Numbered s v → Ends a (w .found) (stepOf img a w piece slot (w .next + 1 + o .inside)) (layNode node img false [] s (place a w)))
         → WalksItem d img a w left k (stepOf img a w piece slot (w .next + 1 + o .inside))
     stepped ends = record {
       inside = step-case img a w piece slot (w .next + 1 + o .inside) (λ (r : Walk). place a r ≤ length img) (λ h. omega arith) (λ h. ready .ready .inside);
-      found = step-case img a w piece slot (w .next + 1 + o .inside) (λ (r : Walk). Small (r .spot)) (λ h. small-or (w .spot) _ (ready .ready .found) (small-cut _)) (λ h. ready .ready .found);
+      found = step-case img a w piece slot (w .next + 1 + o .inside) (λ (r : Walk). Small (r .found .spot)) (λ h. small-or (w .found .spot) _ (ready .ready .found) (small-cut _)) (λ h. ready .ready .found);
       moved = step-case img a w piece slot (w .next + 1 + o .inside) (λ (r : Walk). r .short ≡ false → r .next ≡ w .next + 1 + nested (itemAt d (w .next)) left)
           (λ h e. next-is) (λ h e. absurd (false≢true (sym e)));
       within = within-left;
@@ -143,16 +144,16 @@ module _ (d img : List ℕ) (a : Aim) (w : Walk) (left k : ℕ) (ready : WalkIte
         let p = part-said (Leaf octets slot) is in
         let inside : Within (leafSpot (w .next) (a .name .item) (leftOf (a .name) 0) octets) octets = within-leaf (w .next) (a .name .item) (leftOf (a .name) 0) octets in
         stepped piece slot octets _ said inside
-        (λ s num. part-laid (Leaf octets slot) is a (w .spot) _ s (place a w) num
+        (λ s num. part-laid (Leaf octets slot) is a (w .found) _ s (place a w) num
         (piece-ends img a w piece slot (w .next + 1 + o .inside) octets _ (ready .ready .small) said inside (w .next) (place a w) (setSlot slot (holds octets (numberAt img (place a w) octets)) s)
         (λ i xs. leafSpot (w .next) i xs octets) _ refl refl refl (g-placed (w .next) slot [] _ (place a w) octets) (noted-numbers img (w .numbers) s slot (place a w) octets h num)))
 
   module _ (e t from m : ℕ) (is : o .part ≡ Bodies e t from m) where
     laid-array : (x : ℕ) → (x ≡ 0 → ⊥) → PartLays d img node v (w .next) k (Bodies x t from m) → (r : Walk) (s : Slots) → Numbered s v
-        → ((l : Laid) → Goes (place a w) (itemSize node v) s (λ i xs. itemSpot node v i xs) l → Ends a (w .spot) r (inImage false (length img) (w .next) (place a w) l))
-        → Ends a (w .spot) r (layNode node img false [] s (place a w))
+        → ((l : Laid) → Goes 0 (place a w) (itemSize node v) s (λ i xs. itemSpot node v i xs) l → Ends a (w .found) r (inImage false (length img) (w .next) (place a w) l))
+        → Ends a (w .found) r (layNode node img false [] s (place a w))
     laid-array zero ne h r s num g = absurd (ne refl)
-    laid-array (suc x) ne h r s num g = h a (w .spot) r s (place a w) num g
+    laid-array (suc x) ne h r s num g = h a (w .found) r s (place a w) num g
 
     -- an ARRAY is measured, and stepped over whole
     pub array-ready : ItemReady d (w .next) left k (a .name) 0
@@ -200,13 +201,13 @@ module _ (d img : List ℕ) (a : Aim) (w : Walk) (left k : ℕ) (ready : WalkIte
     branch-deeper = part-said (Bodies e t from m) is .deeper
 
     module _ (chosen : e ≡ 0) (r : Walk) (walks : WalksBody d img a (atItem w from) m (k - 1) r) where
-      ends-through : (s : Slots) → Numbered s v → Ends a (w .spot) r (layNode node img false [] s (place a w))
+      ends-through : (s : Slots) → Numbered s v → Ends a (w .found) r (layNode node img false [] s (place a w))
       unfolding atItem
-      ends-through s num = subst (λ (x : ℕ). PartLays d img node v (w .next) k (Bodies x t from m)) chosen (part-laid (Bodies e t from m) is) a (w .spot) r s (place a w) num (walks .ends s num)
+      ends-through s num = subst (λ (x : ℕ). PartLays d img node v (w .next) k (Bodies x t from m)) chosen (part-laid (Bodies e t from m) is) a (w .found) r s (place a w) num (walks .ends s num)
 
       pub branch-short : r .short ≡ true → WalksItem d img a w left k r
       branch-short h = record { inside = walks .inside; found = walks .found; moved = λ g. absurd (false≢true (sym g ∙ h)); within = within-left; ends = ends-through }
 
       pub branch-walked : r .short ≡ false → WalksItem d img a w left k (atItem r (w .next + 1 + o .inside))
       unfolding atItem
-      branch-walked h = record { inside = walks .inside; found = walks .found; moved = λ g. next-is; within = within-left; ends = λ s num. ends-at a (w .spot) r (w .next + 1 + o .inside) (layNode node img false [] s (place a w)) h (ends-through s num) }
+      branch-walked h = record { inside = walks .inside; found = walks .found; moved = λ g. next-is; within = within-left; ends = λ s num. ends-at a (w .found) r (w .next + 1 + o .inside) (layNode node img false [] s (place a w)) h (ends-through s num) }

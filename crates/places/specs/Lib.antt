@@ -1,3 +1,4 @@
 pub mod Parts
 pub mod Walking
+pub mod Opening
 pub mod Surveying

@@ -1,44 +1,31 @@
 -- THE WALK OVER A TABLE: what its functions promise, by what laying out comes to. Assumes nothing.
-use Prim.Native.Nat.{ℕ, _+_, _-_, _^_, _<_, _≤_}
+use Prim.Native.Nat.{ℕ, _+_, _-_, _<_, _≤_}
 use mathlib.Core.Path.{_≡_}
-use mathlib.Core.Bool.{true, false}
+use mathlib.Core.Bool.{true, false, _||_}
 use mathlib.Core.List.{List, []}
 use lib.ListN.{length, set}
-use Rattle.meaning.specs.Basics.{if_then_else_, _=?_, _≤?_, part, leastFirst, mostFirst}
+use Rattle.meaning.specs.Basics.{if_then_else_, _=?_, _≤?_}
 use Rattle.meaning.specs.Description.{itemCount, itemAt}
-use Rattle.meaning.specs.Layout.{Slots, unreadDimension, bitOutside, unequalElements, short, noItem, Laid, laid, stopped, layBody, layNode, numberAt, nested, bodyAt}
+use Rattle.meaning.specs.Layout.{Placed, Slots, unreadDimension, bitOutside, unequalElements, short, noItem, Laid, laid, stopped, layBody, layNode, numberAt, nested, bodyAt}
+use Rattle.meaning.specs.Refusals.{holdsDimension}
 use Rattle.laying.specs.declared.Spot.{Spot}
 use Rattle.laying.specs.declared.Spot.the-variants.{Nowhere, At}
 use Rattle.laying.specs.Sizes.{orElse, further, seen}
 use Rattle.laying.specs.Sound.{FitBody, FitNode}
 use Rattle.laying.specs.Slots.{Numbered}
+use Rattle.laying.specs.Dimensions.{dimensionAt}
 use Rattle.laying.specs.Tree.{nodeAt}
 use Rattle.places.specs.declared.Span.{Span}
+use Rattle.places.specs.declared.Found.{Found}
 use Rattle.places.specs.declared.Walk.{Walk}
 use Rattle.places.specs.declared.Aim.{Aim}
 use Rattle.places.specs.Parts.{numbersIn, cutFurther, leftOf, NameReady}
 
 -- READING A DIMENSION
--- octets that can be read: 1 to 4 of them, inside the image
+-- at most 4 octets, inside the image
 pub record Readable (img : List ℕ) (p n : ℕ) : Type 0 where
-  pub some : 0 < n
   pub few : n ≤ 4
   pub inside : p + n ≤ length img
-  pub small : length img ≤ 65535
-
--- which of n octets is the i-th most significant: DATA_ORDER 0 is least significant octet first
-unfoldable pub placeOf : (order n i : ℕ) → ℕ
-placeOf order n i = if order =? 0 then n - 1 - i else i
-
--- the number of the i most significant of n octets at p
-unfoldable pub counted : (image : List ℕ) → (order p n i : ℕ) → ℕ
-counted img order p n i = if order =? 0 then leastFirst (part img (p + (n - i)) i) else mostFirst (part img p i)
-
-pub record Counting (img : List ℕ) (order p n i number : ℕ) : Type 0 where
-  pub readable : Readable img p n
-  pub within : i ≤ n
-  pub is : number ≡ counted img order p n i
-  pub fits : number < 256 ^ i
 
 -- the numbers of the slots with the one that a dimension sets; slot 0 is none
 unfoldable pub noted : (image numbers : List ℕ) → (slot p n : ℕ) → List ℕ
@@ -61,27 +48,33 @@ abbrev pub pastPiece : (image : List ℕ) → Aim → Walk → Span → (slot ne
 pastPiece img a w piece k next = record {
   numbers = noted img (w .numbers) k (place a w) (piece .size);
   octets = w .octets + piece .size;
-  spot = orElse (w .spot) (cutFurther (w .octets) (piece .spot));
+  found = record {
+    spot = orElse (w .found .spot) (cutFurther (w .octets) (piece .spot));
+    held = w .found .held || dimensionAt k (place a w) (piece .size) (a .from .0) (a .octets);
+  };
   next = next;
   short = false;
 }
 
 abbrev pub shortHere : Walk → Walk
-shortHere w = record { numbers = w .numbers; octets = w .octets; spot = w .spot; next = w .next; short = true }
+shortHere w = record { numbers = w .numbers; octets = w .octets; found = w .found; next = w .next; short = true }
 
 unfoldable pub stepOf : (image : List ℕ) → Aim → Walk → Span → (slot next : ℕ) → Walk
 stepOf img a w piece k next = if place a w + piece .size ≤? length img then pastPiece img a w piece k next else shortHere w
 
 unfoldable pub atItem : Walk → (next : ℕ) → Walk
-atItem w next = record { numbers = w .numbers; octets = w .octets; spot = w .spot; next = next; short = w .short }
+atItem w next = record { numbers = w .numbers; octets = w .octets; found = w .found; next = next; short = w .short }
 
 -- WHAT A WALK COMES TO
+-- what was found before, and what of that asked for is among the elements ps, come to f
+pub record Finds (a : Aim) (before : Found) (ps : List Placed) (f : Found) : Type 0 where
+  pub spot : further (a .start .0) (f .spot) ≡ orElse (further (a .start .0) (before .spot)) (seen (a .name .item) (leftOf (a .name) 0) ps)
+  pub held : f .held ≡ (before .held || holdsDimension ps (a .from .0) (a .octets))
+
 -- from a walk that had found `before`, r stands where laying out ends, with its slots, and has found what is asked for in its elements; or at the item and octet
 -- that are short. Of what a passed description never meets it says nothing
-abbrev pub Ends : Aim → (before : Spot) → Walk → Laid → Type 0
-Ends a before r (laid ps s q) =
-    (r .short ≡ false) × (place a r ≡ q) × Numbered s (numbersIn (r .numbers))
-    × (further (a .start .0) (r .spot) ≡ orElse (further (a .start .0) before) (seen (a .name .item) (leftOf (a .name) 0) ps))
+abbrev pub Ends : Aim → (before : Found) → Walk → Laid → Type 0
+Ends a before r (laid ps s q) = (r .short ≡ false) × (place a r ≡ q) × Numbered s (numbersIn (r .numbers)) × Finds a before ps (r .found)
 Ends a before r (stopped ps (unreadDimension i)) = Unit {0}
 Ends a before r (stopped ps (bitOutside i)) = Unit {0}
 Ends a before r (stopped ps (unequalElements i)) = Unit {0}
@@ -102,7 +95,7 @@ pub record WalkReady (d img : List ℕ) (a : Aim) (w : Walk) (n depth : ℕ) : T
   pub small : length img ≤ 65535
   pub inside : place a w ≤ length img
   pub going : w .short ≡ false
-  pub found : Small (w .spot)
+  pub found : Small (w .found .spot)
 
 pub record WalkBodyReady (d img : List ℕ) (a : Aim) (w : Walk) (n depth : ℕ) : Type 0 where
   pub ready : WalkReady d img a w n depth
@@ -114,22 +107,22 @@ pub record WalkItemReady (d img : List ℕ) (a : Aim) (w : Walk) (left depth : �
 
 pub record WalksItem (d img : List ℕ) (a : Aim) (w : Walk) (left depth : ℕ) (r : Walk) : Type 0 where
   pub inside : place a r ≤ length img
-  pub found : Small (r .spot)
+  pub found : Small (r .found .spot)
   pub moved : r .short ≡ false → r .next ≡ w .next + 1 + nested (itemAt d (w .next)) left
   pub within : nested (itemAt d (w .next)) left ≤ left
-  pub ends : (s : Slots) → Numbered s (numbersIn (w .numbers)) → Ends a (w .spot) r (layNode (nodeAt depth d (w .next) left) img false [] s (place a w))
+  pub ends : (s : Slots) → Numbered s (numbersIn (w .numbers)) → Ends a (w .found) r (layNode (nodeAt depth d (w .next) left) img false [] s (place a w))
 
 pub record WalksBody (d img : List ℕ) (a : Aim) (w : Walk) (n depth : ℕ) (r : Walk) : Type 0 where
   pub inside : place a r ≤ length img
-  pub found : Small (r .spot)
-  pub ends : (s : Slots) → Numbered s (numbersIn (w .numbers)) → Ends a (w .spot) r (layBody (bodyAt depth d (w .next) n) img false [] s (place a w))
+  pub found : Small (r .found .spot)
+  pub ends : (s : Slots) → Numbered s (numbersIn (w .numbers)) → Ends a (w .found) r (layBody (bodyAt depth d (w .next) n) img false [] s (place a w))
 
 -- A WALK ON ITS WAY through the n items of a body, from w on up to item `end`, now at x: what is left of the body leads where the whole does
 pub record Leads (d img : List ℕ) (a : Aim) (w : Walk) (n depth end : ℕ) (x : Walk) (s : Slots) : Type 0 where
   pub slots : Slots
   pub numbered : Numbered slots (numbersIn (x .numbers))
-  pub so : (r : Walk) → Ends a (x .spot) r (layBody (bodyAt depth d (x .next) (end - x .next)) img false [] slots (place a x))
-      → Ends a (w .spot) r (layBody (bodyAt depth d (w .next) n) img false [] s (place a w))
+  pub so : (r : Walk) → Ends a (x .found) r (layBody (bodyAt depth d (x .next) (end - x .next)) img false [] slots (place a x))
+      → Ends a (w .found) r (layBody (bodyAt depth d (w .next) n) img false [] s (place a w))
 
 pub record OnItsWay (d img : List ℕ) (a : Aim) (w : Walk) (n depth end : ℕ) (x : Walk) : Type 0 where
   pub rest : WalkBodyReady d img a x (end - x .next) depth

@@ -1,4 +1,5 @@
-// Lay the image out; where a table is; where an element is. The public calls stand at the end.
+// Lay the image out; where a table is; where an element is; whether octets are a dimension's. The
+// public calls stand at the end: `open_image` tells all of it by one walk, the others a part.
 //
 // Any description and any image get an answer: the place, or the refusal, of which 1 to 9 come
 // before any other. No memory is written. The definitions lay out element by element, with sizes
@@ -6,10 +7,12 @@
 // count and one element's size, and a size is cut at 65,536, which is past every image.
 use basics::bit_range;
 use basics::both;
-use basics::wide;
+use basics::either;
+use basics::least;
 use items::Cursor;
 use laying::Spot;
 use meaning::ElementName;
+use meaning::Fields;
 use meaning::Item;
 use meaning::Place;
 use meaning::Reference;
@@ -23,13 +26,15 @@ ghost use mathlib.Core.Path.{_≡_};
 ghost use Prim.Native.Nat.{_+_, _<_, _≤_};
 ghost use lib.ListN.{length};
 ghost use Rattle.meaning.specs.Ranges.{ReferenceRange};
-ghost use Rattle.meaning.specs.Description.{itemCount, itemAt};
-ghost use Rattle.meaning.specs.Layout.{setOctets, numberAt, layout};
+ghost use Rattle.meaning.specs.Description.{itemCount, fieldsAt};
+ghost use Rattle.meaning.specs.Layout.{setOctets, layout};
 ghost use Rattle.meaning.specs.Refusals.{openLaid, openImage, totalReply, tableReply, whereReply};
 ghost use Rattle.laying.specs.Sizes.{value, orElse, leafSpot};
+ghost use Rattle.laying.specs.Dimensions.{dimensionAt};
 ghost use Rattle.places.specs.Parts.{numbersIn, branchOf, cut, cutFurther, leftOf, bodiesSpot, bodiesSpan, withItem, NameReady, OpenedAs, BodyReady, ItemReady, SpanAs, BodyAs, ItemAs};
-ghost use Rattle.places.specs.Walking.{Readable, placeOf, noted, StepReady, stepOf, atItem, WalkItemReady, WalksItem, WalkBodyReady, WalksBody};
-ghost use Rattle.places.specs.Surveying.{headingOf, seatIn, inTable, firstFound, verdictOf, refusedBy, noElement, TableReady, TableAs, SurveyReady, AnswerAs};
+ghost use Rattle.places.specs.Walking.{Readable, noted, StepReady, stepOf, atItem, WalkItemReady, WalksItem, WalkBodyReady, WalksBody};
+ghost use Rattle.places.specs.Opening.{refusedBy, answerTo, nothingAsked};
+ghost use Rattle.places.specs.Surveying.{seatIn, firstTable, inTable, firstFound, verdictOf, TableReady, TableAs, SurveyReady, refusalOr, unnamedOf, tablePlace};
 
 // WHAT AN ITEM COMES TO
 // The value of a reference, where slots have these numbers.
@@ -153,10 +158,7 @@ fn open_item(d: &[u8], numbers: [u32; 64], at: usize) -> Opened
 fn cut(size: usize) -> usize
     ensures { λ r. ⌜ r ≡ cut size ⌝ }
 {
-    if size < 65536 {
-        return size;
-    }
-    65536
+    least(size, 65536)
 }
 
 // The first that is somewhere.
@@ -344,35 +346,6 @@ fn item_size(
 }
 
 // THE WALK OVER A TABLE
-// The number of so many octets of the image, in its DATA_ORDER: bit 0 of its first octet. The most
-// significant octet is counted in first.
-fn number_at(image: &[u8], start: ImageOffset, octets: usize) -> u32
-    requires { ⌜ Readable (now image) (start .0) octets ⌝ }
-    ensures { λ r. ⌜ r ≡ numberAt (now (image .entry)) (start .0) octets ⌝ }
-{
-    let order = wide(image[0]) % 2;
-    let at = start.octet();
-    let mut number = 0u64;
-    let mut i = 0;
-    while i < octets {
-        let k = place_of(order, octets, i);
-        number = number * 256 + wide(image[at + k]) as u64;
-        i += 1;
-    }
-    number as u32
-}
-
-// Which of n octets is the i-th most significant.
-fn place_of(order: u32, n: usize, i: usize) -> usize
-    requires { ⌜ i < n ⌝ }
-    ensures { λ r. ⌜ (r ≡ placeOf order n i) × (r < n) ⌝ }
-{
-    if order == 0 {
-        return n - 1 - i;
-    }
-    i
-}
-
 // The numbers of the slots with the one that a dimension sets; slot 0 is none.
 fn noted(
     image: &[u8],
@@ -382,31 +355,62 @@ fn noted(
     octets: usize,
 ) -> [u32; 64]
     requires { ⌜ (slot < 64) × (0 < slot → Readable (now image) (start .0) octets) ⌝ }
-    ensures { λ r. ⌜ r ≡ noted (now (image .entry)) numbers slot (start .0) octets ⌝ }
+    ensures { λ r. ⌜ (r ≡ noted (now (image .entry)) numbers slot (start .0) octets) × (slot < length numbers) ⌝ }
 {
     if slot == 0 {
         return numbers;
     }
     let mut later = numbers;
-    later[slot] = number_at(image, start, octets);
+    later[slot] = octets::number_at(image, start, octets) as u32;
     later
 }
 
-// How far a walk has come in a table: the numbers of the slots, the octets walked, where in the table
-// the element asked for stands, and the item that is next; or, short, the octets and the item at
-// which the image ends too soon.
+// Whether so many octets at `from` hold an octet of what stands `here`, `size` octets long, and sets
+// the slot; slot 0 is none.
+fn dimension_at(
+    slot: usize,
+    here: ImageOffset,
+    size: usize,
+    from: ImageOffset,
+    octets: usize,
+) -> bool
+    ensures { λ r. ⌜ r ≡ dimensionAt slot (here .0) size (from .0) octets ⌝ }
+{
+    let asked = from.octet();
+    let piece = here.octet();
+    if slot == 0 {
+        return false;
+    }
+    if asked < piece {
+        return both(0 < size, piece - asked < octets);
+    }
+    both(0 < octets, asked - piece < size)
+}
+
+// What a walk has found: where in the table the element asked for stands, and whether the octets asked
+// about hold one of a dimension.
+struct Found {
+    spot: Spot,
+    held: bool,
+}
+
+// How far a walk has come in a table: the numbers of the slots, the octets walked, what is found, and
+// the item that is next; or, short, the octets and the item at which the image ends too soon.
 struct Walk {
     numbers: [u32; 64],
     octets: usize,
-    spot: Spot,
+    found: Found,
     next: usize,
     short: bool,
 }
 
-// What a walk over a table goes by: where the table starts, and the element asked for.
+// What a walk over a table goes by: where the table starts, the element asked for, and the octets of
+// the image asked about.
 struct Aim {
     start: TableStart,
     name: ElementName,
+    from: ImageOffset,
+    octets: usize,
 }
 
 // A piece that ends inside the image or not: a UINT, BLOCK or SET, which may set a slot, or a whole
@@ -418,7 +422,8 @@ fn step(image: &[u8], aim: Aim, w: Walk, piece: Span, slot: usize, next: usize) 
     let start = aim.start;
     let numbers = w.numbers;
     let walked = w.octets;
-    let before = w.spot;
+    let found = w.found;
+    let first = found.spot;
     let here = start.in_image(TableOffset::new(walked));
     let size = piece.size;
     let spot = piece.spot;
@@ -426,15 +431,20 @@ fn step(image: &[u8], aim: Aim, w: Walk, piece: Span, slot: usize, next: usize) 
         return Walk {
             numbers,
             octets: walked,
-            spot: before,
+            found,
             next: w.next,
             short: true,
         };
     }
+    let from = aim.from;
+    let dimension = dimension_at(slot, here, size, from, aim.octets);
     Walk {
         numbers: noted(image, numbers, slot, here, size),
         octets: walked + size,
-        spot: or_else(before, further(walked, spot)),
+        found: Found {
+            spot: or_else(first, further(walked, spot)),
+            held: either(found.held, dimension),
+        },
         next,
         short: false,
     }
@@ -445,11 +455,11 @@ fn at_item(w: Walk, next: usize) -> Walk
     ensures { λ r. ⌜ r ≡ atItem w next ⌝ }
 {
     let numbers = w.numbers;
-    let spot = w.spot;
+    let found = w.found;
     Walk {
         numbers,
         octets: w.octets,
-        spot,
+        found,
         next,
         short: w.short,
     }
@@ -510,110 +520,88 @@ fn walk_body(d: &[u8], image: &[u8], aim: Aim, w: Walk, items: usize, depth: usi
 }
 
 // THE WHOLE IMAGE
-// What is asked for: a table by its manufacturer bit and number, and an element by its name.
-struct Asked {
-    manufacturer: u32,
-    number: u32,
-    name: ElementName,
+// A table found: its item, where it starts, how long it is.
+pub enum TableFound {
+    No,
+    Yes {
+        item: usize,
+        start: TableStart,
+        length: usize,
+    },
+}
+
+// What is asked for: a table by its manufacturer bit and number, an element by its name, and whether so
+// many octets of the image, from `from` on, hold an octet of a dimension.
+pub struct Asked {
+    pub manufacturer: u32,
+    pub number: u32,
+    pub name: ElementName,
+    pub from: ImageOffset,
+    pub octets: usize,
+}
+
+// The image opened, or refused by 1 to 9: the total, where the table and the element asked for are, and
+// whether those octets hold one of a dimension.
+pub struct Answer {
+    pub verdict: Verdict,
+    pub total: usize,
+    pub table: TableFound,
+    pub element: Place,
+    pub held: bool,
 }
 
 // Tables laid one after another: the numbers of the slots, where the next table starts and its item,
-// and where the table and the element asked for are, if they are among those laid. Refused, the image
-// is short in the table before `next`.
+// and what of that asked for is found among those laid. Refused, the image is short in the table
+// before `next`.
 struct Survey {
     numbers: [u32; 64],
     start: TableStart,
     next: usize,
-    table: Place,
+    table: TableFound,
     element: Place,
+    held: bool,
     verdict: Verdict,
 }
 
-// The image opened, or refused by 1 to 9: the total, and where the table and the element asked for are.
-struct Answer {
-    verdict: Verdict,
-    total: usize,
-    table: Place,
-    element: Place,
-}
-
-// A TABLE's manufacturer bit, number and items in body.
-struct Heading {
-    manufacturer: u32,
-    number: u32,
-    items: usize,
-}
-
-// The TABLE at item `at`. No other item stands there in a passed description.
-fn heading_at(d: &[u8], at: usize) -> Heading
+// The fields of item `at`.
+fn fields_at(d: &[u8], at: usize) -> Fields
     requires { ⌜ at < itemCount (now d) ⌝ }
-    ensures { λ r. ⌜ r ≡ headingOf (itemAt (now (d .entry)) at) ⌝ }
+    ensures { λ r. ⌜ r ≡ fieldsAt (now (d .entry)) at ⌝ }
 {
     let place = Cursor { at };
     let read = place.read(d);
-    let item = read.item;
-    match item {
-        Item::Table {
-            manufacturer,
-            number,
-            writable: _,
-            items,
-        } => Heading {
-            manufacturer,
-            number,
-            items,
-        },
-        Item::Uint { octets: _, slot: _ } => Heading {
-            manufacturer: 0,
-            number: 0,
-            items: 0,
-        },
-        Item::Block { octets: _ } => Heading {
-            manufacturer: 0,
-            number: 0,
-            items: 0,
-        },
-        Item::Set { of: _, unit: _ } => Heading {
-            manufacturer: 0,
-            number: 0,
-            items: 0,
-        },
-        Item::Array { of: _, items: _ } => Heading {
-            manufacturer: 0,
-            number: 0,
-            items: 0,
-        },
-        Item::If {
-            of: _,
-            yes: _,
-            no: _,
-        } => Heading {
-            manufacturer: 0,
-            number: 0,
-            items: 0,
-        },
-        Item::Malformed => Heading {
-            manufacturer: 0,
-            number: 0,
-            items: 0,
-        },
-    }
+    read.fields
 }
 
-// The whole table, if it is the one asked for.
-fn seat(h: Heading, asked: Asked, octets: usize) -> Spot
-    ensures { λ r. ⌜ r ≡ seatIn h asked octets ⌝ }
+// The table of item `item`, if it is the one asked for.
+fn seat(h: Fields, asked: Asked, item: usize, start: TableStart, length: usize) -> TableFound
+    ensures { λ r. ⌜ r ≡ seatIn h asked item start length ⌝ }
 {
     if both(
         h.manufacturer == asked.manufacturer,
         h.number == asked.number,
     ) {
-        return Spot::At {
-            offset: 0,
-            length: octets,
+        return TableFound::Yes {
+            item,
+            start,
+            length,
         };
     }
-    Spot::Nowhere
+    TableFound::No
+}
+
+// The table found before, or else the one found now.
+fn first_table(before: TableFound, now: TableFound) -> TableFound
+    ensures { λ r. ⌜ r ≡ firstTable before now ⌝ }
+{
+    match before {
+        TableFound::No => now,
+        TableFound::Yes {
+            item: _,
+            start: _,
+            length: _,
+        } => before,
+    }
 }
 
 // What was found before, or else what stands in the table at `start`.
@@ -647,30 +635,43 @@ fn survey_table(d: &[u8], image: &[u8], asked: Asked, s: Survey) -> Survey
     requires { ⌜ TableReady (now d) (now image) asked s ⌝ }
     ensures { λ r. ⌜ TableAs (now (d .entry)) (now (image .entry)) asked s r ⌝ }
 {
-    let h = heading_at(d, s.next);
+    let item = s.next;
+    let h = fields_at(d, item);
     let start = s.start;
     let name = asked.name;
+    let from = asked.from;
     let numbers = s.numbers;
     let table = s.table;
     let element = s.element;
-    let first = s.next + 1;
-    let from = Walk {
+    let first = item + 1;
+    let aim = Aim {
+        start,
+        name,
+        from,
+        octets: asked.octets,
+    };
+    let before = Walk {
         numbers,
         octets: 0,
-        spot: Spot::Nowhere,
+        found: Found {
+            spot: Spot::Nowhere,
+            held: s.held,
+        },
         next: first,
         short: false,
     };
-    let w = walk_body(d, image, Aim { start, name }, from, h.items, 4);
+    let w = walk_body(d, image, aim, before, h.first, 4);
     let walked = w.octets;
-    let found = w.spot;
+    let found = w.found;
+    let spot = found.spot;
     let read = w.numbers;
     Survey {
         numbers: read,
         start: start.after(walked),
-        next: first + h.items,
-        table: first_found(table, start, seat(h, asked, walked)),
-        element: first_found(element, start, found),
+        next: first + h.first,
+        table: first_table(table, seat(h, asked, item, start, walked)),
+        element: first_found(element, start, spot),
+        held: found.held,
         verdict: verdict_of(start, w),
     }
 }
@@ -696,23 +697,25 @@ fn refused(r: Refusal) -> Answer
     Answer {
         verdict: Verdict::Refused(r),
         total: 0,
-        table: Place::Refused(r),
+        table: TableFound::No,
         element: Place::Refused(r),
+        held: false,
     }
 }
 
 // All tables laid, one after another from octet 0.
 fn survey_image(d: &[u8], image: &[u8], asked: Asked) -> Answer
     requires { ⌜ SurveyReady (now d) (now image) asked ⌝ }
-    ensures { λ r. ⌜ AnswerAs asked r (openLaid (layout (now (d .entry)) (now (image .entry)))) ⌝ }
+    ensures { λ r. ⌜ r ≡ answerTo asked (openLaid (layout (now (d .entry)) (now (image .entry)))) ⌝ }
 {
     let items = d.len() / 4;
     let mut s = Survey {
         numbers: [0u32; 64],
         start: TableStart::first(),
         next: 0,
-        table: Place::Refused(Refusal::NoTable),
+        table: TableFound::No,
         element: Place::Refused(Refusal::NoElement),
+        held: false,
         verdict: Verdict::Passed,
     };
     while s.next < items {
@@ -736,13 +739,14 @@ fn survey_image(d: &[u8], image: &[u8], asked: Asked) -> Answer
         total: last.octet(),
         table,
         element,
+        held: s.held,
     }
 }
 
 // 1 to 9 come first: the description is checked, and the image's length; then the image is laid out.
-fn open_image(d: &[u8], image: &[u8], asked: Asked) -> Answer
+fn open_named(d: &[u8], image: &[u8], asked: Asked) -> Answer
     requires { ⌜ NameReady (asked .name) 0 ⌝ }
-    ensures { λ r. ⌜ AnswerAs asked r (openImage (now (d .entry)) (now (image .entry))) ⌝ }
+    ensures { λ r. ⌜ r ≡ answerTo asked (openImage (now (d .entry)) (now (image .entry))) ⌝ }
 {
     let verdict = sound::check(d);
     match verdict {
@@ -756,39 +760,93 @@ fn open_image(d: &[u8], image: &[u8], asked: Asked) -> Answer
     }
 }
 
-// An element's name for those who ask for none.
-fn no_name() -> ElementName
-    ensures { λ r. ⌜ NameReady r 0 ⌝ }
+// The verdict's refusal, or else the place given.
+fn refusal_or(verdict: Verdict, place: Place) -> Place
+    ensures { λ r. ⌜ r ≡ refusalOr verdict place ⌝ }
 {
-    ElementName {
-        item: 0,
-        count: 0,
-        subscripts: [0usize; 4],
+    match verdict {
+        Verdict::Refused(r) => Place::Refused(r),
+        Verdict::Passed => place,
     }
 }
 
-// The answer of one who asks for an element that can't be named: 1 to 9, or else none.
-fn no_element(answer: Answer) -> Place
-    ensures { λ r. ⌜ r ≡ noElement (answer .verdict) ⌝ }
+// The same answer to one who asks for an element that can't be named.
+fn unnamed(answer: Answer) -> Answer
+    ensures { λ r. ⌜ r ≡ unnamedOf answer ⌝ }
 {
     let verdict = answer.verdict;
-    match verdict {
-        Verdict::Refused(r) => Place::Refused(r),
-        Verdict::Passed => Place::Refused(Refusal::NoElement),
+    let table = answer.table;
+    Answer {
+        verdict,
+        total: answer.total,
+        table,
+        element: refusal_or(verdict, Place::Refused(Refusal::NoElement)),
+        held: answer.held,
+    }
+}
+
+// Where the table found is, or none.
+fn place_of_table(table: TableFound) -> Place
+    ensures { λ r. ⌜ r ≡ tablePlace table ⌝ }
+{
+    match table {
+        TableFound::No => Place::Refused(Refusal::NoTable),
+        TableFound::Yes {
+            item: _,
+            start,
+            length,
+        } => Place::At {
+            start: start.in_image(TableOffset::new(0)),
+            length,
+        },
     }
 }
 
 // THE PUBLIC CALLS
+// For those who ask for less: table 0 of the standard, element 0, no octets.
+pub fn nothing_asked() -> Asked
+    ensures { λ r. ⌜ r ≡ nothingAsked ⌝ }
+{
+    let start = TableStart::first();
+    Asked {
+        manufacturer: 0,
+        number: 0,
+        name: ElementName {
+            item: 0,
+            count: 0,
+            subscripts: [0usize; 4],
+        },
+        from: start.in_image(TableOffset::new(0)),
+        octets: 0,
+    }
+}
+
+// All that one walk tells. More than four subscripts name no element.
+pub fn open_image(description: &[u8], image: &[u8], asked: Asked) -> Answer
+    ensures { λ r. ⌜ r ≡ answerTo asked (openImage (now (description .entry)) (now (image .entry))) ⌝ }
+{
+    let name = asked.name;
+    if 4 < name.count {
+        let nothing = nothing_asked();
+        let none = nothing.name;
+        let from = asked.from;
+        let same = Asked {
+            manufacturer: asked.manufacturer,
+            number: asked.number,
+            name: none,
+            from,
+            octets: asked.octets,
+        };
+        return unnamed(open_named(description, image, same));
+    }
+    open_named(description, image, asked)
+}
+
 // Lays the image out: the total of octets used.
 pub fn total(description: &[u8], image: &[u8]) -> Total
     ensures { λ r. ⌜ r ≡ totalReply (now (description .entry)) (now (image .entry)) ⌝ }
 {
-    let asked = Asked {
-        manufacturer: 0,
-        number: 0,
-        name: no_name(),
-    };
-    let answer = open_image(description, image, asked);
+    let answer = open_image(description, image, nothing_asked());
     let verdict = answer.verdict;
     match verdict {
         Verdict::Refused(r) => Total::Refused(r),
@@ -800,31 +858,34 @@ pub fn total(description: &[u8], image: &[u8]) -> Total
 pub fn table_place(description: &[u8], image: &[u8], manufacturer: u32, number: u32) -> Place
     ensures { λ r. ⌜ r ≡ tableReply (now (description .entry)) (now (image .entry)) manufacturer number ⌝ }
 {
+    let nothing = nothing_asked();
+    let name = nothing.name;
+    let from = nothing.from;
     let asked = Asked {
         manufacturer,
         number,
-        name: no_name(),
+        name,
+        from,
+        octets: 0,
     };
     let answer = open_image(description, image, asked);
-    answer.table
+    let verdict = answer.verdict;
+    let table = answer.table;
+    refusal_or(verdict, place_of_table(table))
 }
 
 // Where an element is: its first octet in the image, and its length.
 pub fn element_place(description: &[u8], image: &[u8], name: ElementName) -> Place
     ensures { λ r. ⌜ r ≡ whereReply (now (description .entry)) (now (image .entry)) name ⌝ }
 {
-    if 4 < name.count {
-        let nothing = Asked {
-            manufacturer: 0,
-            number: 0,
-            name: no_name(),
-        };
-        return no_element(open_image(description, image, nothing));
-    }
+    let nothing = nothing_asked();
+    let from = nothing.from;
     let asked = Asked {
         manufacturer: 0,
         number: 0,
         name,
+        from,
+        octets: 0,
     };
     let answer = open_image(description, image, asked);
     answer.element

@@ -6,7 +6,8 @@ use native.Mathlib.Omega.{arith}
 use lib.ListN.{length, getD}
 use Rattle.meaning.specs.declared.Refusal.{Refusal}
 use Rattle.meaning.specs.declared.Refusal.the-variants.{BadLength, BreaksRule, ImageTooLong, ImageShort, NoTable, NoElement, OutsideTable, NotWritable, HoldsDimension, WrongSize, NotADate, NoSeason, SeasonChangeArmed, NoRowOrColumn, NotACalendar}
-use Rattle.meaning.specs.Refusals.{reported}
+use Rattle.meaning.specs.declared.Verdict.{Verdict}
+use Rattle.meaning.specs.Refusals.{reported, verdictValues}
 
 -- every refusal reports its number, an item and an octet
 pub reported-three : (r : Refusal) → length (reported r) ≡ 3
@@ -26,6 +27,12 @@ reported-three NoSeason = refl
 reported-three SeasonChangeArmed = refl
 reported-three NoRowOrColumn = refl
 reported-three NotACalendar = refl
+
+-- and so does a verdict
+pub verdict-three : (v : Verdict) → length (verdictValues v) ≡ 3
+unfolding verdictValues
+verdict-three Verdict.Passed = refl
+verdict-three (Verdict.Refused r) = reported-three r
 
 -- three numbers taken one by one, and what stands behind them
 three-then : (xs rest : List ℕ) → length xs ≡ 3 → getD xs 0 0 ∷ getD xs 1 0 ∷ getD xs 2 0 ∷ rest ≡ xs ++ rest

@@ -2,12 +2,13 @@
 //
 // A refusal is three numbers: its own, then the item and the octet that it reports, each 0 where it
 // reports none. An answer starts with those three, all 0 where nothing is refused.
+use meaning::Number;
 use meaning::Place;
 use meaning::Refusal;
 use meaning::Total;
 use meaning::Verdict;
 ghost use mathlib.Core.Path.{_≡_};
-ghost use Rattle.meaning.specs.Refusals.{reported, verdictValues, totalValues, placeValues};
+ghost use Rattle.meaning.specs.Refusals.{reported, verdictValues, totalValues, placeValues, numberValues};
 
 // A refusal's number, item and octet.
 pub fn reported(r: Refusal) -> [u64; 3]
@@ -64,6 +65,19 @@ pub fn place_values(p: Place) -> [u64; 5]
         Place::Refused(r) => {
             let s = reported(r);
             [s[0], s[1], s[2], 0, 0]
+        }
+    }
+}
+
+// An element's number, behind a refusal's three numbers.
+pub fn number_values(x: Number) -> [u64; 4]
+    ensures { λ r. ⌜ r ≡ numberValues x ⌝ }
+{
+    match x {
+        Number::Is(n) => [0, 0, 0, n],
+        Number::Refused(r) => {
+            let s = reported(r);
+            [s[0], s[1], s[2], 0]
         }
     }
 }

@@ -11,15 +11,13 @@ use borrow.Author.Count.{below-more}
 use borrow.Author.Tests.{ltb-true, eqb-true, eqb-false, ne-eqb}
 use Rattle.meaning.specs.declared.Fields.{Fields}
 use Rattle.meaning.specs.declared.Round.{Round}
-use Rattle.meaning.specs.Description.{itemCount, itemAt, fieldsOf, fieldsAt, isTable, nests, inside, round, slotOctets, lowestBroken, ruleBroken, breaks1}
+use Rattle.meaning.specs.Description.{itemCount, itemAt, fieldsAt, isTable, nests, inside, round, slotOctets, lowestBroken, ruleBroken, breaks1}
 use Rattle.meaning.specs.Passed.{Keeps}
-use Rattle.meaning.specs.Ranges.{FieldsRange}
-use Rattle.meaning.proofs.Ranges.{fields-ranged}
 use Rattle.meaning.proofs.Rules.{slot-none, slot-step, round-none, beyond, in-first, in-second, keeps, bodies, length-allowed}
 use Rattle.meaning.proofs.Nesting.{one-more}
 use Rattle.items.specs.declared.Read.{Read}
 use Rattle.items.specs.Read.{readAt}
-use Rattle.items.proofs.ReadLaws.{ranged-read, item-read, next-read}
+use Rattle.items.proofs.ReadLaws.{range-read, fields-read, next-read}
 use Rattle.sound.specs.declared.Judged.{Judged}
 use Rattle.sound.specs.Walk.{Known, noted, JudgedAs, LevelsLeft, Fine, Quiet, Before, Entered, Clear, Broken, Going}
 
@@ -65,15 +63,12 @@ module _ (d : List ℕ) (at : ℕ) (slots : List ℕ) (k : Known d at slots) (sm
           }
 
 -- ONE ITEM READ AND JUDGED
-pub read-range : (d : List ℕ) (at : ℕ) {read : Read} {f : Fields} → read ≡ readAt d at → f ≡ fieldsOf (read .item) → FieldsRange f
-read-range d at er ef = subst FieldsRange (sym ef) (fields-ranged _ (ranged-read d at er))
-
 pub judged-as : (d : List ℕ) (at : ℕ) (slots : List ℕ) (r : Round) → Known d at slots → at < itemCount d
-    → {read : Read} {f : Fields} {rule : ℕ} {later : List ℕ} → read ≡ readAt d at → f ≡ fieldsOf (read .item) → rule ≡ lowestBroken d f at r → later ≡ noted slots f
-    → JudgedAs d at r slots (record { rule = rule; fields = f; next = read .next; slots = later })
-judged-as d at slots r k h er ef e en =
-    let is = ef ∙ ap fieldsOf (item-read d at h er) in
-    let range = read-range d at er ef in
+    → {read : Read} {rule : ℕ} {later : List ℕ} → read ≡ readAt d at → rule ≡ lowestBroken d (read .fields) at r → later ≡ noted slots (read .fields)
+    → JudgedAs d at r slots (record { rule = rule; fields = read .fields; next = read .next; slots = later })
+judged-as d at slots r k h er e en =
+    let is = fields-read d at h er in
+    let range = range-read d at er in
     record {
       fields = is;
       range = range;

@@ -8,7 +8,6 @@ use basics::either;
 use basics::wide;
 use items::Cursor;
 use meaning::Fields;
-use meaning::Item;
 use meaning::Refusal;
 use meaning::Round;
 use meaning::Verdict;
@@ -17,8 +16,8 @@ ghost use mathlib.Core.Bool.{_&&_};
 ghost use Prim.Native.Nat.{_+_, _<_, _≤_};
 ghost use lib.ListN.{length, getD};
 ghost use Rattle.meaning.specs.Basics.{if_then_else_};
-ghost use Rattle.meaning.specs.Ranges.{Ranged, FieldsRange};
-ghost use Rattle.meaning.specs.Description.{itemCount, fieldsOf, isTable, nests, isDimension, isTableNamed, isTable00, isDataOrder, misplaced, count, inside, tableGiven, breaks1, breaks2, breaks3, breaks4, breaks5, breaks6, breaks7, lowestBroken, soundness};
+ghost use Rattle.meaning.specs.Ranges.{FieldsRange};
+ghost use Rattle.meaning.specs.Description.{itemCount, isTable, nests, isDimension, isTableNamed, isTable00, isDataOrder, misplaced, count, inside, tableGiven, breaks1, breaks2, breaks3, breaks4, breaks5, breaks6, breaks7, lowestBroken, soundness};
 ghost use Rattle.sound.specs.Walk.{There, Known, noted, Before, JudgedAs, CheckedAs};
 
 // 1 where it holds.
@@ -28,105 +27,7 @@ fn count(a: bool) -> u32
     if a { 1 } else { 0 }
 }
 
-// AN ITEM'S FIELDS
-// Opens an item into its fields, each 0 where its kind has none.
-fn fields_of(item: Item) -> Fields
-    requires { ⌜ Ranged item ⌝ }
-    ensures { λ r. ⌜ r ≡ fieldsOf item ⌝ }
-{
-    match item {
-        Item::Table {
-            manufacturer,
-            number,
-            writable,
-            items,
-        } => Fields {
-            kind: 1,
-            manufacturer,
-            number,
-            writable,
-            first: items,
-            second: 0,
-            sets: 0,
-            octets: 0,
-            slot: 0,
-            bits: 0,
-        },
-        Item::Uint { octets, slot } => Fields {
-            kind: 2,
-            manufacturer: 0,
-            number: 0,
-            writable: 0,
-            first: 0,
-            second: 0,
-            sets: slot,
-            octets,
-            slot: 0,
-            bits: 0,
-        },
-        Item::Block { octets: _ } => Fields {
-            kind: 3,
-            manufacturer: 0,
-            number: 0,
-            writable: 0,
-            first: 0,
-            second: 0,
-            sets: 0,
-            octets: 0,
-            slot: 0,
-            bits: 0,
-        },
-        Item::Set { of, unit: _ } => Fields {
-            kind: 4,
-            manufacturer: 0,
-            number: 0,
-            writable: 0,
-            first: 0,
-            second: 0,
-            sets: 0,
-            octets: 0,
-            slot: of.slot,
-            bits: of.low + of.width,
-        },
-        Item::Array { of, items } => Fields {
-            kind: 5,
-            manufacturer: 0,
-            number: 0,
-            writable: 0,
-            first: items,
-            second: 0,
-            sets: 0,
-            octets: 0,
-            slot: of.slot,
-            bits: of.low + of.width,
-        },
-        Item::If { of, yes, no } => Fields {
-            kind: 6,
-            manufacturer: 0,
-            number: 0,
-            writable: 0,
-            first: yes,
-            second: no,
-            sets: 0,
-            octets: 0,
-            slot: of.slot,
-            bits: of.low + of.width,
-        },
-        Item::Malformed => Fields {
-            kind: 0,
-            manufacturer: 0,
-            number: 0,
-            writable: 0,
-            first: 0,
-            second: 0,
-            sets: 0,
-            octets: 0,
-            slot: 0,
-            bits: 0,
-        },
-    }
-}
-
+// WHAT AN ITEM IS
 fn is_table(f: Fields) -> bool
     ensures { λ r. ⌜ r ≡ isTable f ⌝ }
 {
@@ -186,8 +87,7 @@ fn table_given(d: &[u8], end: usize, manufacturer: u32, number: u32) -> bool
     let mut place = Cursor { at: 0 };
     while place.at < end {
         let read = place.read(d);
-        let item = read.item;
-        found = either(is_table_named(fields_of(item), manufacturer, number), found);
+        found = either(is_table_named(read.fields, manufacturer, number), found);
         place = read.next;
     }
     found
@@ -336,8 +236,7 @@ fn judge(d: &[u8], place: Cursor, r: Round, slots: [u8; 64]) -> Judged
 {
     let at = place.at;
     let read = place.read(d);
-    let item = read.item;
-    let fields = fields_of(item);
+    let fields = read.fields;
     let next = read.next;
     Judged {
         rule: lowest_broken(d, fields, at, r, slots),

@@ -22,8 +22,11 @@ slice-aggregate-run-4 c = search needs
 slice-aggregate-run-5 : tie.Need-slice-aggregate-run-5
 slice-aggregate-run-5 c = search needs
 
+slice-aggregate-run-6 : tie.Need-slice-aggregate-run-6
+slice-aggregate-run-6 c = search needs
+
 run-requires : tie.Need-run-requires
-run-requires c κs = record { reply = omega arith; items = omega arith; tables = omega arith }
+run-requires c κs = record { reply = omega arith; items = omega arith; tables = omega arith; new = omega arith }
 
 returns : tie.Need-returns
 returns c = search needs
@@ -38,5 +41,6 @@ main-spec =
     slice-aggregate-run-3
     slice-aggregate-run-4
     slice-aggregate-run-5
+    slice-aggregate-run-6
     run-requires
     returns)

@@ -1,47 +1,35 @@
--- `places::open_image`: 1 to 7 by the check, 8 by the length, else what laying out comes to. Assumes nothing.
-use mathlib.Core.Path.{sym, _∙_}
-use Rattle.places.proofs.Surveys.{opened-refused, opened-long, opened-laid}
+-- `places::open_image`: the answer to what is asked, or to the same without an element that can't be named. Assumes nothing.
+use mathlib.Core.Path.{_∙_}
+use Rattle.places.proofs.Replies.{unnamed-in, nothing-ready}
 use borrow.Author.Needs.{needs}
 use Rattle.places.proofs.open_image.Statement.{statement}
 use Rattle.places.proofs.open_image.Tie as tie
 
-check-requires : tie.Need-check-requires
-check-requires c κs = search needs
+nothing-asked-requires : tie.Need-nothing-asked-requires
+nothing-asked-requires c κs = search needs
 
-enum-known-verdict : tie.Need-enum-known-verdict
-enum-known-verdict c = search needs
+open-named-requires : tie.Need-open-named-requires
+open-named-requires c κs = rw (c .before .before .nothing-asked .ensures) nothing-ready
 
-refused-requires : tie.Need-refused-requires
-refused-requires c κs = search needs
-
-enum-told : tie.Need-enum-told
-enum-told c = search needs
-
-refused-requires-2 : tie.Need-refused-requires-2
-refused-requires-2 c κs = search needs
+unnamed-requires : tie.Need-unnamed-requires
+unnamed-requires c κs = search needs
 
 returns : tie.Need-returns
-returns c = opened-long _ _ _ _ (sym (c .before .before .before .before .check .ensures) ∙ c .before .before .enum-told .given .1) (c .before .if1 .taken) (c .refused2 .ensures)
+returns c = c .unnamed .ensures ∙ rw (c .before .open-named .ensures) (unnamed-in _ _ _ (c .before .before .before .before .before .if1 .taken))
 
-survey-image-requires : tie.Need-survey-image-requires
-survey-image-requires c κs = record { passes = sym (c .before .before .before .check .ensures) ∙ c .before .enum-told .given .1; small = c .if1 .left; name = c .before .before .before .before .before .before .pre }
+open-named-requires-2 : tie.Need-open-named-requires-2
+open-named-requires-2 c κs = search needs
 
 returns-2 : tie.Need-returns-2
-returns-2 c = opened-refused _ _ _ _ _ (sym (c .before .before .before .before .check .ensures) ∙ c .before .before .verdict .given .1) (c .refused .ensures)
-
-returns-3 : tie.Need-returns-3
-returns-3 c = opened-laid _ _ _ _ (sym (c .before .before .before .before .check .ensures) ∙ c .before .before .enum-told .given .1) (c .before .if1 .left) (c .survey-image .ensures)
+returns-2 c = c .open-named2 .ensures
 
 pub open-image-spec : {M : Type 1} → statement M
 open-image-spec =
     tie.close
     (tie.spec
-    check-requires
-    enum-known-verdict
-    refused-requires
-    enum-told
-    refused-requires-2
+    nothing-asked-requires
+    open-named-requires
+    unnamed-requires
     returns
-    survey-image-requires
-    returns-2
-    returns-3)
+    open-named-requires-2
+    returns-2)

@@ -1,11 +1,9 @@
 -- `places::refused`: as defined. Assumes nothing.
 use mathlib.Core.Path.{refl}
-use Rattle.places.specs.Surveying.{refusedBy}
 use Rattle.places.proofs.refused.Statement.{statement}
 use Rattle.places.proofs.refused.Tie as tie
 
 returns : tie.Need-returns
-unfolding refusedBy
 returns c = refl
 
 pub refused-spec : {M : Type 1} → statement M

@@ -1,11 +1,10 @@
 -- `places::survey_image`: the tables before `next` are laid, and with those left come to the whole image (Surveyed); the items left are the loop's measure.
 -- Assumes nothing.
 use Prim.Native.Nat.{_-_}
-use mathlib.Core.Path.{refl}
 use native.Mathlib.Omega.{arith}
 use borrow.Author.Needs.{needs}
 use Rattle.places.specs.Surveying.{Surveyed}
-use Rattle.places.proofs.Surveys.{set-out, laid-all}
+use Rattle.places.proofs.Surveys.{set-out, laid-all, laid-refused}
 use Rattle.places.proofs.survey_image.Statement.{statement}
 use Rattle.places.proofs.survey_image.Tie as tie
 
@@ -31,7 +30,7 @@ refused-requires : tie.Need-refused-requires Inv-loop μ-loop
 refused-requires c κs = search needs
 
 returns : tie.Need-returns Inv-loop μ-loop
-returns c = rw (c .before .before .before .before .survey-table .ensures .stopped _ (c .before .before .verdict .given .1)) (c .refused .ensures)
+returns c = laid-refused _ _ _ _ _ (c .before .before .before .before .survey-table .ensures .stopped _ (c .before .before .verdict .given .1)) (c .refused .ensures)
 
 enum-told : tie.Need-enum-told Inv-loop μ-loop
 enum-told c = search needs
@@ -52,7 +51,7 @@ octet-requires : tie.Need-octet-requires Inv-loop μ-loop
 octet-requires c κs = search needs
 
 returns-2 : tie.Need-returns-2 Inv-loop μ-loop
-returns-2 c = laid-all _ _ _ _ (c .before .before .before .before .before .before .loop .inv) (c .before .before .before .before .if1 .left) _ refl (omega (arith, c .octet .ensures, c .before .in-image .ensures, c .before .before .new .ensures, c .before .before .before .before .before .before .loop .inv .inside)) refl refl
+returns-2 c = laid-all _ _ _ _ (c .before .before .before .before .before .before .loop .inv) (c .before .before .before .before .if1 .left) (c .before .before .before .before .before .before .before .before .before .before .pre .name .few) _ (omega (arith, c .octet .ensures, c .before .in-image .ensures, c .before .before .new .ensures, c .before .before .before .before .before .before .loop .inv .inside))
 
 pub survey-image-spec : {M : Type 1} → statement M
 survey-image-spec =

@@ -6,47 +6,47 @@ use borrow.Author.Needs.{needs}
 use Rattle.places.proofs.survey_table.Statement.{statement}
 use Rattle.places.proofs.survey_table.Tie as tie
 
-heading-at-requires : tie.Need-heading-at-requires
-heading-at-requires c κs = search needs
+fields-at-requires : tie.Need-fields-at-requires
+fields-at-requires c κs = search needs
 
 add-first : tie.Need-add-first
 add-first c = search needs
 
 walk-body-requires : tie.Need-walk-body-requires
-walk-body-requires c κs = table-ready _ _ _ _ (c .before .before .before .before .before .before .before .pre) _ (c .before .before .before .before .heading-at .ensures)
+walk-body-requires c κs = table-ready _ _ _ _ (c .before .before .before .before .before .before .before .pre) _ (c .before .before .before .before .fields-at .ensures)
 
 after-requires : tie.Need-after-requires
 after-requires c κs = search needs
 
-add-t20 : tie.Need-add-t20
-add-t20 c = omega (arith, table-few _ _ _ _ (c .before .before .before .before .before .before .before .before .before .before .before .pre) _ (c .before .before .before .before .before .before .before .before .heading-at .ensures))
+add-t24 : tie.Need-add-t24
+add-t24 c = omega (arith, table-few _ _ _ _ (c .before .before .before .before .before .before .before .before .before .before .before .before .pre) _ (c .before .before .before .before .before .before .before .before .before .fields-at .ensures))
 
 seat-requires : tie.Need-seat-requires
 seat-requires c κs = search needs
 
+first-table-requires : tie.Need-first-table-requires
+first-table-requires c κs = search needs
+
 first-found-requires : tie.Need-first-found-requires
 first-found-requires c κs = search needs
-
-first-found-requires-2 : tie.Need-first-found-requires-2
-first-found-requires-2 c κs = search needs
 
 verdict-of-requires : tie.Need-verdict-of-requires
 verdict-of-requires c κs = search needs
 
 returns : tie.Need-returns
-returns c = table-as _ _ _ _ (c .before .before .before .before .before .before .before .before .before .before .before .before .before .before .before .pre) _ (c .before .before .before .before .before .before .before .before .before .before .before .before .heading-at .ensures) _ (c .before .before .before .before .before .before .before .walk-body .ensures) _ refl (c .before .before .before .before .before .after .ensures) refl (rw (c .before .before .first-found .ensures, c .before .before .before .seat .ensures)) (c .before .first-found2 .ensures) (c .verdict-of .ensures)
+returns c = table-as _ _ _ _ (c .before .before .before .before .before .before .before .before .before .before .before .before .before .before .before .before .pre) _ (c .before .before .before .before .before .before .before .before .before .before .before .before .before .fields-at .ensures) _ (c .before .before .before .before .before .before .before .before .walk-body .ensures) _ refl (c .before .before .before .before .before .after .ensures) refl (rw (c .before .before .first-table .ensures, c .before .before .before .seat .ensures)) (c .before .first-found .ensures) refl (c .verdict-of .ensures)
 
 pub survey-table-spec : {M : Type 1} → statement M
 survey-table-spec =
     tie.close
     (tie.spec
-    heading-at-requires
+    fields-at-requires
     add-first
     walk-body-requires
     after-requires
-    add-t20
+    add-t24
     seat-requires
+    first-table-requires
     first-found-requires
-    first-found-requires-2
     verdict-of-requires
     returns)

@@ -4,8 +4,8 @@ use borrow.Author.Needs.{needs}
 use Rattle.places.proofs.total.Statement.{statement}
 use Rattle.places.proofs.total.Tie as tie
 
-no-name-requires : tie.Need-no-name-requires
-no-name-requires c κs = search needs
+nothing-asked-requires : tie.Need-nothing-asked-requires
+nothing-asked-requires c κs = search needs
 
 open-image-requires : tie.Need-open-image-requires
 open-image-requires c κs = search needs
@@ -25,4 +25,10 @@ returns-2 c = total-passed _ _ _ _ (c .before .before .open-image .ensures) (c .
 pub total-spec : {M : Type 1} → statement M
 total-spec =
     tie.close
-    (tie.spec no-name-requires open-image-requires enum-known-verdict enum-told returns returns-2)
+    (tie.spec
+    nothing-asked-requires
+    open-image-requires
+    enum-known-verdict
+    enum-told
+    returns
+    returns-2)

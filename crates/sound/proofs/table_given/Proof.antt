@@ -1,10 +1,10 @@
 -- `sound::table_given`: the loop has looked at the items before `place`; what is left of them is the measure. Assumes nothing.
 use Prim.Native.Nat.{_≤_, _-_}
-use mathlib.Core.Path.{_≡_, sym, _∙_, ap}
+use mathlib.Core.Path.{_≡_, sym}
 use native.Mathlib.Omega.{arith}
 use borrow.Author.Needs.{needs}
-use Rattle.meaning.specs.Description.{tableGiven, fieldsOf}
-use Rattle.items.proofs.ReadLaws.{item-read, next-read, ranged-read}
+use Rattle.meaning.specs.Description.{tableGiven}
+use Rattle.items.proofs.ReadLaws.{fields-read, next-read}
 use Rattle.meaning.proofs.Rules.{given-none, given-step}
 use Rattle.sound.proofs.table_given.Statement.{statement}
 use Rattle.sound.proofs.table_given.Tie as tie
@@ -21,9 +21,6 @@ loop-holds c = (omega arith, sym (given-none _ _ _))
 read-requires : tie.Need-read-requires Inv-loop μ-loop
 read-requires c κs = search needs
 
-fields-of-requires : tie.Need-fields-of-requires Inv-loop μ-loop
-fields-of-requires c κs = ranged-read _ _ (c .read .ensures)
-
 is-table-named-requires : tie.Need-is-table-named-requires Inv-loop μ-loop
 is-table-named-requires c κs = search needs
 
@@ -31,15 +28,16 @@ either-requires : tie.Need-either-requires Inv-loop μ-loop
 either-requires c κs = search needs
 
 loop-less : tie.Need-loop-less Inv-loop μ-loop
-loop-less c = let n = next-read _ _ (omega arith) (c .before .before .before .before .read .ensures) in omega arith
+loop-less c = let n = next-read _ _ (omega arith) (c .before .before .before .read .ensures) in omega arith
 
 loop-again : tie.Need-loop-again Inv-loop μ-loop
-loop-again c = let n = next-read (c .before .before .before .before .before .before .before .before .before .args .d .now) (c .before .before .before .before .before .before .before .loop .place .at) (omega arith) (c .before .before .before .before .read .ensures) in
-    let f = c .before .before .before .fields-of .ensures ∙ ap fieldsOf (item-read (c .before .before .before .before .before .before .before .before .before .args .d .now) (c .before .before .before .before .before .before .before .loop .place .at) (omega arith) (c .before .before .before .before .read .ensures)) in
+loop-again c = let a = c .before .before .before .before .before .before .before .before .args in let at = c .before .before .before .before .before .before .loop .place .at in
+    let n = next-read (a .d .now) at (omega arith) (c .before .before .before .read .ensures) in
+    let f = fields-read (a .d .now) at (omega arith) (c .before .before .before .read .ensures) in
     (omega arith, rw (n, given-step, ← f) (cc))
 
 returns : tie.Need-returns Inv-loop μ-loop
-returns c = let e : c .before .before .loop .place .at ≡ c .before .before .before .before .args .end = omega arith in cc
+returns c = let e : (c .before .before .loop .place .at) ≡ (c .before .before .before .before .args .end) = omega arith in cc
 
 pub table-given-spec : {M : Type 1} → statement M
 table-given-spec =
@@ -49,7 +47,6 @@ table-given-spec =
     μ-loop
     loop-holds
     read-requires
-    fields-of-requires
     is-table-named-requires
     either-requires
     loop-less

@@ -1,7 +1,10 @@
 -- `items::Cursor::read`: among the items, the item there and the next place; else none. Assumes nothing.
 use borrow.Author.Tests.{lt-ltb, le-ltb}
-use borrow.Author.Needs.{needs}
+use mathlib.Core.Path.{subst, sym}
+use Rattle.meaning.specs.Ranges.{Ranged}
+use Rattle.meaning.proofs.Ranges.{item-ranged}
 use Rattle.items.specs.Read.{readAt}
+use borrow.Author.Needs.{needs}
 use Rattle.items.proofs.Cursor.read.Statement.{statement}
 use Rattle.items.proofs.Cursor.read.Tie as tie
 
@@ -11,16 +14,31 @@ word-at-requires c κs = search needs
 item-of-requires : tie.Need-item-of-requires
 item-of-requires c κs = search needs
 
-add-t9 : tie.Need-add-t9
-add-t9 c = search needs
+fields-of-requires : tie.Need-fields-of-requires
+fields-of-requires c κs = subst Ranged (sym (c .item-of .ensures)) (item-ranged _)
+
+add-t10 : tie.Need-add-t10
+add-t10 c = search needs
 
 returns : tie.Need-returns
 unfolding readAt
-returns c = rw (lt-ltb _ _ (c .before .before .if1 .taken)) (cc)
+returns c = rw (lt-ltb _ _ (c .before .before .before .if1 .taken)) (cc)
+
+fields-of-requires-2 : tie.Need-fields-of-requires-2
+fields-of-requires-2 c κs = search needs
 
 returns-2 : tie.Need-returns-2
 unfolding readAt
-returns-2 c = rw (le-ltb _ _ (c .if1 .left))
+returns-2 c = rw (le-ltb _ _ (c .before .if1 .left)) (cc)
 
 pub read-spec : {M : Type 1} → statement M
-read-spec = tie.close (tie.spec word-at-requires item-of-requires add-t9 returns returns-2)
+read-spec =
+    tie.close
+    (tie.spec
+    word-at-requires
+    item-of-requires
+    fields-of-requires
+    add-t10
+    returns
+    fields-of-requires-2
+    returns-2)

@@ -13,13 +13,13 @@ answer-requires c κs = search needs
 
 slice-reshare-prefix-write-all : tie.Need-slice-reshare-prefix-write-all
 slice-reshare-prefix-write-all c =
-    let a = c .before .before .before .before .before .before .answer in
-    omega (arith, put-within (a .ensures) zero-le, a .kept .1 .0)
+    let a = c .before .before .before .before .before .before .before .before .answer in
+    omega (arith, put-within (a .ensures .put) zero-le, a .kept .1 .0)
 
 slice-aggregate-write-all : tie.Need-slice-aggregate-write-all
 slice-aggregate-write-all c =
-    let a = c .before .before .before .before .before .before .before .answer in
-    sym (length-take-le _ _ (omega (arith, put-within (a .ensures) zero-le, a .kept .1 .0)))
+    let a = c .before .before .before .before .before .before .before .before .before .answer in
+    sym (length-take-le _ _ (omega (arith, put-within (a .ensures .put) zero-le, a .kept .1 .0)))
 
 write-all-requires : tie.Need-write-all-requires
 write-all-requires c κs = search needs
@@ -32,6 +32,9 @@ same-length-2 c = search needs
 
 same-length-3 : tie.Need-same-length-3
 same-length-3 c = search needs
+
+same-length-4 : tie.Need-same-length-4
+same-length-4 c = search needs
 
 returns : tie.Need-returns
 returns c = search needs
@@ -47,4 +50,5 @@ give-spec =
     same-length
     same-length-2
     same-length-3
+    same-length-4
     returns)

@@ -9,16 +9,17 @@ use Rattle.lines.proofs.input.take_lines.Statement.{statement}
 use Rattle.lines.proofs.input.take_lines.Tie as tie
 
 abbrev Inv-loop : tie.InvT-loop
-Inv-loop chunk line₀ held out₀ description₀ image₀ n₀ from₀ line out description image n from =
+Inv-loop chunk line₀ held out₀ description₀ image₀ given₀ n₀ from₀ line out description image given n from =
     (n ≤ length line₀)
     × (from ≤ length chunk)
     × (length line ≡ length line₀)
     × (length out ≡ length out₀)
     × (length description ≡ length description₀)
     × (length image ≡ length image₀)
+    × (length given ≡ length given₀)
 
 abbrev μ-loop : tie.MeasureT-loop
-μ-loop chunk line₀ held out₀ description₀ image₀ n₀ from₀ line out description image n from = length chunk - from
+μ-loop chunk line₀ held out₀ description₀ image₀ given₀ n₀ from₀ line out description image given n from = length chunk - from
 
 loop-holds : tie.Need-loop-holds Inv-loop μ-loop
 loop-holds c = omega arith
@@ -41,6 +42,9 @@ same-length-3 c = c .before .before .before .before .before .before .before .loo
 same-length-4 : tie.Need-same-length-4 Inv-loop μ-loop
 same-length-4 c = c .before .before .before .before .before .before .before .loop .inv .5
 
+same-length-5 : tie.Need-same-length-5 Inv-loop μ-loop
+same-length-5 c = c .before .before .before .before .before .before .before .loop .inv .6
+
 returns : tie.Need-returns Inv-loop μ-loop
 returns c = omega arith
 
@@ -51,27 +55,37 @@ slice-aggregate-give : tie.Need-slice-aggregate-give Inv-loop μ-loop
 slice-aggregate-give c = sym (length-take-le _ _ (omega arith))
 
 give-requires : tie.Need-give-requires Inv-loop μ-loop
-give-requires c κs = record { reply = omega arith; items = omega arith; tables = omega arith }
-
-same-length-5 : tie.Need-same-length-5 Inv-loop μ-loop
-same-length-5 c =
-    let i = c .before .before .before .before .before .before .before .before .before .before .before .before .before .before .before .before .before .before .before .loop .inv in
-    c .before .before .before .before .before .before .before .before .before .before .before .before .before .before .before .hold .kept .0 ∙ i .2
+give-requires c κs = record { reply = omega arith; items = omega arith; tables = omega arith; new = omega arith }
 
 same-length-6 : tie.Need-same-length-6 Inv-loop μ-loop
 same-length-6 c =
-    let i = c .before .before .before .before .before .before .before .before .before .before .before .before .before .before .before .before .before .before .before .loop .inv in
-    c .before .before .before .before .before .before .before .give .kept .1 .0 ∙ i .3
+    let hold = c .before .before .before .before .before .before .before .before .before .before .before .before .before .before .before .before .before .before .hold in
+    let loop = c .before .before .before .before .before .before .before .before .before .before .before .before .before .before .before .before .before .before .before .before .before .before .loop in
+    hold .kept .0 ∙ loop .inv .2
 
 same-length-7 : tie.Need-same-length-7 Inv-loop μ-loop
 same-length-7 c =
-    let i = c .before .before .before .before .before .before .before .before .before .before .before .before .before .before .before .before .before .before .before .loop .inv in
-    c .before .before .before .before .before .before .before .give .kept .1 .1 .0 ∙ i .4
+    let give = c .before .before .before .before .before .before .before .before .before .give in
+    let loop = c .before .before .before .before .before .before .before .before .before .before .before .before .before .before .before .before .before .before .before .before .before .before .loop in
+    give .kept .1 .0 ∙ loop .inv .3
 
 same-length-8 : tie.Need-same-length-8 Inv-loop μ-loop
 same-length-8 c =
-    let i = c .before .before .before .before .before .before .before .before .before .before .before .before .before .before .before .before .before .before .before .loop .inv in
-    c .before .before .before .before .before .before .before .give .kept .1 .1 .1 .0 ∙ i .5
+    let give = c .before .before .before .before .before .before .before .before .before .give in
+    let loop = c .before .before .before .before .before .before .before .before .before .before .before .before .before .before .before .before .before .before .before .before .before .before .loop in
+    give .kept .1 .1 .0 ∙ loop .inv .4
+
+same-length-9 : tie.Need-same-length-9 Inv-loop μ-loop
+same-length-9 c =
+    let give = c .before .before .before .before .before .before .before .before .before .give in
+    let loop = c .before .before .before .before .before .before .before .before .before .before .before .before .before .before .before .before .before .before .before .before .before .before .loop in
+    give .kept .1 .1 .1 .0 ∙ loop .inv .5
+
+same-length-10 : tie.Need-same-length-10 Inv-loop μ-loop
+same-length-10 c =
+    let give = c .before .before .before .before .before .before .before .before .before .give in
+    let loop = c .before .before .before .before .before .before .before .before .before .before .before .before .before .before .before .before .before .before .before .before .before .before .loop in
+    give .kept .1 .1 .1 .1 .0 ∙ loop .inv .6
 
 returns-2 : tie.Need-returns-2 Inv-loop μ-loop
 returns-2 c = omega arith
@@ -84,22 +98,27 @@ loop-less c = omega arith
 
 loop-again : tie.Need-loop-again Inv-loop μ-loop
 loop-again c =
-    let i = c .before .before .before .before .before .before .before .before .before .before .before .before .before .before .before .before .before .before .before .loop .inv in
-    let h = c .before .before .before .before .before .before .before .before .before .before .before .before .before .before .before .hold in
-    let g = c .before .before .before .before .before .before .before .give in
-    (omega arith, omega arith, h .kept .0 ∙ i .2, g .kept .1 .0 ∙ i .3, g .kept .1 .1 .0 ∙ i .4, g .kept .1 .1 .1 .0 ∙ i .5)
-
-same-length-9 : tie.Need-same-length-9 Inv-loop μ-loop
-same-length-9 c = c .before .loop .inv .2
-
-same-length-10 : tie.Need-same-length-10 Inv-loop μ-loop
-same-length-10 c = c .before .loop .inv .3
+    let loop = c .before .before .before .before .before .before .before .before .before .before .before .before .before .before .before .before .before .before .before .before .before .before .loop in
+    let give = c .before .before .before .before .before .before .before .before .before .give in
+    let hold = c .before .before .before .before .before .before .before .before .before .before .before .before .before .before .before .before .before .before .hold in
+    let i = loop .inv in
+    let g = give .kept in
+    (omega arith, omega arith, hold .kept .0 ∙ i .2, g .1 .0 ∙ i .3, g .1 .1 .0 ∙ i .4, g .1 .1 .1 .0 ∙ i .5, g .1 .1 .1 .1 .0 ∙ i .6)
 
 same-length-11 : tie.Need-same-length-11 Inv-loop μ-loop
-same-length-11 c = c .before .loop .inv .4
+same-length-11 c = c .before .loop .inv .2
 
 same-length-12 : tie.Need-same-length-12 Inv-loop μ-loop
-same-length-12 c = c .before .loop .inv .5
+same-length-12 c = c .before .loop .inv .3
+
+same-length-13 : tie.Need-same-length-13 Inv-loop μ-loop
+same-length-13 c = c .before .loop .inv .4
+
+same-length-14 : tie.Need-same-length-14 Inv-loop μ-loop
+same-length-14 c = c .before .loop .inv .5
+
+same-length-15 : tie.Need-same-length-15 Inv-loop μ-loop
+same-length-15 c = c .before .loop .inv .6
 
 returns-3 : tie.Need-returns-3 Inv-loop μ-loop
 returns-3 c = omega arith
@@ -117,20 +136,23 @@ take-lines-spec =
     same-length-2
     same-length-3
     same-length-4
+    same-length-5
     returns
     slice-reshare-prefix-give
     slice-aggregate-give
     give-requires
-    same-length-5
     same-length-6
     same-length-7
     same-length-8
+    same-length-9
+    same-length-10
     returns-2
     add-from
     loop-less
     loop-again
-    same-length-9
-    same-length-10
     same-length-11
     same-length-12
+    same-length-13
+    same-length-14
+    same-length-15
     returns-3)

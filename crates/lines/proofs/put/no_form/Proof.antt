@@ -1,6 +1,8 @@
 -- `lines::put::no_form`: the text is the reply. Assumes nothing.
+use native.Mathlib.Omega.{arith}
 use borrow.Author.Needs.{needs}
 use Rattle.lines.specs.Answer.{noForm}
+use Rattle.lines.proofs.PutLaws.{no-form-put}
 use Rattle.lines.proofs.put.no_form.Statement.{statement}
 use Rattle.lines.proofs.put.no_form.Tie as tie
 
@@ -15,7 +17,7 @@ same-length c = search needs
 
 returns : tie.Need-returns
 unfolding noForm
-returns c = c .before .before .put-text .ensures
+returns c = no-form-put (omega arith) (c .before .before .put-text .ensures)
 
 pub no-form-spec : {M : Type 1} → statement M
 no-form-spec = tie.close (tie.spec slice-aggregate-put-text put-text-requires same-length returns)

@@ -20,7 +20,10 @@ split-requires : tie.Need-split-requires
 split-requires c κs = search needs
 
 two-words-requires : tie.Need-two-words-requires
-two-words-requires c κs = search needs
+two-words-requires c κs =
+    let split = c .before .before .before .split in
+    let pre = c .before .before .before .before .before .before .before .before .before .before .pre in
+    (omega arith, (split .ensures, (omega (arith, pre .reply), pre .items)))
 
 same-length-2 : tie.Need-same-length-2
 same-length-2 c = search needs
@@ -31,9 +34,10 @@ same-length-3 c = search needs
 returns-2 : tie.Need-returns-2
 unfolding answerWords
 returns-2 c =
-    let split = c .before .before .before .before .before .before .before .before .split .ensures in
-    let two = counted _ _ split 2 (c .before .before .before .before .before .before .before .if2 .taken) in
-    put-as _ (c .before .before .before .before .two-words .ensures) (yes _ _ two ∙ taken _ (omega arith))
+    let two-words = c .before .before .before .before .two-words in
+    let split = c .before .before .before .before .before .before .before .before .split in
+    let if2 = c .before .before .before .before .before .before .before .if2 in
+    put-as _ (two-words .ensures) (yes _ _ (counted _ _ (split .ensures) 2 (if2 .taken)) ∙ taken _ (omega arith))
 
 with-image-requires : tie.Need-with-image-requires
 with-image-requires c κs = search needs
@@ -47,12 +51,16 @@ same-length-5 c = search needs
 same-length-6 : tie.Need-same-length-6
 same-length-6 c = search needs
 
+same-length-7 : tie.Need-same-length-7
+same-length-7 c = search needs
+
 returns-3 : tie.Need-returns-3
 unfolding answerWords
 returns-3 c =
-    let split = c .before .before .before .before .before .before .before .before .before .before .before .split .ensures in
-    let two = counted-other _ _ split 2 (c .before .before .before .before .before .before .before .before .before .before .if2 .left) in
-    put-as _ (c .before .before .before .before .before .before .with-image .ensures) (no _ _ two ∙ taken _ (omega arith))
+    let with-image = c .before .before .before .before .before .before .before .before .with-image in
+    let split = c .before .before .before .before .before .before .before .before .before .before .before .before .before .before .split in
+    let if2 = c .before .before .before .before .before .before .before .before .before .before .before .before .before .if2 in
+    put-as _ (with-image .ensures) (no _ _ (counted-other _ _ (split .ensures) 2 (if2 .left)) ∙ taken _ (omega arith))
 
 pub answer-spec : {M : Type 1} → statement M
 answer-spec =
@@ -70,4 +78,5 @@ answer-spec =
     same-length-4
     same-length-5
     same-length-6
+    same-length-7
     returns-3)

@@ -2,7 +2,7 @@
 use mathlib.Core.Path.{sym}
 use borrow.Author.Needs.{needs}
 use lib.Seq.{length-take-le}
-use Rattle.lines.proofs.AnswerLaws.{put-as, both-asked, both-no-form}
+use Rattle.lines.proofs.AnswerLaws.{put-as, both-asked, both-room, both-no-form}
 use Rattle.lines.proofs.reply.with_image.Statement.{statement}
 use Rattle.lines.proofs.reply.with_image.Tie as tie
 
@@ -20,8 +20,8 @@ slice-aggregate-image-words c =
     let both = c .before .before .before .before .before .before .before .before .d-and-m .ensures .are _ _ (c .before .before .read .given .1) in
     sym (length-take-le _ _ (both .d-within))
 
-slice-reshare-prefix-image-words-2 : tie.Need-slice-reshare-prefix-image-words-2
-slice-reshare-prefix-image-words-2 c = c .before .before .before .before .before .before .before .before .d-and-m .ensures .are _ _ (c .before .before .read .given .1) .m-within
+slice-relend-prefix-image-words : tie.Need-slice-relend-prefix-image-words
+slice-relend-prefix-image-words c = c .before .before .before .before .before .before .before .before .d-and-m .ensures .are _ _ (c .before .before .read .given .1) .m-within
 
 slice-aggregate-image-words-2 : tie.Need-slice-aggregate-image-words-2
 slice-aggregate-image-words-2 c =
@@ -29,7 +29,14 @@ slice-aggregate-image-words-2 c =
     sym (length-take-le _ _ (both .m-within))
 
 image-words-requires : tie.Need-image-words-requires
-image-words-requires c κs = search needs
+image-words-requires c κs =
+    let d-and-m = c .before .before .before .before .before .before .before .before .before .before .before .d-and-m in
+    let read = c .before .before .before .before .before .read in
+    let pre = c .before .before .before .before .before .before .before .before .before .before .before .before .before .before .before .before .before .before .before .pre in
+    let args = c .before .before .before .before .before .before .before .before .before .before .before .before .before .before .before .before .before .before .before .args in
+    let both = d-and-m .ensures .are _ _ (read .given .1) in
+    let a = args in
+    (pre .0, (pre .1 .0, (both-room (a .image .now) (a .out .now) both (d-and-m .kept .1 .1 .1 .0) (pre .1 .1 .reply), pre .1 .1 .new)))
 
 enum-told : tie.Need-enum-told
 enum-told c = search needs
@@ -46,13 +53,16 @@ same-length-2 c = search needs
 same-length-3 : tie.Need-same-length-3
 same-length-3 c = search needs
 
-returns : tie.Need-returns
-returns c =
-    let read = c .before .before .before .before .before .before .before .before .before .before .before .before .before .d-and-m .ensures in
-    put-as _ (c .before .before .image-words .ensures) (both-asked (read .are _ _ (c .before .before .before .before .before .before .before .read .given .1)))
-
 same-length-4 : tie.Need-same-length-4
 same-length-4 c = search needs
+
+returns : tie.Need-returns
+returns c =
+    let d-and-m = c .before .before .before .before .before .before .before .before .before .before .before .before .before .before .before .before .before .before .d-and-m in
+    let read = c .before .before .before .before .before .before .before .before .before .before .before .before .read in
+    let image-words = c .before .before .before .before .before .before .image-words in
+    let both = d-and-m .ensures .are _ _ (read .given .1) in
+    put-as _ (image-words .ensures) (both-asked both)
 
 same-length-5 : tie.Need-same-length-5
 same-length-5 c = search needs
@@ -60,10 +70,14 @@ same-length-5 c = search needs
 same-length-6 : tie.Need-same-length-6
 same-length-6 c = search needs
 
+same-length-7 : tie.Need-same-length-7
+same-length-7 c = search needs
+
 returns-2 : tie.Need-returns-2
 returns-2 c =
-    let read = c .before .before .before .before .before .before .before .before .before .before .d-and-m .ensures in
-    put-as _ (c .before .before .no-form .ensures) (both-no-form _ (read .not (c .before .before .before .before .enum-told .given .1)))
+    let d-and-m = c .before .before .before .before .before .before .before .before .before .before .d-and-m in
+    let enum-told = c .before .before .before .before .enum-told in
+    put-as _ (c .before .before .no-form .ensures) (both-no-form _ (d-and-m .ensures .not (enum-told .given .1)))
 
 pub with-image-spec : {M : Type 1} → statement M
 with-image-spec =
@@ -73,7 +87,7 @@ with-image-spec =
     enum-known-read
     slice-reshare-prefix-image-words
     slice-aggregate-image-words
-    slice-reshare-prefix-image-words-2
+    slice-relend-prefix-image-words
     slice-aggregate-image-words-2
     image-words-requires
     enum-told
@@ -81,8 +95,9 @@ with-image-spec =
     same-length
     same-length-2
     same-length-3
-    returns
     same-length-4
+    returns
     same-length-5
     same-length-6
+    same-length-7
     returns-2)

@@ -1,0 +1,36 @@
+-- `access::element_number`: an integer that is found lies inside the image and has at most 4 octets, so it is read as it stands. Assumes nothing.
+use mathlib.Core.Path.{_∙_, sym}
+use borrow.Author.Needs.{needs}
+use Rattle.access.proofs.Laws.{number-is, number-refused}
+use Rattle.access.proofs.Inside.{read-integer}
+use Rattle.access.proofs.element_number.Statement.{statement}
+use Rattle.access.proofs.element_number.Tie as tie
+
+integer-place-requires : tie.Need-integer-place-requires
+integer-place-requires c κs = search needs
+
+enum-known-place : tie.Need-enum-known-place
+enum-known-place c = search needs
+
+enum-known-place-2 : tie.Need-enum-known-place-2
+enum-known-place-2 c = search needs
+
+number-at-requires : tie.Need-number-at-requires
+number-at-requires c κs = search needs
+
+returns : tie.Need-returns
+returns c = number-refused _ _ _ _ _ (c .before .before .before .integer-place .ensures) (c .before .place .given .1)
+
+returns-2 : tie.Need-returns-2
+returns-2 c = number-is _ _ _ _ _ _ _ (c .before .before .before .before .integer-place .ensures) (c .before .before .place2 .given .1) (c .number-at .ensures .0 ∙ read-integer _ _ _ _ _ (sym (c .before .before .before .before .integer-place .ensures) ∙ c .before .before .place2 .given .1))
+
+pub element-number-spec : {M : Type 1} → statement M
+element-number-spec =
+    tie.close
+    (tie.spec
+    integer-place-requires
+    enum-known-place
+    enum-known-place-2
+    number-at-requires
+    returns
+    returns-2)

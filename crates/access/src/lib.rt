@@ -1,0 +1,320 @@
+// Reads and writes: a table or an element as a part of the image, an element's number; a range of a
+// table, an element's octets, its number written. The public calls stand at the end.
+//
+// Any description, image and question get an answer. Refusals 1 to 9 come first, then 10 to 15 in
+// their order. A write's place is found before an octet is written, so a refused write changes none.
+// Nothing is kept: each call lays the image out anew.
+use basics::ends_within;
+use items::Cursor;
+use meaning::ElementName;
+use meaning::Fields;
+use meaning::Number;
+use meaning::Place;
+use meaning::Refusal;
+use meaning::Verdict;
+use offsets::ImageOffset;
+use offsets::TableOffset;
+use places::Asked;
+use places::TableFound;
+ghost use mathlib.Core.Path.{_≡_};
+ghost use mathlib.Core.Bool.{Bool};
+ghost use Prim.Native.Nat.{_+_, _^_};
+ghost use lib.ListN.{length};
+ghost use Rattle.meaning.specs.Basics.{_<?_, _≤?_, _=?_};
+ghost use Rattle.meaning.specs.Description.{fieldsAt};
+ghost use Rattle.meaning.specs.Refusals.{openImage, whereReply, placePart, tableOctets, elementOctets, integerPlace, numberReply, placeVerdict, imageWith, tableAround, writable, allowed, allowedAt, fitting, rangePlace, octetsPlaceIn, numberPlaceIn, imageWithNumber, writeRangeReply, writeRangeImage, writeOctetsReply, writeOctetsImage, writeNumberReply, writeNumberImage};
+ghost use Rattle.access.specs.Access.{Whole, WholeAt, elementsIn, FitsAt};
+
+// The kinds of items that are asked for.
+const TABLE: u32 = 1;
+
+const UINT: u32 = 2;
+
+// WHAT THE DESCRIPTION SAYS OF AN ITEM
+// The fields of an item, wherever it stands.
+fn fields_at(description: &[u8], item: usize) -> Fields
+    requires { ⌜ Whole (now description) ⌝ }
+    ensures { λ r. ⌜ r ≡ fieldsAt (now (description .entry)) item ⌝ }
+{
+    let place = Cursor { at: item };
+    let read = place.read(description);
+    read.fields
+}
+
+// The table that an item stands in: the latest TABLE before it.
+fn table_around(description: &[u8], item: usize) -> usize
+    requires { ⌜ Whole (now description) ⌝ }
+    ensures { λ r. ⌜ r ≡ tableAround (now (description .entry)) item ⌝ }
+{
+    let mut at = item;
+    while 0 < at {
+        at -= 1;
+        let fields = fields_at(description, at);
+        if fields.kind == TABLE {
+            return at;
+        }
+    }
+    0
+}
+
+// Whether the table at that item may be written: it is marked so.
+fn is_writable(description: &[u8], image: &[u8], table: usize) -> bool
+    requires { ⌜ Whole (now description) ⌝ }
+    ensures { λ r. ⌜ r ≡ writable (now (description .entry)) (now (image .entry)) table ⌝ }
+{
+    let fields = fields_at(description, table);
+    fields.writable == 1
+}
+
+// WHERE A WRITE GOES
+// 13, then 14: so many octets from `start` on, in the table at that item.
+fn allowed_at(
+    description: &[u8],
+    image: &[u8],
+    table: usize,
+    start: ImageOffset,
+    octets: usize,
+) -> Place
+    requires { ⌜ Whole (now description) ⌝ }
+    ensures { λ r. ⌜ r ≡ allowed (now (description .entry)) (now (image .entry)) (elementsIn (openImage (now (description .entry)) (now (image .entry)))) table (start .0) octets ⌝ }
+{
+    if !is_writable(description, image, table) {
+        return Place::Refused(Refusal::NotWritable);
+    }
+    let nothing = places::nothing_asked();
+    let name = nothing.name;
+    let asked = Asked {
+        manufacturer: 0,
+        number: 0,
+        name,
+        from: start,
+        octets,
+    };
+    let answer = places::open_image(description, image, asked);
+    if answer.held {
+        return Place::Refused(Refusal::HoldsDimension);
+    }
+    Place::At {
+        start,
+        length: octets,
+    }
+}
+
+// Where a range of a table is written: 10, 12, then 13 and 14. The table's start turns the offset in
+// it into one in the image.
+fn range_place(
+    description: &[u8],
+    image: &[u8],
+    manufacturer: u32,
+    number: u32,
+    offset: TableOffset,
+    octets: usize,
+) -> Place
+    ensures { λ r. ⌜ r ≡ rangePlace (now (description .entry)) (now (image .entry)) manufacturer number offset octets ⌝ }
+{
+    let nothing = places::nothing_asked();
+    let name = nothing.name;
+    let from = nothing.from;
+    let asked = Asked {
+        manufacturer,
+        number,
+        name,
+        from,
+        octets: 0,
+    };
+    let answer = places::open_image(description, image, asked);
+    let verdict = answer.verdict;
+    let table = answer.table;
+    match verdict {
+        Verdict::Refused(r) => Place::Refused(r),
+        Verdict::Passed => match table {
+            TableFound::No => Place::Refused(Refusal::NoTable),
+            TableFound::Yes {
+                item,
+                start,
+                length,
+            } => {
+                if ends_within(offset.octets(), octets, length) {
+                    return allowed_at(description, image, item, start.in_image(offset), octets);
+                }
+                Place::Refused(Refusal::OutsideTable)
+            }
+        },
+    }
+}
+
+// Where an element is, if it is an integer: 11 too where a number is asked of a BLOCK or SET.
+fn integer_place(description: &[u8], image: &[u8], name: ElementName) -> Place
+    ensures { λ r. ⌜ r ≡ integerPlace (now (description .entry)) (name .item) (whereReply (now (description .entry)) (now (image .entry)) name) ⌝ }
+{
+    let place = places::element_place(description, image, name);
+    match place {
+        Place::Refused(_) => place,
+        Place::At {
+            start: _,
+            length: _,
+        } => {
+            let fields = fields_at(description, name.item);
+            if fields.kind == UINT {
+                return place;
+            }
+            Place::Refused(Refusal::NoElement)
+        }
+    }
+}
+
+// 13, then 14, where an element is.
+fn element_allowed(description: &[u8], image: &[u8], name: ElementName, place: Place) -> Place
+    requires { ⌜ WholeAt (now description) place ⌝ }
+    ensures { λ r. ⌜ r ≡ allowedAt (now (description .entry)) (now (image .entry)) name (elementsIn (openImage (now (description .entry)) (now (image .entry)))) place ⌝ }
+{
+    match place {
+        Place::Refused(_) => place,
+        Place::At { start, length } => {
+            let table = table_around(description, name.item);
+            allowed_at(description, image, table, start, length)
+        }
+    }
+}
+
+// 15: what is to be written doesn't fit the element's length.
+fn octets_place(description: &[u8], image: &[u8], name: ElementName, octets: usize) -> Place
+    ensures { λ r. ⌜ r ≡ octetsPlaceIn (now (description .entry)) (now (image .entry)) name octets (openImage (now (description .entry)) (now (image .entry))) ⌝ }
+{
+    let found = places::element_place(description, image, name);
+    let place = element_allowed(description, image, name, found);
+    match place {
+        Place::Refused(_) => place,
+        Place::At { start: _, length } => {
+            if octets == length {
+                return place;
+            }
+            Place::Refused(Refusal::WrongSize)
+        }
+    }
+}
+
+// Whether a number needs no more than so many octets.
+fn fits_in(value: u64, octets: usize) -> bool
+    ensures { λ r. ⌜ r ≡ (value <? 256 ^ octets) ⌝ }
+{
+    if 8 <= octets {
+        return true;
+    }
+    value >> (octets * 8) == 0
+}
+
+fn number_place(description: &[u8], image: &[u8], name: ElementName, value: u64) -> Place
+    ensures { λ r. ⌜ r ≡ numberPlaceIn (now (description .entry)) (now (image .entry)) name value (openImage (now (description .entry)) (now (image .entry))) ⌝ }
+{
+    let found = integer_place(description, image, name);
+    let place = element_allowed(description, image, name, found);
+    match place {
+        Place::Refused(_) => place,
+        Place::At { start: _, length } => {
+            if fits_in(value, length) {
+                return place;
+            }
+            Place::Refused(Refusal::WrongSize)
+        }
+    }
+}
+
+// THE OCTETS AT A PLACE
+fn part_at<'a>(image: &'a [u8], place: Place) -> &'a [u8]
+    ensures { λ r. ⌜ now r ≡ placePart (now (image .entry)) place ⌝ }
+{
+    match place {
+        Place::Refused(_) => &image[0..0],
+        Place::At { start, length } => octets::part(image, start, length),
+    }
+}
+
+// Writes octets at a place; none where there is a refusal.
+fn write_at(image: &mut [u8], place: Place, new: &[u8]) -> Verdict
+    requires { ⌜ FitsAt (now image) (length (now new)) place ⌝ }
+    ensures reply { λ r. ⌜ r ≡ placeVerdict place ⌝ }
+    ensures image { λ _. ⌜ now (image .exit) ≡ imageWith (now (image .entry)) (now (new .entry)) place ⌝ }
+{
+    match place {
+        Place::Refused(r) => Verdict::Refused(r),
+        Place::At { start, length: _ } => {
+            octets::put_octets(image, start, new);
+            Verdict::Passed
+        }
+    }
+}
+
+// THE PUBLIC CALLS
+// The table itself, as a part of the image; empty on refusal.
+pub fn table_part<'a>(
+    description: &[u8],
+    image: &'a [u8],
+    manufacturer: u32,
+    number: u32,
+) -> &'a [u8]
+    ensures { λ r. ⌜ now r ≡ tableOctets (now (description .entry)) (now (image .entry)) manufacturer number ⌝ }
+{
+    part_at(
+        image,
+        places::table_place(description, image, manufacturer, number),
+    )
+}
+
+// An element's octets, as a part of the image; empty on refusal.
+pub fn element_part<'a>(description: &[u8], image: &'a [u8], name: ElementName) -> &'a [u8]
+    ensures { λ r. ⌜ now r ≡ elementOctets (now (description .entry)) (now (image .entry)) name ⌝ }
+{
+    part_at(image, places::element_place(description, image, name))
+}
+
+// An element's number.
+pub fn element_number(description: &[u8], image: &[u8], name: ElementName) -> Number
+    ensures { λ r. ⌜ r ≡ numberReply (now (description .entry)) (now (image .entry)) name ⌝ }
+{
+    let place = integer_place(description, image, name);
+    match place {
+        Place::Refused(r) => Number::Refused(r),
+        Place::At { start, length } => Number::Is(octets::number_at(image, start, length)),
+    }
+}
+
+// Writes a range of a table, from an offset in it on.
+pub fn write_range(
+    description: &[u8],
+    image: &mut [u8],
+    manufacturer: u32,
+    number: u32,
+    offset: TableOffset,
+    new: &[u8],
+) -> Verdict
+    ensures reply { λ r. ⌜ r ≡ writeRangeReply (now (description .entry)) (now (image .entry)) manufacturer number offset (now (new .entry)) ⌝ }
+    ensures image { λ _. ⌜ now (image .exit) ≡ writeRangeImage (now (description .entry)) (now (image .entry)) manufacturer number offset (now (new .entry)) ⌝ }
+{
+    let place = range_place(description, image, manufacturer, number, offset, new.len());
+    write_at(image, place, new)
+}
+
+// Writes an element's octets.
+pub fn write_octets(description: &[u8], image: &mut [u8], name: ElementName, new: &[u8]) -> Verdict
+    ensures reply { λ r. ⌜ r ≡ writeOctetsReply (now (description .entry)) (now (image .entry)) name (now (new .entry)) ⌝ }
+    ensures image { λ _. ⌜ now (image .exit) ≡ writeOctetsImage (now (description .entry)) (now (image .entry)) name (now (new .entry)) ⌝ }
+{
+    let place = octets_place(description, image, name, new.len());
+    write_at(image, place, new)
+}
+
+// Writes an element's number, in the image's DATA_ORDER.
+pub fn write_number(description: &[u8], image: &mut [u8], name: ElementName, value: u64) -> Verdict
+    ensures reply { λ r. ⌜ r ≡ writeNumberReply (now (description .entry)) (now (image .entry)) name value ⌝ }
+    ensures image { λ _. ⌜ now (image .exit) ≡ writeNumberImage (now (description .entry)) (now (image .entry)) name value ⌝ }
+{
+    let place = number_place(description, image, name, value);
+    match place {
+        Place::Refused(r) => Verdict::Refused(r),
+        Place::At { start, length } => {
+            octets::put_number(image, start, length, value);
+            Verdict::Passed
+        }
+    }
+}

@@ -1,0 +1,108 @@
+-- DEMAND 2: "Over a passed description and an image that lays out, a write is accepted exactly when its table or element exists, its range, length or number
+-- fits, the table is writable and no dimension octet is touched. Afterwards reading that place gives what was written, and every other octet is the same."
+-- Each clause is one named statement over the replies: `writeRangeReply`, `writeOctetsReply` and `writeNumberReply` are the replies of the three writes,
+-- `write..Image` the image afterwards, `tableReply` and `whereReply` say where a table or an element is, `tableOctets`, `elementOctets` and `numberReply` what
+-- is read there (crate meaning, specs/Refusals). The public calls are proved to give these, for every input. A table or an element exists only over a passed
+-- description and an image that lays out, so the statements need not assume them. proofs/Demand2.antt proves every statement here, for every description and image.
+use Prim.Native.Nat.{ℕ, _+_, _^_, _<_, _≤_}
+use mathlib.Core.Path.{_≡_}
+use mathlib.Core.Logic.{_⊎_}
+use mathlib.Core.Bool.{true, false}
+use mathlib.Core.List.{List}
+use lib.ListN.{length, getD}
+use Rattle.offsets.specs.declared.TableOffset.{TableOffset}
+use Rattle.meaning.specs.Basics.{part}
+use Rattle.meaning.specs.declared.ElementName.{ElementName}
+use Rattle.meaning.specs.declared.Refusal.{Refusal}
+use Rattle.meaning.specs.declared.Verdict.{Verdict}
+use Rattle.meaning.specs.declared.Place.{Place}
+use Rattle.meaning.specs.declared.Number.{Number}
+use Rattle.meaning.specs.Description.{itemCount, fieldsAt, isTable, isUint, isDimension, isTableNamed}
+use Rattle.meaning.specs.Passed.{Exactly}
+use Rattle.meaning.specs.Refusals.{tableReply, whereReply, tableOctets, elementOctets, numberReply, writable, writeRangeReply, writeRangeImage, writeOctetsReply, writeOctetsImage, writeNumberReply, writeNumberImage}
+use Rattle.demands.specs.Demand3.{Holds, InBody}
+
+-- n octets from octet p on
+abbrev pub octetsAt : (p n : ℕ) → Place
+octetsAt p n = Place.At (record { 0 = p }) n
+
+-- NO DIMENSION OCTET IS TOUCHED by the n octets from p on: an element that holds one of them sets no slot
+abbrev pub NoDimension : (description image : List ℕ) → (p n : ℕ) → Type 0
+NoDimension d img p n = (x : ℕ) → p ≤ x → x < p + n → (q : ElementName) → Holds d img q x → isDimension (fieldsAt d (q .item)) ≡ false
+
+-- THE TABLE IS WRITABLE: the one of that manufacturer bit and number
+pub record TableWritable (d img : List ℕ) (m k : ℕ) : Type 0 where
+  pub item : ℕ
+  pub there : item < itemCount d
+  pub is : isTableNamed (fieldsAt d item) m k ≡ true
+  pub marked : writable d img item ≡ true
+
+-- and the one that item j stands in
+pub record RoundWritable (d img : List ℕ) (j : ℕ) : Type 0 where
+  pub item : ℕ
+  pub is : isTable (fieldsAt d item) ≡ true
+  pub round : InBody d item j
+  pub marked : writable d img item ≡ true
+
+-- WHAT MAY BE WRITTEN
+-- n octets from offset o on of a table that exists: the range lies in the table
+pub record RangeGood (d img : List ℕ) (m k o n : ℕ) : Type 0 where
+  pub start : ℕ
+  pub size : ℕ
+  pub exists : tableReply d img m k ≡ octetsAt start size
+  pub fits : o + n ≤ size
+  pub allowed : TableWritable d img m k
+  pub free : NoDimension d img (start + o) n
+
+-- an element that exists, where what is to be written fits its length
+pub record ElementGood (d img : List ℕ) (q : ElementName) (Fits : ℕ → Type 0) : Type 0 where
+  pub start : ℕ
+  pub size : ℕ
+  pub exists : whereReply d img q ≡ octetsAt start size
+  pub fits : Fits size
+  pub allowed : RoundWritable d img (q .item)
+  pub free : NoDimension d img start size
+
+-- its octets: as many as the element has
+abbrev pub OctetsGood : (description image : List ℕ) → ElementName → (n : ℕ) → Type 0
+OctetsGood d img q n = ElementGood d img q (λ size. n ≡ size)
+
+-- its number: of an integer, and of no more octets than that has
+abbrev pub NumberGood : (description image : List ℕ) → ElementName → (x : ℕ) → Type 0
+NumberGood d img q x = (isUint (fieldsAt d (q .item)) ≡ true) × ElementGood d img q (λ size. x < 256 ^ size)
+
+-- EVERY OTHER OCTET IS THE SAME: all but the n from p on
+pub record OthersSame (img later : List ℕ) (p n : ℕ) : Type 0 where
+  pub long : length later ≡ length img
+  pub same : (x : ℕ) → (x < p) ⊎ (p + n ≤ x) → getD later x 0 ≡ getD img x 0
+
+-- A REFUSED CALL CHANGES NO OCTET
+abbrev pub Unchanged : Verdict → (image later : List ℕ) → Type 0
+Unchanged v img later = (r : Refusal) → v ≡ Verdict.Refused r → later ≡ img
+
+-- WRITE A RANGE OF A TABLE
+pub record RangeWrites (d img : List ℕ) (m k : ℕ) (o : TableOffset) (new : List ℕ) : Type 0 where
+  pub accepted : Exactly (writeRangeReply d img m k o new ≡ Verdict.Passed) (RangeGood d img m k (o .0) (length new))
+  pub readBack : writeRangeReply d img m k o new ≡ Verdict.Passed → part (tableOctets d (writeRangeImage d img m k o new) m k) (o .0) (length new) ≡ new
+  pub others : (p n : ℕ) → writeRangeReply d img m k o new ≡ Verdict.Passed → tableReply d img m k ≡ octetsAt p n → OthersSame img (writeRangeImage d img m k o new) (p + o .0) (length new)
+  pub unchanged : Unchanged (writeRangeReply d img m k o new) img (writeRangeImage d img m k o new)
+
+-- WRITE AN ELEMENT'S OCTETS
+pub record OctetsWrites (d img : List ℕ) (q : ElementName) (new : List ℕ) : Type 0 where
+  pub accepted : Exactly (writeOctetsReply d img q new ≡ Verdict.Passed) (OctetsGood d img q (length new))
+  pub readBack : writeOctetsReply d img q new ≡ Verdict.Passed → elementOctets d (writeOctetsImage d img q new) q ≡ new
+  pub others : (p n : ℕ) → writeOctetsReply d img q new ≡ Verdict.Passed → whereReply d img q ≡ octetsAt p n → OthersSame img (writeOctetsImage d img q new) p n
+  pub unchanged : Unchanged (writeOctetsReply d img q new) img (writeOctetsImage d img q new)
+
+-- WRITE AN ELEMENT'S NUMBER
+pub record NumberWrites (d img : List ℕ) (q : ElementName) (x : ℕ) : Type 0 where
+  pub accepted : Exactly (writeNumberReply d img q x ≡ Verdict.Passed) (NumberGood d img q x)
+  pub readBack : writeNumberReply d img q x ≡ Verdict.Passed → numberReply d (writeNumberImage d img q x) q ≡ Number.Is x
+  pub others : (p n : ℕ) → writeNumberReply d img q x ≡ Verdict.Passed → whereReply d img q ≡ octetsAt p n → OthersSame img (writeNumberImage d img q x) p n
+  pub unchanged : Unchanged (writeNumberReply d img q x) img (writeNumberImage d img q x)
+
+-- ALL OF IT
+pub record Demand2 (d img : List ℕ) : Type 0 where
+  pub range : (m k : ℕ) (o : TableOffset) (new : List ℕ) → RangeWrites d img m k o new
+  pub octets : (q : ElementName) (new : List ℕ) → OctetsWrites d img q new
+  pub number : (q : ElementName) (x : ℕ) → NumberWrites d img q x

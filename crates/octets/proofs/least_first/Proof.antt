@@ -1,0 +1,55 @@
+-- `octets::least_first`: the loop has filled in i octets, and what is left leads to the whole (Filling); the octets left are its measure. Assumes nothing.
+use borrow.Author.Needs.{needs}
+use native.Mathlib.Omega.{arith}
+use Prim.Native.Nat.{_-_}
+use mathlib.Core.Path.{refl}
+use lib.ListN.{length}
+use Rattle.octets.proofs.Filled.{filled-none, filled-next, filled-all}
+use Rattle.octets.proofs.least_first.Statement.{statement}
+use Rattle.octets.specs.Octets.{Filling}
+use Rattle.octets.proofs.least_first.Tie as tie
+
+abbrev Inv-loop : tie.InvT-loop
+Inv-loop octets₀ value rest₀ i₀ octets rest i = Filling octets₀ value octets rest i
+
+abbrev μ-loop : tie.MeasureT-loop
+μ-loop octets₀ value rest₀ i₀ octets rest i = length octets₀ - i
+
+loop-holds : tie.Need-loop-holds Inv-loop μ-loop
+loop-holds c = filled-none _ _
+
+cast-octets : tie.Need-cast-octets Inv-loop μ-loop
+cast-octets c = omega arith
+
+slice-write-octets : tie.Need-slice-write-octets Inv-loop μ-loop
+slice-write-octets c = search needs
+
+add-i : tie.Need-add-i Inv-loop μ-loop
+add-i c = omega (arith, c .loop-test .taken)
+
+loop-less : tie.Need-loop-less Inv-loop μ-loop
+loop-less c = omega (arith, c .loop-test .taken, c .before .loop .inv .long)
+
+loop-again : tie.Need-loop-again Inv-loop μ-loop
+loop-again c = filled-next _ _ _ _ _ _ (c .before .loop .inv) (omega (arith, c .loop-test .taken, c .before .loop .inv .long)) refl
+
+same-length : tie.Need-same-length Inv-loop μ-loop
+same-length c = c .before .loop .inv .long
+
+returns : tie.Need-returns Inv-loop μ-loop
+returns c = filled-all _ _ _ _ _ (c .before .loop .inv) (omega (arith, c .loop-test .left, c .before .loop .inv .long))
+
+pub least-first-spec : {M : Type 1} → statement M
+least-first-spec =
+    tie.close
+    (tie.spec
+    Inv-loop
+    μ-loop
+    loop-holds
+    cast-octets
+    slice-write-octets
+    add-i
+    loop-less
+    loop-again
+    same-length
+    returns)

@@ -1,0 +1,123 @@
+// Octets of an image: parts of it, numbers read and written in its DATA_ORDER, and octets written as
+// they are. No table or element is known here.
+//
+// Any place and any length may be given. A part ends where the image ends. A number of octets that
+// don't all lie inside the image, or of more than 8, is read as 0; what is to be written and doesn't
+// lie inside leaves the image as it was.
+use basics::ends_within;
+use basics::least;
+use basics::wide;
+use offsets::ImageOffset;
+ghost use mathlib.Core.Path.{_≡_};
+ghost use Prim.Native.Nat.{_+_, _^_, _<_};
+ghost use lib.ListN.{length};
+ghost use Rattle.meaning.specs.Basics.{part, octetsIn};
+ghost use Rattle.meaning.specs.Layout.{dataOrder, numberAt};
+ghost use Rattle.octets.specs.Octets.{numberRead, put, placeOf, Readable};
+
+// DATA_ORDER: bit 0 of the image's first octet. 0 is least significant octet first.
+pub fn data_order(image: &[u8]) -> u32
+    ensures { λ r. ⌜ r ≡ dataOrder (now (image .entry)) ⌝ }
+{
+    if image.len() == 0 {
+        return 0;
+    }
+    wide(image[0]) % 2
+}
+
+// So many octets from `start` on, fewer where the image ends.
+pub fn part<'a>(image: &'a [u8], start: ImageOffset, octets: usize) -> &'a [u8]
+    ensures { λ r. ⌜ now r ≡ part (now (image .entry)) (start .0) octets ⌝ }
+{
+    let at = least(start.octet(), image.len());
+    let end = at + least(octets, image.len() - at);
+    &image[at..end]
+}
+
+// Which of n octets is the i-th most significant.
+fn place_of(order: u32, n: usize, i: usize) -> usize
+    requires { ⌜ i < n ⌝ }
+    ensures { λ r. ⌜ (r ≡ placeOf order n i) × (r < n) ⌝ }
+{
+    if order == 0 {
+        return n - 1 - i;
+    }
+    i
+}
+
+// The number of so many octets. The most significant octet is counted in first.
+fn counted(image: &[u8], at: usize, octets: usize) -> u64
+    requires { ⌜ Readable (now image) at octets ⌝ }
+    ensures { λ r. ⌜ (r ≡ numberAt (now (image .entry)) at octets) × (r < 256 ^ octets) ⌝ }
+{
+    let order = data_order(image);
+    let mut number = 0u64;
+    let mut i = 0;
+    while i < octets {
+        let k = place_of(order, octets, i);
+        number = number * 256 + wide(image[at + k]) as u64;
+        i += 1;
+    }
+    number
+}
+
+// The number of so many octets of the image, in its DATA_ORDER.
+pub fn number_at(image: &[u8], start: ImageOffset, octets: usize) -> u64
+    ensures { λ r. ⌜ (r ≡ numberRead (now (image .entry)) (start .0) octets) × (r < 256 ^ octets) ⌝ }
+{
+    let at = start.octet();
+    if 8 < octets {
+        return 0;
+    }
+    if ends_within(at, octets, image.len()) {
+        return counted(image, at, octets);
+    }
+    0
+}
+
+// Fills `octets` with a number, least significant octet first.
+fn least_first(octets: &mut [u8], value: u64)
+    ensures { λ _. ⌜ now (octets .exit) ≡ octetsIn 0 (length (now (octets .entry))) value ⌝ }
+{
+    let mut rest = value;
+    let mut i = 0;
+    while i < octets.len() {
+        octets[i] = (rest % 256) as u8;
+        rest = rest / 256;
+        i += 1;
+    }
+}
+
+// Fills `octets` with a number, in a DATA_ORDER.
+fn fill(octets: &mut [u8], order: u32, value: u64)
+    ensures { λ _. ⌜ now (octets .exit) ≡ octetsIn order (length (now (octets .entry))) value ⌝ }
+{
+    least_first(octets, value);
+    if order != 0 {
+        let end = octets.len();
+        bytes::reverse(octets, 0, end);
+    }
+}
+
+// Puts octets in place of as many from `start` on.
+pub fn put_octets(image: &mut [u8], start: ImageOffset, new: &[u8])
+    ensures { λ _. ⌜ now (image .exit) ≡ put (now (image .entry)) (start .0) (now (new .entry)) ⌝ }
+{
+    let at = start.octet();
+    if ends_within(at, new.len(), image.len()) {
+        let end = at + new.len();
+        bytes::copy(new, &mut image[at..end]);
+    }
+}
+
+// Puts a number's octets, in the image's DATA_ORDER, in place of so many from `start` on.
+pub fn put_number(image: &mut [u8], start: ImageOffset, octets: usize, value: u64)
+    ensures { λ _. ⌜ now (image .exit) ≡ put (now (image .entry)) (start .0) (octetsIn (dataOrder (now (image .entry))) octets value) ⌝ }
+{
+    let order = data_order(image);
+    let at = start.octet();
+    if ends_within(at, octets, image.len()) {
+        let end = at + octets;
+        fill(&mut image[at..end], order, value);
+    }
+}
