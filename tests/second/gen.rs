@@ -4,8 +4,8 @@
 //!     gen SEED N KIND
 //!
 //! KIND is check, places (layout, table, where), access (tablepart, octets,
-//! number and the writes), calendar (tier, matrix), lines (malformed and odd
-//! lines) or all.
+//! number and the writes), calendar (tier, matrix; gen_calendar.rs), lines
+//! (malformed and odd lines) or all.
 //!
 //! Build with plain rustc; it shares the second program's reading of
 //! descriptions and layouts, only so as to choose cases near the edges. What
@@ -19,6 +19,8 @@ mod description;
 mod layout;
 #[path = "src/refusal.rs"]
 mod refusal;
+
+mod gen_calendar;
 
 #[cfg(test)]
 #[path = "src/access.rs"]
@@ -517,7 +519,11 @@ fn image_for(rng: &mut Rng, items: &[Item], wishes: &[Option<u64>; 64]) -> Vec<u
 
 /// A description damaged so that some rule is likely broken.
 fn damaged(rng: &mut Rng) -> Vec<u8> {
-    let mut maker = sound(rng);
+    let maker = sound(rng);
+    damage(rng, maker)
+}
+
+fn damage(rng: &mut Rng, mut maker: Maker) -> Vec<u8> {
     let words = &mut maker.words;
     let some = rng.index(words.len());
     match rng.below(22) {
@@ -1073,6 +1079,43 @@ fn divided(rng: &mut Rng, length: usize) -> Vec<u32> {
     items
 }
 
+/// Tables 51 and 54 as the standard divides them, sized by Table 51's own
+/// octets: 29 items, slots 32 to 37.
+fn as_standard(rng: &mut Rng) -> [u32; 29] {
+    [
+        table(false, 51, rng.chance(50), 7),
+        uint(1, 32),
+        uint(1, 33),
+        uint(1, 34),
+        uint(1, 35),
+        uint(1, 36),
+        uint(2, 37),
+        uint(2, 0),
+        table(false, 54, rng.chance(50), 20),
+        if_item(reference(32, 5, 1), 1, 0),
+        uint(2, 0),
+        array(reference(35, 0, 8), 2),
+        uint(2, 0),
+        uint(1, 0),
+        array(reference(36, 0, 8), 2),
+        uint(2, 0),
+        uint(1, 0),
+        array(reference(37, 0, 16), 2),
+        uint(2, 0),
+        uint(1, 0),
+        if_item(reference(33, 1, 1), 4, 4),
+        array(reference(34, 0, 4), 3),
+        block(7),
+        array(reference(34, 4, 4), 1),
+        uint(1, 0),
+        array(reference(34, 0, 4), 3),
+        block(3),
+        array(reference(34, 4, 4), 1),
+        uint(1, 0),
+    ]
+}
+
+/// A request of tier or matrix, of a calendar of anything.
 fn calendar_request(rng: &mut Rng) -> String {
     let order = rng.pick(&[0u8, 1, 0, 1, 0xfe, 0xff]);
     let two = |field: u64| -> [u8; 2] {
@@ -1211,39 +1254,7 @@ fn calendar_request(rng: &mut Rng) -> String {
     let mut image = vec![order];
     let mut words = vec![table(false, 0, false, 1), uint(1, 1 + rng.below(20) as u32)];
     if rng.chance(25) {
-        // As the standard divides them, sized by Table 51's own octets.
-        let numbers = [
-            table(false, 51, rng.chance(50), 7),
-            uint(1, 32),
-            uint(1, 33),
-            uint(1, 34),
-            uint(1, 35),
-            uint(1, 36),
-            uint(2, 37),
-            uint(2, 0),
-            table(false, 54, rng.chance(50), 20),
-            if_item(reference(32, 5, 1), 1, 0),
-            uint(2, 0),
-            array(reference(35, 0, 8), 2),
-            uint(2, 0),
-            uint(1, 0),
-            array(reference(36, 0, 8), 2),
-            uint(2, 0),
-            uint(1, 0),
-            array(reference(37, 0, 16), 2),
-            uint(2, 0),
-            uint(1, 0),
-            if_item(reference(33, 1, 1), 4, 4),
-            array(reference(34, 0, 4), 3),
-            block(7),
-            array(reference(34, 4, 4), 1),
-            uint(1, 0),
-            array(reference(34, 0, 4), 3),
-            block(3),
-            array(reference(34, 4, 4), 1),
-            uint(1, 0),
-        ];
-        words.extend_from_slice(&numbers);
+        words.extend_from_slice(&as_standard(rng));
         image.extend_from_slice(&t51);
         image.extend_from_slice(&t54);
     } else {
@@ -1519,7 +1530,10 @@ fn main() {
     for k in 0..count {
         // Each request has its own start, so that one can be made again alone.
         let mut rng = Rng(seed.wrapping_mul(0x2545_f491_4f6c_dd1d).wrapping_add(k << 20));
-        let mut line = request(&mut rng, kind);
+        let mut line = match kind {
+            "calendar" => gen_calendar::request(&mut rng, k).into_bytes(),
+            _ => request(&mut rng, kind),
+        };
         line.push(b'\n');
         if output.write_all(&line).is_err() {
             return;
@@ -1557,7 +1571,25 @@ mod tests {
     }
 
     #[test]
+    fn the_walk_asks_every_day() {
+        let mut days = std::collections::HashSet::new();
+        for k in 0..4 * gen_calendar::DAYS {
+            if k % 4 == 0 {
+                let line = gen_calendar::request(&mut Rng(k), k);
+                let words: Vec<&str> = line.split(' ').collect();
+                assert_eq!((words[0], words.len()), ("tier", 9));
+                days.insert(words[3..6].join(" "));
+            }
+        }
+        assert_eq!(days.len() as u64, gen_calendar::DAYS);
+    }
+
+    #[test]
     fn the_same_seed_gives_the_same_lines() {
+        for k in 0..400 {
+            let once = gen_calendar::request(&mut Rng(k), k);
+            assert_eq!(once, gen_calendar::request(&mut Rng(k), k));
+        }
         for kind in ["check", "places", "access", "calendar", "lines", "all"] {
             for seed in 0..50 {
                 let once = request(&mut Rng(seed), kind);

@@ -1,10 +1,12 @@
--- DATA_ORDER is a dimension: of a passed description laid out, the first element is the image's first octet, and it sets a slot. Assumes nothing.
+-- Table 00 and DATA_ORDER come first: of a passed description laid out, the standard's table 00 is there, the first element is the image's first octet, and it
+-- sets a slot. Assumes nothing.
 use Prim.Native.Nat.{ℕ, suc, _+_, _-_, _<_, _≤_}
 use mathlib.Core.Path.{_≡_, refl, _∙_, ap, subst}
 use mathlib.Core.Bool.{true, false, _&&_, false≢true, and-eq-true-iff}
 use mathlib.Core.List.{List, [], _∷_, _++_}
+use mathlib.Core.Option.{some}
 use lib.ListN.{length}
-use borrow.Author.Tests.{ltb-true, eqb-true}
+use borrow.Author.Tests.{ltb-true, eqb-true, eq-eqb}
 use native.Mathlib.Omega.{arith}
 use Rattle.meaning.specs.Basics.{_=?_, _<?_, _≤?_}
 use Rattle.meaning.specs.declared.Item.{Item}
@@ -12,7 +14,7 @@ use Rattle.meaning.specs.declared.Item.the-variants.{Table, Uint, Block, Set, A
 use Rattle.meaning.specs.Description.{itemCount, itemAt, fieldsOf, fieldsAt, isTable, isTableNamed, isTable00, isDataOrder}
 use Rattle.meaning.specs.Layout.{Node, Body, Tables, uint, more, table, nodeOf, bodyAt, tabled, tablesOf, treeOf}
 use Rattle.meaning.specs.Layout.{Slots, Placed, short, Laid, laid, stopped, also, andThen, inImage, placed, layBody, layNode}
-use Rattle.meaning.specs.Layout.{Seat, Layout, laidOut, stoppedAt, before, seated, layTables, layout}
+use Rattle.meaning.specs.Layout.{Seat, Layout, laidOut, stoppedAt, before, seated, layTables, layout, tableNamed}
 use Rattle.meaning.specs.Passed.{Passes, PassedLaws}
 use Rattle.meaning.proofs.Passed.{passed-laws}
 use Rattle.laying.specs.Tree.{innerAt, nodeAt}
@@ -53,21 +55,27 @@ f-uint : (i k : ℕ) (img : List ℕ) (s : Slots) → 0 < k → OrderedLaid (lay
 unfolding layNode inImage placed
 f-uint i k img s h = tested OrderedLaid (0 + 1 ≤? length img) _ (stopped [] (short i 0)) (λ t. (h, refl, refl)) (λ t. tt)
 
+-- table 00 is among the tables
+pub record HasTable00 (ts : List Seat) : Type 0 where
+  pub seat : Seat
+  pub found : tableNamed 0 0 ts ≡ some seat
+
 -- of the whole image
 abbrev OrderedAll : Layout → Type 0
-OrderedAll (laidOut ts es s n) = Ordered es
+OrderedAll (laidOut ts es s n) = HasTable00 ts × Ordered es
 OrderedAll (stoppedAt es x) = Unit {0}
 
--- a table before others
-f-before : (t : Seat) (ps : List Placed) (o : Layout) → Ordered ps → OrderedAll (before t ps o)
-f-before t ps (laidOut ts qs s n) h = ordered-append ps qs h
-f-before t ps (stoppedAt qs x) h = tt
+-- table 00 before others
+f-before : (t : Seat) (ps : List Placed) (o : Layout) → t .manufacturer ≡ 0 → t .number ≡ 0 → Ordered ps → OrderedAll (before t ps o)
+unfolding tableNamed
+f-before t ps (laidOut ts qs s n) m k h = (record { seat = t; found = rw (eq-eqb (t .manufacturer) 0 m, eq-eqb (t .number) 0 k) }, ordered-append ps qs h)
+f-before t ps (stoppedAt qs x) m k h = tt
 
--- a table, then others
-f-seated : (i m k p : ℕ) (o : Laid) (f : Slots → ℕ → Layout) → OrderedLaid o → OrderedAll (seated i m k p o f)
+-- table 00, then others
+f-seated : (i m k p : ℕ) (o : Laid) (f : Slots → ℕ → Layout) → m ≡ 0 → k ≡ 0 → OrderedLaid o → OrderedAll (seated i m k p o f)
 unfolding seated
-f-seated i m k p (laid ps s q) f h = f-before _ ps (f s q) h
-f-seated i m k p (stopped ps x) f h = tt
+f-seated i m k p (laid ps s q) f e g h = f-before _ ps (f s q) e g h
+f-seated i m k p (stopped ps x) f e g h = tt
 
 -- THE TREE
 -- what is DATA_ORDER's item is that UINT
@@ -95,7 +103,7 @@ f-body : (n : Node) (b : Body) (img : List ℕ) (s : Slots) → IsOrder n → Or
 unfolding layBody
 f-body n b img s h = f-then (layNode n img false [] s 0) _ (rw (h .is) (f-uint (h .item) (h .slot) img s (h .some)))
 
--- tables of which the first begins with that UINT
+-- tables of which the first is table 00 and begins with that UINT
 record Begins (t : Tables) : Type 0 where
   item : ℕ
   manufacturer : ℕ
@@ -104,6 +112,8 @@ record Begins (t : Tables) : Type 0 where
   rest : Body
   others : Tables
   is : t ≡ table item manufacturer number (more first rest) others
+  standard : manufacturer ≡ 0
+  zeroth : number ≡ 0
   order : IsOrder first
 
 -- the tree of a passed description begins so
@@ -129,15 +139,26 @@ begins {d} p =
       others = others;
       is = ap (λ (m : ℕ). tablesOf d m 0 0) all ∙ tables-step d 0 n ∙ t .is others fits
           ∙ ap (λ (x : Body). table 0 (f .manufacturer) (f .number) x others) (ap (bodyAt 4 d 1) size ∙ body-step 4 d 1 (f .first - 1));
+      standard = eqb-true (f .manufacturer) 0 (and-eq-true-iff (isTable f) (f .manufacturer =? 0) .0 (c .0) .1);
+      zeroth = eqb-true (f .number) 0 (c .1);
       order = order-node (innerAt 4 d) (itemAt d 1) 1 (f .first - 1) (p .ordered);
     }
 
 -- so laying it out does
 f-tables : (t : Tables) (img : List ℕ) (s : Slots) → Begins t → OrderedAll (layTables t img s 0)
 unfolding layTables
-f-tables t img s h = rw (h .is) (f-seated (h .item) (h .manufacturer) (h .number) 0 _ _ (f-body (h .first) (h .rest) img s (h .order)))
+f-tables t img s h = rw (h .is) (f-seated (h .item) (h .manufacturer) (h .number) 0 _ _ (h .standard) (h .zeroth) (f-body (h .first) (h .rest) img s (h .order)))
 
--- of a passed description laid out, the first element is octet 0, and sets a slot
-pub first-ordered : (d img : List ℕ) (ts : List Seat) (es : List Placed) (s : Slots) (total : ℕ) → Passes d → layout d img ≡ laidOut ts es s total → Ordered es
-unfolding layout
-first-ordered d img ts es s total h e = subst OrderedAll e (f-tables (treeOf d) img _ (begins (passed-laws d h)))
+-- of a passed description laid out
+module _ (d img : List ℕ) (ts : List Seat) (es : List Placed) (s : Slots) (total : ℕ) (h : Passes d) (e : layout d img ≡ laidOut ts es s total) where
+  first-all : HasTable00 ts × Ordered es
+  unfolding layout
+  first-all = subst OrderedAll e (f-tables (treeOf d) img _ (begins (passed-laws d h)))
+
+  -- table 00 is there
+  pub table-00 : HasTable00 ts
+  table-00 = first-all .0
+
+  -- the first element is octet 0, and sets a slot
+  pub first-ordered : Ordered es
+  first-ordered = first-all .1

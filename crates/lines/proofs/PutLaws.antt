@@ -16,7 +16,7 @@ use Rattle.words.proofs.PutLaws.{put, put-next, put-then}
 use Rattle.meaning.specs.declared.Verdict.{Verdict}
 use Rattle.meaning.specs.Refusals.{verdictValues}
 use Rattle.replies.proofs.Laws.{verdict-three}
-use Rattle.lines.specs.Answer.{spacedText, numbersText, numbersLine, octetsLine, writtenLine, noForm, Replied}
+use Rattle.lines.specs.Answer.{spacedText, numbersText, numbersLine, octetsLine, verdictLine, noForm, Replied}
 
 -- one number more at the end
 spaced-more : (xs : List ℕ) (n : ℕ) → spacedText (xs ++ (n ∷ [])) ≡ spacedText xs ++ (32 ∷ decimalText n)
@@ -124,24 +124,24 @@ pub part-put : {out later : List ℕ} {next : ℕ} (octets : List ℕ) → 2 * l
     → Replied out (octetsLine octets) later next
 part-put octets h p = record { room = omega (arith, octets-short octets); put = p }
 
--- a verdict's three numbers are put, then a space: there is room for the image
+-- a verdict's three numbers are put, then a space: there is room for the octets
 verdict-short : (v : Verdict) → length (numbersText (verdictValues v)) ≤ 63
 verdict-short v = omega (arith, numbers-short (verdictValues v), verdict-three v)
 
-module _ {out now : List ℕ} {at : ℕ} (v : Verdict) (image : List ℕ) (room : 2 * length image + 66 ≤ length out)
+module _ {out now : List ℕ} {at : ℕ} (v : Verdict) (octets : List ℕ) (room : 2 * length octets + 66 ≤ length out)
     (p : IsPut out 0 (numbersText (verdictValues v)) now at) {spaced : List ℕ} {behind : ℕ} (q : IsPut now at (32 ∷ []) spaced behind) where
-  pub image-room : length now ≡ length out → length spaced ≡ length now → behind + 2 * length image + 2 ≤ length spaced
-  image-room l k =
+  pub octets-room : length now ≡ length out → length spaced ≡ length now → behind + 2 * length octets + 2 ≤ length spaced
+  octets-room l k =
       let s : length (numbersText (verdictValues v)) ≤ 63 = verdict-short v in
       let e : at ≡ 0 + length (numbersText (verdictValues v)) = put-next p (omega arith) in
       omega (arith, put-next q (omega arith))
 
-  pub written-put : {later : List ℕ} {next : ℕ} → IsPut spaced behind (octetsLine image) later next → Replied out (writtenLine v image) later next
-  unfolding writtenLine
-  written-put r =
+  pub verdict-put : {later : List ℕ} {next : ℕ} → IsPut spaced behind (octetsLine octets) later next → Replied out (verdictLine v octets) later next
+  unfolding verdictLine
+  verdict-put r =
       let s : length (numbersText (verdictValues v)) ≤ 63 = verdict-short v in
-      let o : length (octetsLine image) ≤ 2 * length image + 2 = octets-short image in
+      let o : length (octetsLine octets) ≤ 2 * length octets + 2 = octets-short octets in
       record {
-        room = omega (arith, length-append (numbersText (verdictValues v)) (32 ∷ octetsLine image));
+        room = omega (arith, length-append (numbersText (verdictValues v)) (32 ∷ octetsLine octets));
         put = rw append-assoc at (put-then (put-then p q (omega arith)) r (omega (arith, length-append (numbersText (verdictValues v)) (32 ∷ []))));
       }

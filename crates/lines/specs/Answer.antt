@@ -1,15 +1,18 @@
 -- The reply to a line: docs/LINES.md, question by question. Octets are ASCII: a space is 32, a line feed 10, `?` 63. Assumes nothing.
 use Prim.Native.Nat.{ℕ, _+_, _*_, _≤_}
 use mathlib.Core.Bool.{Bool, true, _&&_}
-use mathlib.Core.List.{List, [], _∷_, _++_}
+use mathlib.Core.List.{List, [], _∷_, _++_, flatten}
 use lib.ListN.{length, getD, replicate}
 use Rattle.meaning.specs.Basics.{if_then_else_, _=?_, _<?_}
 use Rattle.meaning.specs.declared.ElementName.{ElementName}
+use Rattle.meaning.specs.declared.Moment.{Moment}
+use Rattle.meaning.specs.declared.Quantity.{Quantity}
 use Rattle.meaning.specs.declared.Verdict.{Verdict}
 use Rattle.offsets.specs.declared.TableOffset.{TableOffset}
-use Rattle.meaning.specs.Refusals.{verdictValues, totalValues, placeValues, numberValues, totalReply, tableReply, whereReply, tableOctets, elementOctets, numberReply}
+use Rattle.meaning.specs.Refusals.{verdictValues, totalValues, placeValues, numberValues, tierValues, totalReply, tableReply, whereReply, tableOctets, elementOctets, numberReply}
 use Rattle.meaning.specs.Refusals.{writeRangeReply, writeRangeImage, writeOctetsReply, writeOctetsImage, writeNumberReply, writeNumberImage}
 use Rattle.meaning.specs.Description.{soundness}
+use Rattle.meaning.specs.Calendar.{tierReply, matrixReply, matrixVerdict}
 use Rattle.words.specs.Number.{isNumber, valueOf, decimalText}
 use Rattle.words.specs.Hex.{areOctets, octetsOf, hexText}
 use Rattle.words.specs.Line.{lineWords, isName}
@@ -34,9 +37,9 @@ numbersLine numbers = numbersText numbers ++ 10 ∷ []
 unfoldable pub octetsLine : List ℕ → List ℕ
 octetsLine octets = hexText octets ++ 10 ∷ []
 
--- a write's reply: the verdict's numbers, and the image after the call
-unfoldable pub writtenLine : Verdict → (image : List ℕ) → List ℕ
-writtenLine v image = numbersText (verdictValues v) ++ 32 ∷ octetsLine image
+-- a verdict's numbers, and octets: the image after a write, or the matrix
+unfoldable pub verdictLine : Verdict → (octets : List ℕ) → List ℕ
+verdictLine v octets = numbersText (verdictValues v) ++ 32 ∷ octetsLine octets
 
 -- the reply to a line of no form: `?`
 unfoldable pub noForm : List ℕ
@@ -71,6 +74,17 @@ elementLimits = replicate 6 18446744073709551615
 
 unfoldable pub elementOf : List ℕ → ElementName
 elementOf n = record { item = getD n 0 0; count = getD n 1 0; subscripts = getD n 2 0 ∷ getD n 3 0 ∷ getD n 4 0 ∷ getD n 5 0 ∷ [] }
+
+-- `year month day hour minute what`, from word 3 on
+abbrev pub tierLimits : List ℕ
+tierLimits = replicate 5 4294967295 ++ 1 ∷ []
+
+unfoldable pub momentOf : List ℕ → Moment
+momentOf n = record { year = getD n 0 0; month = getD n 1 0; day = getD n 2 0; hour = getD n 3 0; minute = getD n 4 0 }
+
+-- `what`: 0 is summations, 1 demands
+unfoldable pub quantityOf : ℕ → Quantity
+quantityOf what = if what =? 0 then Quantity.Summations else Quantity.Demands
 
 -- THE QUESTIONS
 -- `check D`
@@ -127,28 +141,45 @@ abbrev pub writerangeName : List ℕ
 writerangeName = 119 ∷ 114 ∷ 105 ∷ 116 ∷ 101 ∷ 114 ∷ 97 ∷ 110 ∷ 103 ∷ 101 ∷ []
 
 unfoldable pub writerangeText : (d m : List ℕ) → (mfr num : ℕ) → TableOffset → (data′ : List ℕ) → List ℕ
-writerangeText d m mfr num offset new = writtenLine (writeRangeReply d m mfr num offset new) (writeRangeImage d m mfr num offset new)
+writerangeText d m mfr num offset new = verdictLine (writeRangeReply d m mfr num offset new) (writeRangeImage d m mfr num offset new)
 
 -- `writeoctets D M S DATA`
 abbrev pub writeoctetsName : List ℕ
 writeoctetsName = 119 ∷ 114 ∷ 105 ∷ 116 ∷ 101 ∷ 111 ∷ 99 ∷ 116 ∷ 101 ∷ 116 ∷ 115 ∷ []
 
 unfoldable pub writeoctetsText : (d m : List ℕ) → ElementName → (data′ : List ℕ) → List ℕ
-writeoctetsText d m element new = writtenLine (writeOctetsReply d m element new) (writeOctetsImage d m element new)
+writeoctetsText d m element new = verdictLine (writeOctetsReply d m element new) (writeOctetsImage d m element new)
 
 -- `writenumber D M S value`
 abbrev pub writenumberName : List ℕ
 writenumberName = 119 ∷ 114 ∷ 105 ∷ 116 ∷ 101 ∷ 110 ∷ 117 ∷ 109 ∷ 98 ∷ 101 ∷ 114 ∷ []
 
 unfoldable pub writenumberText : (d m : List ℕ) → ElementName → (value : ℕ) → List ℕ
-writenumberText d m element value = writtenLine (writeNumberReply d m element value) (writeNumberImage d m element value)
+writenumberText d m element value = verdictLine (writeNumberReply d m element value) (writeNumberImage d m element value)
+
+-- `tier D M year month day hour minute what`
+abbrev pub tierName : List ℕ
+tierName = 116 ∷ 105 ∷ 101 ∷ 114 ∷ []
+
+unfoldable pub tierText : (d m : List ℕ) → Moment → Quantity → List ℕ
+tierText d m moment quantity = numbersLine (tierValues (tierReply d m moment quantity))
+
+-- `matrix D M`: the cells row by row, behind the numbers of the separate question
+abbrev pub matrixName : List ℕ
+matrixName = 109 ∷ 97 ∷ 116 ∷ 114 ∷ 105 ∷ 120 ∷ []
+
+unfoldable pub matrixText : (d m : List ℕ) → List ℕ
+matrixText d m = verdictLine (matrixVerdict d m) (flatten (matrixReply d m))
 
 -- WHICH QUESTION IS ASKED: by the number of words, then by the first of them
 unfoldable pub twoWords : List (List ℕ) → List ℕ
 twoWords words = if isName (nth words 0) checkName then checkText (nth words 1) else noForm
 
 unfoldable pub threeWords : List (List ℕ) → (d m : List ℕ) → List ℕ
-threeWords words d m = if isName (nth words 0) layoutName then layoutText d m else noForm
+threeWords words d m =
+    if isName (nth words 0) layoutName then layoutText d m
+    else if isName (nth words 0) matrixName then matrixText d m
+    else noForm
 
 -- of a table
 unfoldable pub tableWords : (name : List ℕ) → (d m : List ℕ) → (mfr num : ℕ) → List ℕ
@@ -201,12 +232,21 @@ withElement words d m element =
 unfoldable pub elementQuestions : List (List ℕ) → (d m : List ℕ) → List ℕ
 elementQuestions words d m = if areNumbers words 3 elementLimits then withElement words d m (elementOf (numbersIn words 3 elementLimits)) else noForm
 
+-- a tier at a moment, or an element
+unfoldable pub tierWords : List (List ℕ) → (d m : List ℕ) → List ℕ
+tierWords words d m =
+    if areNumbers words 3 tierLimits then tierText d m (momentOf (numbersIn words 3 tierLimits)) (quantityOf (valueOf (nth words 8))) else noForm
+
+unfoldable pub nineWords : List (List ℕ) → (d m : List ℕ) → List ℕ
+nineWords words d m = if isName (nth words 0) tierName then tierWords words d m else elementQuestions words d m
+
 -- the questions about an image, by the octets of D and M
 unfoldable pub imageWords : List (List ℕ) → (d m : List ℕ) → List ℕ
 imageWords words d m =
     if length words =? 3 then threeWords words d m
     else if length words =? 5 then fiveWords words d m
     else if length words =? 7 then sevenWords words d m
+    else if length words =? 9 then nineWords words d m
     else elementQuestions words d m
 
 -- all of them have D and M behind the name
@@ -224,9 +264,9 @@ unfoldable pub answerText : List ℕ → List ℕ
 answerText line = if 300000 <? length line then noForm else answerWords (lineWords line)
 
 -- MEMORY that the program lends itself: room for any reply, for the octets of a description, an image and data in a line that is taken. The longest
--- reply is an image in hex behind a refusal's three numbers, or five numbers: 20 digits each, and what stands between
+-- reply is an image, or the matrix's 330 octets, in hex behind a refusal's three numbers: 20 digits each, and what stands between
 abbrev pub roomFor : (image : List ℕ) → ℕ
-roomFor image = 2 * length image + 110
+roomFor image = 2 * length image + 726
 
 pub record Memory (out description image given : List ℕ) : Type 0 where
   pub reply : roomFor image ≤ length out

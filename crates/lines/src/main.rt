@@ -8,8 +8,9 @@ mod reply;
 
 // The longest line that is taken, and one octet more, by which a longer line is told.
 const LINE: usize = 300001;
-// The longest reply: an image as long as it can be, in hex, behind a refusal's three numbers.
-const REPLY: usize = 300110;
+// The longest reply: an image as long as it can be, or the matrix, in hex, behind a refusal's three
+// numbers.
+const REPLY: usize = 300726;
 // The octets of a description: no line that is taken has hex digits for more.
 const DESCRIPTION: usize = 150000;
 // The octets of an image, likewise.

@@ -5,7 +5,7 @@ ghost use Prim.Native.Nat.{_+_, _*_, _≤_};
 ghost use lib.ListN.{length};
 ghost use Rattle.words.specs.Put.{IsPut};
 ghost use Rattle.words.specs.Number.{decimalText};
-ghost use Rattle.lines.specs.Answer.{noForm, spacedText, numbersText, numbersLine, octetsLine, writtenLine, Replied};
+ghost use Rattle.lines.specs.Answer.{noForm, spacedText, numbersText, numbersLine, octetsLine, verdictLine, Replied};
 
 // The reply to a line of no form.
 pub fn no_form(out: &mut [u8]) -> usize
@@ -75,13 +75,13 @@ pub fn put_part(out: &mut [u8], octets: &[u8]) -> usize
     put_hex(out, 0, octets)
 }
 
-// A write's reply: its verdict, and the image after the call.
-pub fn put_written(out: &mut [u8], verdict: Verdict, image: &[u8]) -> usize
-    requires { ⌜ 2 * length (now image) + 66 ≤ length (now out) ⌝ }
-    ensures { λ r. ⌜ Replied (now (out .entry)) (writtenLine verdict (now (image .entry))) (now (out .exit)) r ⌝ }
+// A reply of a verdict, and octets: the image after a write, or the matrix.
+pub fn put_verdict(out: &mut [u8], verdict: Verdict, octets: &[u8]) -> usize
+    requires { ⌜ 2 * length (now octets) + 66 ≤ length (now out) ⌝ }
+    ensures { λ r. ⌜ Replied (now (out .entry)) (verdictLine verdict (now (octets .entry))) (now (out .exit)) r ⌝ }
 {
     let values = replies::verdict_values(verdict);
     let at = put_numbers(out, &values);
     let behind = words::put_octet(out, at, b' ');
-    put_hex(out, behind, image)
+    put_hex(out, behind, octets)
 }

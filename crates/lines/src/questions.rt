@@ -1,12 +1,14 @@
 // The questions, a function each: from what is asked to its reply.
 use crate::put;
 use meaning::ElementName;
+use meaning::Moment;
+use meaning::Quantity;
 use offsets::TableOffset;
 use words::Octets;
 ghost use Prim.Native.Nat.{_≤_};
 ghost use lib.ListN.{length};
 ghost use Rattle.lines.specs.Answer.{checkText, layoutText, tableText, tablepartText, whereText, octetsText, numberText};
-ghost use Rattle.lines.specs.Answer.{writerangeText, writeoctetsText, writenumberText, roomFor, Replied};
+ghost use Rattle.lines.specs.Answer.{writerangeText, writeoctetsText, writenumberText, tierText, matrixText, roomFor, Replied};
 
 // `check D`. The octets of D are read into description, which has room for them: an octet is two
 // digits of the line.
@@ -92,7 +94,7 @@ pub fn writerange_reply(
     ensures { λ r. ⌜ Replied (now (out .entry)) (writerangeText (now (d .entry)) (now (m .entry)) mfr num offset (now (given .entry))) (now (out .exit)) r ⌝ }
 {
     let verdict = access::write_range(d, m, mfr, num, offset, given);
-    put::put_written(out, verdict, m)
+    put::put_verdict(out, verdict, m)
 }
 
 // `writeoctets D M S DATA`.
@@ -107,7 +109,7 @@ pub fn writeoctets_reply(
     ensures { λ r. ⌜ Replied (now (out .entry)) (writeoctetsText (now (d .entry)) (now (m .entry)) element (now (given .entry))) (now (out .exit)) r ⌝ }
 {
     let verdict = access::write_octets(d, m, element, given);
-    put::put_written(out, verdict, m)
+    put::put_verdict(out, verdict, m)
 }
 
 // `writenumber D M S value`.
@@ -122,5 +124,24 @@ pub fn writenumber_reply(
     ensures { λ r. ⌜ Replied (now (out .entry)) (writenumberText (now (d .entry)) (now (m .entry)) element value) (now (out .exit)) r ⌝ }
 {
     let verdict = access::write_number(d, m, element, value);
-    put::put_written(out, verdict, m)
+    put::put_verdict(out, verdict, m)
+}
+
+// `tier D M year month day hour minute what`.
+pub fn tier_reply(d: &[u8], m: &[u8], moment: Moment, quantity: Quantity, out: &mut [u8]) -> usize
+    requires { ⌜ roomFor (now m) ≤ length (now out) ⌝ }
+    ensures { λ r. ⌜ Replied (now (out .entry)) (tierText (now (d .entry)) (now (m .entry)) moment quantity) (now (out .exit)) r ⌝ }
+{
+    let values = replies::tier_values(calendar::tier(d, m, moment, quantity));
+    put::put_line(out, &values)
+}
+
+// `matrix D M`.
+pub fn matrix_reply(d: &[u8], m: &[u8], out: &mut [u8]) -> usize
+    requires { ⌜ roomFor (now m) ≤ length (now out) ⌝ }
+    ensures { λ r. ⌜ Replied (now (out .entry)) (matrixText (now (d .entry)) (now (m .entry))) (now (out .exit)) r ⌝ }
+{
+    let verdict = calendar::matrix_verdict(d, m);
+    let cells = replies::cells(calendar::matrix(d, m));
+    put::put_verdict(out, verdict, &cells)
 }

@@ -1,13 +1,15 @@
 // The words that questions share: numbers, each within its limit; the octets of D and M; an element.
 use meaning::ElementName;
+use meaning::Moment;
+use meaning::Quantity;
 use words::Number;
 use words::Octets;
 use words::Words;
 ghost use mathlib.Core.Path.{_≡_};
-ghost use Prim.Native.Nat.{_+_, _≤_};
-ghost use lib.ListN.{length};
+ghost use Prim.Native.Nat.{ℕ, _+_, _≤_};
+ghost use lib.ListN.{length, getD};
 ghost use Rattle.words.specs.Line.{lineWords, splitOf};
-ghost use Rattle.lines.specs.Answer.{elementOf};
+ghost use Rattle.lines.specs.Answer.{elementOf, momentOf, quantityOf, tierLimits};
 ghost use Rattle.lines.specs.Read.{NumbersRead, BothRead};
 
 // D and M as octets: how many each has.
@@ -72,4 +74,28 @@ pub fn element(n: [u64; 6]) -> ElementName
         count: n[1] as usize,
         subscripts: [n[2] as usize, n[3] as usize, n[4] as usize, n[5] as usize],
     }
+}
+
+// A moment by its numbers, each within its limit; what is asked for stands behind them.
+pub fn moment(n: [u64; 6]) -> Moment
+    requires { ⌜ ((i : ℕ) → getD n i 0 ≤ getD tierLimits i 0) ⌝ }
+    ensures { λ r. ⌜ r ≡ momentOf n ⌝ }
+{
+    Moment {
+        year: n[0] as u32,
+        month: n[1] as u32,
+        day: n[2] as u32,
+        hour: n[3] as u32,
+        minute: n[4] as u32,
+    }
+}
+
+// What a tier is asked for: 0 is summations, 1 demands.
+pub fn quantity(what: u64) -> Quantity
+    ensures { λ r. ⌜ r ≡ quantityOf what ⌝ }
+{
+    if what == 0 {
+        return Quantity::Summations;
+    }
+    Quantity::Demands
 }

@@ -14,17 +14,26 @@ ghost use Prim.Native.Nat.{_≤_};
 ghost use lib.ListN.{length};
 ghost use Rattle.words.specs.Line.{lineWords, splitOf};
 ghost use Rattle.lines.specs.Answer.{answerText, twoWords, threeWords, tableWords, fiveWords, rangeWords, sevenWords, elementWords, withElement};
-ghost use Rattle.lines.specs.Answer.{octetsWritten, numberWritten, writeWords, elementQuestions, imageWords, withImage, roomFor, Memory, Replied};
+ghost use Rattle.lines.specs.Answer.{octetsWritten, numberWritten, writeWords, elementQuestions, tierWords, nineWords, imageWords, withImage, roomFor, Memory, Replied};
 
 // The longest line that is taken.
 const LONGEST: usize = 300000;
-// What a number may come to: mfr 1 and num 65,535; an offset and the six numbers of an element are
-// not limited.
+// What a number may come to: mfr 1 and num 65,535; the five of a moment 2^32 - 1 and what 1; an
+// offset and the six numbers of an element are not limited.
 const TABLE: [u64; 2] = [1, 65535];
 
 const RANGE: [u64; 3] = [1, 65535, u64::MAX];
 
 const ELEMENT: [u64; 6] = [u64::MAX; 6];
+
+const TIER: [u64; 6] = [
+    4294967295,
+    4294967295,
+    4294967295,
+    4294967295,
+    4294967295,
+    1,
+];
 
 // The questions of two words.
 fn two_words(line: &[u8], split: Words, out: &mut [u8], description: &mut [u8]) -> usize
@@ -50,6 +59,9 @@ fn three_words(line: &[u8], split: Words, d: &[u8], m: &[u8], out: &mut [u8]) ->
     let name = words::word(line, split, 0);
     if check::same(name, b"layout") {
         return questions::layout_reply(d, m, out);
+    }
+    if check::same(name, b"matrix") {
+        return questions::matrix_reply(d, m, out);
     }
     put::no_form(out)
 }
@@ -272,6 +284,42 @@ fn element_questions(
     with_element(line, split, d, m, read::element(asked), given, out)
 }
 
+// A tier, by the moment and the quantity that are asked for.
+fn tier_words(line: &[u8], split: Words, d: &[u8], m: &[u8], out: &mut [u8]) -> usize
+    requires { ⌜ split ≡ splitOf (now line) ⌝ }
+    requires { ⌜ roomFor (now m) ≤ length (now out) ⌝ }
+    ensures { λ r. ⌜ Replied (now (out .entry)) (tierWords (lineWords (now (line .entry))) (now (d .entry)) (now (m .entry))) (now (out .exit)) r ⌝ }
+{
+    let mut asked = [0u64; 6];
+    if !read::numbers(line, split, 3, &TIER, &mut asked) {
+        return put::no_form(out);
+    }
+    let what = asked[5];
+    questions::tier_reply(d, m, read::moment(asked), read::quantity(what), out)
+}
+
+// The questions of nine words: a tier, or an element.
+fn nine_words(
+    line: &[u8],
+    split: Words,
+    d: &[u8],
+    m: &mut [u8],
+    given: &mut [u8],
+    out: &mut [u8],
+) -> usize
+    requires { ⌜ length (now line) ≤ 300000 ⌝ }
+    requires { ⌜ split ≡ splitOf (now line) ⌝ }
+    requires { ⌜ roomFor (now m) ≤ length (now out) ⌝ }
+    requires { ⌜ 150000 ≤ length (now given) ⌝ }
+    ensures { λ r. ⌜ Replied (now (out .entry)) (nineWords (lineWords (now (line .entry))) (now (d .entry)) (now (m .entry))) (now (out .exit)) r ⌝ }
+{
+    let name = words::word(line, split, 0);
+    if check::same(name, b"tier") {
+        return tier_words(line, split, d, m, out);
+    }
+    element_questions(line, split, d, m, given, out)
+}
+
 // The questions about an image, D and M being these octets.
 fn image_words(
     line: &[u8],
@@ -296,6 +344,9 @@ fn image_words(
     }
     if count == 7 {
         return seven_words(line, split, d, m, given, out);
+    }
+    if count == 9 {
+        return nine_words(line, split, d, m, given, out);
     }
     element_questions(line, split, d, m, given, out)
 }

@@ -2,15 +2,19 @@
 -- A table is here the list of its octets, however the description divides it. Assumes nothing.
 use Prim.Native.Nat.{ℕ, zero, suc, _+_, _-_, _*_, _%_}
 use mathlib.Core.Bool.{Bool, false, not, _&&_, _||_}
-use mathlib.Core.List.{List, [], _∷_, _++_}
+use mathlib.Core.List.{List, [], _∷_}
 use mathlib.Core.Option.{Option, some, none}
 use lib.ListN.{length, getD}
 use Rattle.meaning.specs.Basics.{if_then_else_, _=?_, _<?_, _≤?_, bits, flag, part, numberIn, build}
+use Rattle.meaning.specs.declared.Chosen.{Chosen}
+use Rattle.meaning.specs.declared.Chosen.the-variants.{Nothing, Entry}
+use Rattle.meaning.specs.declared.Controls.{Controls}
 use Rattle.meaning.specs.declared.Moment.{Moment}
 use Rattle.meaning.specs.declared.Quantity.{Quantity}
 use Rattle.meaning.specs.declared.Refusal.{Refusal}
 use Rattle.meaning.specs.declared.Verdict.{Verdict}
 use Rattle.meaning.specs.declared.Tier.{Tier}
+use Rattle.meaning.specs.declared.Triple.{Triple}
 use Rattle.meaning.specs.Layout.{Seat, dataOrder, tableNamed}
 use Rattle.meaning.specs.Refusals.{Opened, opened, refused, openImage}
 
@@ -50,17 +54,6 @@ unfoldable pub weekdayOf : (dayNumber : ℕ) → ℕ
 weekdayOf n = (n + 1) % 7
 
 -- TABLE 51
-pub record Controls : Type 0 where
-  pub armed : Bool
-  pub anchored : Bool
-  pub separateWeekdays : Bool
-  pub separateSumDemands : Bool
-  pub seasons : ℕ
-  pub specials : ℕ
-  pub nonRecurring : ℕ
-  pub recurring : ℕ
-  pub switches : ℕ
-
 -- flag octet 1: bit 3 SEASON_CHNG_ARMED, bit 5 ANCHOR_DATE; flag octet 2: bit 1 SEPARATE_WEEKDAYS, bit 2 SEPARATE_SUM_DEMANDS; octet 3: seasons (bits 0..3),
 -- special schedules (bits 4..7); then non-recurring dates and recurring dates, one octet each; tier switches, two; table size, two, not used here
 unfoldable pub controlsOf : (order : ℕ) → (table51 : List ℕ) → Controls
@@ -68,11 +61,11 @@ controlsOf o t =
     record {
       armed = flag 3 (getD t 0 0);
       anchored = flag 5 (getD t 0 0);
-      separateWeekdays = flag 1 (getD t 1 0);
-      separateSumDemands = flag 2 (getD t 1 0);
+      weekdays = flag 1 (getD t 1 0);
+      separate = flag 2 (getD t 1 0);
       seasons = bits 3 0 (getD t 2 0);
       specials = bits 7 4 (getD t 2 0);
-      nonRecurring = getD t 3 0;
+      dates = getD t 3 0;
       recurring = getD t 4 0;
       switches = numberIn o (part t 5 2);
     }
@@ -84,7 +77,7 @@ datesAt c = if c .anchored then 2 else 0
 
 -- records of three octets: non-recurring dates, then recurring dates, then switches
 unfoldable pub switchesAt : Controls → ℕ
-switchesAt c = datesAt c + 3 * c .nonRecurring + 3 * c .recurring
+switchesAt c = datesAt c + 3 * c .dates + 3 * c .recurring
 
 -- then the matrix, a row for each season
 unfoldable pub matrixAt : Controls → ℕ
@@ -92,7 +85,7 @@ matrixAt c = switchesAt c + 3 * c .switches
 
 -- the columns of days: Sunday to Saturday, or Saturday, Sunday, weekday; a special schedule's column stands after them
 unfoldable pub dayColumns : Controls → ℕ
-dayColumns c = if c .separateWeekdays then 7 else 3
+dayColumns c = if c .weekdays then 7 else 3
 
 unfoldable pub rowWidth : Controls → ℕ
 rowWidth c = dayColumns c + c .specials
@@ -100,38 +93,29 @@ rowWidth c = dayColumns c + c .specials
 unfoldable pub table54Size : Controls → ℕ
 table54Size c = matrixAt c + c .seasons * rowWidth c
 
--- three octets: a number of two, and one more
-pub record Triple : Type 0 where
-  pub word : ℕ
-  pub octet : ℕ
+-- three octets from `at` on: a number of two, and one more
+unfoldable pub tripleAt : (order : ℕ) → (table54 : List ℕ) → (at : ℕ) → Triple
+tripleAt o t at = record { word = numberIn o (part t at 2); octet = getD t (at + 2) 0 }
 
 -- n such records from `at` on
 unfoldable pub triples : (order : ℕ) → (table54 : List ℕ) → (at n : ℕ) → List Triple
 triples o t at zero = []
-triples o t at (suc n) = record { word = numberIn o (part t at 2); octet = getD t (at + 2) 0 } ∷ triples o t (at + 3) n
+triples o t at (suc n) = tripleAt o t at ∷ triples o t (at + 3) n
 
--- THE LATEST OF SOME ENTRIES: a day or a minute, and what it brings
-pub record Entry : Type 0 where
-  pub when : ℕ
-  pub brings : ℕ
+-- THE LATEST OF WHAT SOME RECORDS BRING, by the day or the minute from which it holds
+-- an earlier record's before a later one's: of equals, the later record
+unfoldable pub orLater : (earlier later : Chosen) → Chosen
+orLater Nothing b = b
+orLater (Entry w x) Nothing = Entry w x
+orLater (Entry w x) (Entry v y) = if w ≤? v then Entry v y else Entry w x
 
--- e before what was chosen of those after it: of equals, the later record
-abbrev pub orLater : Entry → Option Entry → Option Entry
-orLater e none = some e
-orLater e (some f) = if e .when ≤? f .when then some f else some e
+unfoldable pub latest : (brought : Triple → Chosen) → List Triple → Chosen
+latest f [] = Nothing
+latest f (r ∷ rs) = orLater (f r) (latest f rs)
 
-unfoldable pub latest : List Entry → Option Entry
-latest [] = none
-latest (e ∷ es) = orLater e (latest es)
-
--- the entries that some records bring, in the records' order
-unfoldable pub entries : (Triple → List Entry) → List Triple → List Entry
-entries f [] = []
-entries f (r ∷ rs) = f r ++ entries f rs
-
--- one entry where a condition holds
-abbrev pub entryIf : Bool → (when brings : ℕ) → List Entry
-entryIf b w x = if b then record { when = w; brings = x } ∷ [] else []
+-- something, where a condition holds
+abbrev pub entryIf : Bool → (when brings : ℕ) → Chosen
+entryIf b w x = if b then Entry w x else Nothing
 
 -- DATES OF RECORDS. DATE: year bits 0..6, month 7..10, day 11..15
 -- years 0..89 are 2000 on, 90..99 are 1990 on; others are no years
@@ -149,39 +133,39 @@ unfoldable pub action : Triple → ℕ
 action r = bits 4 0 (r .octet)
 
 -- 3 to 18 select season 0 to 15; one not after the day. Records without a real date are skipped
-unfoldable pub seasonEntry : (day : ℕ) → Triple → List Entry
+unfoldable pub seasonEntry : (day : ℕ) → Triple → Chosen
 seasonEntry day r = entryIf (recordReal r && recordDay r ≤? day && 3 ≤? action r && action r ≤? 18) (recordDay r) (action r - 3)
 
 -- 19 to 30 select special schedule 0 to 11; it holds for its own date only
-unfoldable pub specialEntry : (day : ℕ) → Triple → List Entry
+unfoldable pub specialEntry : (day : ℕ) → Triple → Chosen
 specialEntry day r = entryIf (recordReal r && recordDay r =? day && 19 ≤? action r && action r ≤? 30) (recordDay r) (action r - 19)
 
 -- the non-recurring dates; recurring records are read past and not applied
 unfoldable pub datesOf : (order : ℕ) → Controls → (table54 : List ℕ) → List Triple
-datesOf o c t = triples o t (datesAt c) (c .nonRecurring)
+datesOf o c t = triples o t (datesAt c) (c .dates)
 
 -- the season on a day: the season action with the latest date not after it; of equal dates, the later record
-unfoldable pub seasonOn : (day : ℕ) → List Triple → Option Entry
-seasonOn day dates = latest (entries (seasonEntry day) dates)
+unfoldable pub seasonOn : (day : ℕ) → List Triple → Chosen
+seasonOn day dates = latest (seasonEntry day) dates
 
 -- the special schedule on a day: the later record wins
-unfoldable pub specialOn : (day : ℕ) → List Triple → Option Entry
-specialOn day dates = latest (entries (specialEntry day) dates)
+unfoldable pub specialOn : (day : ℕ) → List Triple → Chosen
+specialOn day dates = latest (specialEntry day) dates
 
 -- THE SCHEDULE
 -- rows stand Sunday first; SEPARATE_WEEKDAYS false: Saturday, Sunday, weekday
 unfoldable pub dayColumn : Controls → (weekday : ℕ) → ℕ
-dayColumn c w = if c .separateWeekdays then w else if w =? 6 then 0 else if w =? 0 then 1 else 2
+dayColumn c w = if c .weekdays then w else if w =? 6 then 0 else if w =? 0 then 1 else 2
 
 -- special schedule k stands in column 7 + k or 3 + k
-unfoldable pub columnOn : Controls → (day : ℕ) → Option Entry → ℕ
-columnOn c day none = dayColumn c (weekdayOf day)
-columnOn c day (some e) = dayColumns c + e .brings
+unfoldable pub columnOn : Controls → (day : ℕ) → Chosen → ℕ
+columnOn c day Nothing = dayColumn c (weekdayOf day)
+columnOn c day (Entry w k) = dayColumns c + k
 
 -- a season without a row, a special schedule without a column
-unfoldable pub missingSpecial : Controls → Option Entry → Bool
-missingSpecial c none = false
-missingSpecial c (some e) = c .specials ≤? e .brings
+unfoldable pub missingSpecial : Controls → Chosen → Bool
+missingSpecial c Nothing = false
+missingSpecial c (Entry w k) = c .specials ≤? k
 
 unfoldable pub cellAt : Controls → (table54 : List ℕ) → (row column : ℕ) → ℕ
 cellAt c t row column = getD t (matrixAt c + row * rowWidth c + column) 0
@@ -192,29 +176,29 @@ flaggedFor Quantity.Summations w = flag 3 w
 flaggedFor Quantity.Demands w = flag 4 w
 
 -- with SEPARATE_SUM_DEMANDS only switches flagged for what is asked count; without it all do
-unfoldable pub counts : Controls → Quantity → (switch : ℕ) → Bool
-counts c q w = not (c .separateSumDemands) || flaggedFor q w
+unfoldable pub counts : (separate : Bool) → Quantity → (switch : ℕ) → Bool
+counts separate q w = not separate || flaggedFor q w
 
 unfoldable pub switchMinute : (switch : ℕ) → ℕ
 switchMinute w = 60 * bits 15 11 w + bits 10 5 w
 
 -- a switch of that schedule number at or before the time; hours over 23 or minutes over 59 are skipped
-unfoldable pub switchEntry : Controls → Quantity → (schedule minute : ℕ) → Triple → List Entry
-switchEntry c q n m r =
-    entryIf (r .octet =? n && realTime (bits 15 11 (r .word)) (bits 10 5 (r .word)) && switchMinute (r .word) ≤? m && counts c q (r .word))
+unfoldable pub switchEntry : (separate : Bool) → Quantity → (schedule minute : ℕ) → Triple → Chosen
+switchEntry separate q n m r =
+    entryIf (r .octet =? n && realTime (bits 15 11 (r .word)) (bits 10 5 (r .word)) && switchMinute (r .word) ≤? m && counts separate q (r .word))
     (switchMinute (r .word)) (bits 2 0 (r .word))
 
 unfoldable pub switchesOf : (order : ℕ) → Controls → (table54 : List ℕ) → List Triple
 switchesOf o c t = triples o t (switchesAt c) (c .switches)
 
 -- no such switch: "none yet today"
-unfoldable pub tierFrom : Option Entry → Tier
-tierFrom none = Tier.NoneYet
-tierFrom (some e) = Tier.Is (e .brings)
+unfoldable pub tierFrom : Chosen → Tier
+tierFrom Nothing = Tier.NoneYet
+tierFrom (Entry w x) = Tier.Is x
 
 -- the tier is that of the latest switch of that number at or before the time; of equal times, the later record
 unfoldable pub tierAt : (order : ℕ) → Controls → (table54 : List ℕ) → Quantity → (schedule minute : ℕ) → Tier
-tierAt o c t q n m = tierFrom (latest (entries (switchEntry c q n m) (switchesOf o c t)))
+tierAt o c t q n m = tierFrom (latest (switchEntry (c .separate) q n m) (switchesOf o c t))
 
 -- THE TABLES NEEDED
 -- the image's DATA_ORDER, what Table 51 says, and the octets of Table 54; or the refusal
@@ -246,11 +230,11 @@ calendar d img = calendarIn img (openImage d img)
 
 -- THE TIER AT A DATE AND TIME: after 1 to 10 and 20 come 16, 18, 17, 19
 -- 19: season or special schedule without a row or column
-unfoldable pub tierOn : (order : ℕ) → Controls → (table54 : List ℕ) → (day minute : ℕ) → Quantity → (special season : Option Entry) → Tier
-tierOn o c t day m q x none = Tier.Refused Refusal.NoSeason
-tierOn o c t day m q x (some s) =
-    if c .seasons ≤? s .brings || missingSpecial c x then Tier.Refused Refusal.NoRowOrColumn
-    else tierAt o c t q (cellAt c t (s .brings) (columnOn c day x)) m
+unfoldable pub tierOn : (order : ℕ) → Controls → (table54 : List ℕ) → (day minute : ℕ) → Quantity → (special season : Chosen) → Tier
+tierOn o c t day m q x Nothing = Tier.Refused Refusal.NoSeason
+tierOn o c t day m q x (Entry w s) =
+    if c .seasons ≤? s || missingSpecial c x then Tier.Refused Refusal.NoRowOrColumn
+    else tierAt o c t q (cellAt c t s (columnOn c day x)) m
 
 -- 17: no season chosen by that date
 unfoldable pub tierDay : (order : ℕ) → Controls → (table54 : List ℕ) → (day minute : ℕ) → Quantity → Tier
@@ -271,9 +255,12 @@ tierReply d img w q = tierIn w q (calendar d img)
 unfoldable pub matrixCell : Controls → (table54 : List ℕ) → (row column : ℕ) → ℕ
 matrixCell c t row column = if row <? c .seasons && column <? rowWidth c then cellAt c t row column else 0
 
+unfoldable pub matrixOf : Controls → (table54 : List ℕ) → List (List ℕ)
+matrixOf c t = build 15 (λ row. build 22 (λ column. matrixCell c t row column))
+
 -- all cells 0 on refusal
 unfoldable pub matrixIn : Found → List (List ℕ)
-matrixIn (found o c t) = build 15 (λ row. build 22 (λ column. matrixCell c t row column))
+matrixIn (found o c t) = matrixOf c t
 matrixIn (missing r) = build 15 (λ row. build 22 (λ column. 0))
 
 unfoldable pub matrixReply : (description image : List ℕ) → List (List ℕ)

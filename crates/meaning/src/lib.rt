@@ -87,6 +87,33 @@ pub enum Quantity {
     Demands,
 }
 
+// What Table 51 says of the calendar: its flags, and how many records and schedules Table 54 has.
+pub struct Controls {
+    // SEASON_CHNG_ARMED, ANCHOR_DATE, SEPARATE_WEEKDAYS, SEPARATE_SUM_DEMANDS.
+    pub armed: bool,
+    pub anchored: bool,
+    pub weekdays: bool,
+    pub separate: bool,
+    // Seasons, special schedules, non-recurring and recurring dates, tier switches.
+    pub seasons: usize,
+    pub specials: usize,
+    pub dates: usize,
+    pub recurring: usize,
+    pub switches: usize,
+}
+
+// Three octets of Table 54: a number of two, and one more.
+pub struct Triple {
+    pub word: u32,
+    pub octet: u32,
+}
+
+// What a record of Table 54 brings: nothing, or something from a day or a minute on.
+pub enum Chosen {
+    Nothing,
+    Entry { when: u32, brings: u32 },
+}
+
 // Why a question is refused. specs/Refusals.antt has the paper's number of each.
 pub enum Refusal {
     BadLength,

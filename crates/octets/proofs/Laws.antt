@@ -1,19 +1,20 @@
 -- What is read and written, case by case. Assumes nothing.
 use Prim.Native.Nat.{ℕ, suc, _+_, _-_, _%_, _^_, _<_, _≤_, min}
-use mathlib.Core.Path.{_≡_, refl, _∙_, ap, sym}
-use mathlib.Core.Bool.{Bool, true, false, _&&_}
+use mathlib.Core.Path.{_≡_, refl, _∙_, ap, sym, subst}
+use mathlib.Core.Bool.{Bool, true, false}
 use mathlib.Core.List.{List, [], _∷_, _++_, append-assoc, append-nil}
 use lib.ListN.{length, getD, take, drop, length-drop, drop-of-length-le}
 use lib.Seq.{take-all, take-length, take-nil, drop-length}
 use borrow.Rule.Slice.PartMut.{midOf, putMid, mid-len, post-is}
 use lib.Dec.{leb}
-use borrow.Author.Tests.{le-leb, leb-true, leb-false}
+use borrow.Author.Tests.{le-leb, lt-leb, leb-true, leb-false}
 use native.Mathlib.Omega.{arith}
-use native.Mathlib.Nat.{pow-le-pow-right}
+use native.Mathlib.Nat.{one-le-pow}
 use Rattle.meaning.specs.Layout.{dataOrder, numberAt}
-use Rattle.meaning.specs.Basics.{_≤?_, part, splice, octetsIn}
+use Rattle.meaning.specs.Basics.{part, splice, numberIn, octetsIn}
 use Rattle.meaning.proofs.Octets.{octets-long}
-use Rattle.octets.specs.Octets.{inside, numberRead, put}
+use Rattle.meaning.proofs.Splices.{part-long}
+use Rattle.octets.specs.Octets.{inside, numberOf, numberRead, put}
 
 -- DATA_ORDER of an image of no octets, and by its first octet
 pub order-empty : (img : List ℕ) → length img ≡ 0 → 0 ≡ dataOrder img
@@ -25,18 +26,36 @@ pub order-first : (img : List ℕ) (x : ℕ) → x ≡ getD img 0 0 → x % 2 �
 unfolding dataOrder
 order-first img x e = rw e (omega arith)
 
--- a number read: of too many octets, or of octets not inside the image, it is 0
-pub read-none : (img : List ℕ) (p n : ℕ) → (n ≤? 8 && inside img p n) ≡ false → (0 ≡ numberRead img p n) × (0 < 256 ^ n)
+-- a number of some octets: of too many it is 0
+pub number-many : (order : ℕ) (xs : List ℕ) → 8 < length xs → (0 ≡ numberOf order xs) × (0 < 256 ^ length xs)
+unfolding numberOf
+number-many order xs h = (rw (lt-leb (length xs) 8 h), one-le-pow (length xs) 256 (omega arith))
+
+pub number-few : (order : ℕ) (xs : List ℕ) → length xs ≤ 8 → numberIn order xs ≡ numberOf order xs
+unfolding numberOf
+number-few order xs h = rw (le-leb (length xs) 8 h)
+
+-- a number read: of octets not inside the image it is 0
+pub read-none : (img : List ℕ) (p n : ℕ) → inside img p n ≡ false → (0 ≡ numberRead img p n) × (0 < 256 ^ n)
 unfolding numberRead
-read-none img p n h =
-    let z : 0 ≤ n = omega arith in
-    let m : 256 ^ 0 ≤ 256 ^ n = pow-le-pow-right (omega arith) z in
-    (rw h, omega arith)
+read-none img p n h = (rw h, one-le-pow n 256 (omega arith))
+
+-- octets that are inside are read as the number of that part, cut out from p up to e
+pub read-part : (img : List ℕ) (p n e order number : ℕ) → e ≡ p + n → e ≤ length img → order ≡ dataOrder img
+    → (number ≡ numberOf order (take (e - p) (drop p img))) × (number < 256 ^ length (take (e - p) (drop p img))) → (number ≡ numberRead img p n) × (number < 256 ^ n)
+unfolding numberRead part
+read-part img p n e order number h i o (is, fits) =
+    let z : e - p ≡ n = omega arith in
+    let j : p + n ≤ length img = omega arith in
+    let l : length (part img p n) ≡ n = part-long img p n ∙ omega arith in
+    (is ∙ rw (z, o, le-leb (p + n) (length img) j), rw (← l) (subst (λ (k : ℕ). number < 256 ^ length (take k (drop p img))) z fits))
 
 -- octets that are inside, and not too many, are read as they stand
 pub read-there : (img : List ℕ) (p n : ℕ) → n ≤ 8 → p + n ≤ length img → numberRead img p n ≡ numberAt img p n
-unfolding numberRead
-read-there img p n few h = rw (le-leb n 8 few, le-leb (p + n) (length img) h)
+unfolding numberRead numberAt
+read-there img p n few h =
+    let l : length (part img p n) ≡ n = part-long img p n ∙ omega arith in
+    rw (le-leb (p + n) (length img) h) (sym (number-few (dataOrder img) (part img p n) (omega arith)))
 
 -- inside, as a fact
 pub inside-true : (img : List ℕ) (p n : ℕ) (b : Bool) → b ≡ inside img p n → b ≡ true → p + n ≤ length img

@@ -9,11 +9,11 @@ use basics::least;
 use basics::wide;
 use offsets::ImageOffset;
 ghost use mathlib.Core.Path.{_≡_};
-ghost use Prim.Native.Nat.{_+_, _^_, _<_};
+ghost use Prim.Native.Nat.{_^_, _<_, _≤_};
 ghost use lib.ListN.{length};
-ghost use Rattle.meaning.specs.Basics.{part, octetsIn};
-ghost use Rattle.meaning.specs.Layout.{dataOrder, numberAt};
-ghost use Rattle.octets.specs.Octets.{numberRead, put, placeOf, Readable};
+ghost use Rattle.meaning.specs.Basics.{part, numberIn, octetsIn};
+ghost use Rattle.meaning.specs.Layout.{dataOrder};
+ghost use Rattle.octets.specs.Octets.{numberOf, numberRead, put, placeOf};
 
 // DATA_ORDER: bit 0 of the image's first octet. 0 is least significant octet first.
 pub fn data_order(image: &[u8]) -> u32
@@ -45,20 +45,29 @@ fn place_of(order: u32, n: usize, i: usize) -> usize
     i
 }
 
-// The number of so many octets. The most significant octet is counted in first.
-fn counted(image: &[u8], at: usize, octets: usize) -> u64
-    requires { ⌜ Readable (now image) at octets ⌝ }
-    ensures { λ r. ⌜ (r ≡ numberAt (now (image .entry)) at octets) × (r < 256 ^ octets) ⌝ }
+// The number of some octets in a DATA_ORDER. The most significant octet is counted in first.
+fn counted(octets: &[u8], order: u32) -> u64
+    requires { ⌜ length (now octets) ≤ 8 ⌝ }
+    ensures { λ r. ⌜ (r ≡ numberIn order (now (octets .entry))) × (r < 256 ^ length (now (octets .entry))) ⌝ }
 {
-    let order = data_order(image);
     let mut number = 0u64;
     let mut i = 0;
-    while i < octets {
-        let k = place_of(order, octets, i);
-        number = number * 256 + wide(image[at + k]) as u64;
+    while i < octets.len() {
+        let k = place_of(order, octets.len(), i);
+        number = number * 256 + wide(octets[k]) as u64;
         i += 1;
     }
     number
+}
+
+// The number of some octets in a DATA_ORDER.
+pub fn number_in(octets: &[u8], order: u32) -> u64
+    ensures { λ r. ⌜ (r ≡ numberOf order (now (octets .entry))) × (r < 256 ^ length (now (octets .entry))) ⌝ }
+{
+    if 8 < octets.len() {
+        return 0;
+    }
+    counted(octets, order)
 }
 
 // The number of so many octets of the image, in its DATA_ORDER.
@@ -66,11 +75,9 @@ pub fn number_at(image: &[u8], start: ImageOffset, octets: usize) -> u64
     ensures { λ r. ⌜ (r ≡ numberRead (now (image .entry)) (start .0) octets) × (r < 256 ^ octets) ⌝ }
 {
     let at = start.octet();
-    if 8 < octets {
-        return 0;
-    }
     if ends_within(at, octets, image.len()) {
-        return counted(image, at, octets);
+        let end = at + octets;
+        return number_in(&image[at..end], data_order(image));
     }
     0
 }

@@ -18,7 +18,7 @@ use Rattle.meaning.specs.Layout.{Body, array, choice, stray, bitRange, setOctet
 use Rattle.meaning.specs.Description.{itemCount, itemAt}
 use Rattle.items.specs.declared.Read.{Read}
 use Rattle.items.specs.Read.{readAt}
-use Rattle.basics.proofs.Bits.{power-some}
+use lib.Pow.{pow-pos}
 use Rattle.items.proofs.ReadLaws.{item-read}
 use Rattle.laying.specs.declared.Spot.{Spot}
 use Rattle.laying.specs.declared.Spot.the-variants.{Nowhere, At}
@@ -129,7 +129,7 @@ pub value-few : (v : Numbers) (r : Reference) → ReferenceRange r → value v r
 unfolding value bitRange
 value-few v r h =
     let a : 2 ^ (r .width) ≤ 2 ^ 32 = pow-le-pow-right (omega arith) (h .width) in
-    omega (arith, a, mod-lt (v (r .slot) / 2 ^ (r .low)) (power-some (r .width)))
+    omega (arith, a, mod-lt (v (r .slot) / 2 ^ (r .low)) (pow-pos (r .width)))
 
 set-few : (u x : ℕ) → x < 4294967296 → setOctets u x < 4294967296
 unfolding setOctets

@@ -5,10 +5,12 @@
 use meaning::Number;
 use meaning::Place;
 use meaning::Refusal;
+use meaning::Tier;
 use meaning::Total;
 use meaning::Verdict;
 ghost use mathlib.Core.Path.{_≡_};
-ghost use Rattle.meaning.specs.Refusals.{reported, verdictValues, totalValues, placeValues, numberValues};
+ghost use mathlib.Core.List.{flatten};
+ghost use Rattle.meaning.specs.Refusals.{reported, verdictValues, totalValues, placeValues, numberValues, tierValues};
 
 // A refusal's number, item and octet.
 pub fn reported(r: Refusal) -> [u64; 3]
@@ -80,4 +82,32 @@ pub fn number_values(x: Number) -> [u64; 4]
             [s[0], s[1], s[2], 0]
         }
     }
+}
+
+// 1 for "none yet today", and the tier, behind a refusal's three numbers.
+pub fn tier_values(t: Tier) -> [u64; 5]
+    ensures { λ r. ⌜ r ≡ tierValues t ⌝ }
+{
+    match t {
+        Tier::Is(tier) => [0, 0, 0, 0, tier as u64],
+        Tier::NoneYet => [0, 0, 0, 1, 0],
+        Tier::Refused(r) => {
+            let s = reported(r);
+            [s[0], s[1], s[2], 0, 0]
+        }
+    }
+}
+
+// The matrix's cells, row by row.
+pub fn cells(matrix: [[u8; 22]; 15]) -> [u8; 330]
+    ensures { λ r. ⌜ r ≡ flatten matrix ⌝ }
+{
+    let mut octets = [0u8; 330];
+    let mut at = 0;
+    while at < 330 {
+        let row = matrix[at / 22];
+        octets[at] = row[at % 22];
+        at += 1;
+    }
+    octets
 }

@@ -3,7 +3,8 @@
 use Prim.Native.Nat.{_^_}
 use native.Mathlib.Omega.{arith}
 use native.Mathlib.Nat.{div-le-self}
-use Rattle.basics.proofs.Bits.{shifted, power-some, bits-most, none-past, all-kept}
+use lib.Pow.{pow-pos}
+use Rattle.basics.proofs.Bits.{shifted, bits-most, none-past, all-kept}
 use borrow.Author.Needs.{needs}
 use Rattle.basics.proofs.bit_range.Statement.{statement}
 use Rattle.basics.proofs.bit_range.Tie as tie
@@ -24,7 +25,7 @@ shl-m : tie.Need-shl-m
 shl-m c = search needs
 
 rem-result : tie.Need-rem-result
-rem-result c = rw (shifted (c .before .before .args .width) (omega arith)) (power-some (c .before .before .args .width))
+rem-result c = rw (shifted (c .before .before .args .width) (omega arith)) (pow-pos (c .before .before .args .width))
 
 cast-result-2 : tie.Need-cast-result-2
 cast-result-2 c = rw (shifted (c .before .before .args .width) (omega arith)) (omega (arith, bits-most (c .before .before .args .number) (c .before .before .args .low) (2 ^ c .before .before .args .width)))

@@ -3,34 +3,29 @@ use mathlib.Core.Path.{_∙_}
 use borrow.Author.Needs.{needs}
 use native.Mathlib.Omega.{arith}
 use Prim.Native.Nat.{_-_}
-use Rattle.octets.proofs.counted.Statement.{statement}
+use lib.ListN.{length}
 use Rattle.octets.specs.Octets.{Counting}
 use Rattle.octets.proofs.Numbers.{counted-none, counted-next, counted-all, counted-room}
+use Rattle.octets.proofs.counted.Statement.{statement}
 use Rattle.octets.proofs.counted.Tie as tie
 
 abbrev Inv-loop : tie.InvT-loop
-Inv-loop image at octets order number₀ i₀ number i = Counting image order at octets i number
+Inv-loop octets order number₀ i₀ number i = Counting octets order i number
 
 abbrev μ-loop : tie.MeasureT-loop
-μ-loop image at octets order number₀ i₀ number i = octets - i
-
-data-order-requires : tie.Need-data-order-requires Inv-loop μ-loop
-data-order-requires c κs = search needs
+μ-loop octets order number₀ i₀ number i = length octets - i
 
 loop-holds : tie.Need-loop-holds Inv-loop μ-loop
-loop-holds c = counted-none _ _ _ _ (c .before .before .pre)
+loop-holds c = counted-none _ _ (c .before .pre)
 
 place-of-requires : tie.Need-place-of-requires Inv-loop μ-loop
 place-of-requires c κs = c .loop-test .taken
 
 mul-number : tie.Need-mul-number Inv-loop μ-loop
-mul-number c = omega (arith, counted-room _ _ _ _ _ _ (c .before .before .loop .inv) (c .before .loop-test .taken))
-
-add-wide : tie.Need-add-wide Inv-loop μ-loop
-add-wide c = omega (arith, c .place-of .ensures .1, c .before .before .loop .inv .readable .within, c .before .before .before .before .before .pre .within)
+mul-number c = omega (arith, counted-room _ _ _ _ (c .before .before .loop .inv) (c .before .loop-test .taken))
 
 shared-slice-read-wide : tie.Need-shared-slice-read-wide Inv-loop μ-loop
-shared-slice-read-wide c = omega (arith, c .before .place-of .ensures .1, c .before .before .before .loop .inv .readable .within)
+shared-slice-read-wide c = c .before .place-of .ensures .1
 
 wide-requires : tie.Need-wide-requires Inv-loop μ-loop
 wide-requires c κs = search needs
@@ -39,19 +34,19 @@ cast-number : tie.Need-cast-number Inv-loop μ-loop
 cast-number c = search needs
 
 add-number : tie.Need-add-number Inv-loop μ-loop
-add-number c = omega (arith, c .wide .ensures .1, counted-room _ _ _ _ _ _ (c .before .before .before .before .loop .inv) (c .before .before .before .loop-test .taken))
+add-number c = omega (arith, c .wide .ensures .1, counted-room _ _ _ _ (c .before .before .before .before .loop .inv) (c .before .before .before .loop-test .taken))
 
 add-i : tie.Need-add-i Inv-loop μ-loop
-add-i c = omega (arith, c .before .before .before .loop-test .taken, c .before .before .before .before .before .before .before .pre .few)
+add-i c = omega (arith, c .before .before .before .loop-test .taken, c .before .before .before .before .loop .inv .few)
 
 loop-less : tie.Need-loop-less Inv-loop μ-loop
 loop-less c = omega (arith, c .before .before .before .loop-test .taken)
 
 loop-again : tie.Need-loop-again Inv-loop μ-loop
-loop-again c = counted-next _ _ _ _ _ _ _ (c .before .before .before .before .loop .inv) (c .before .before .before .loop-test .taken) (c .wide .ensures .0 ∙ rw (c .before .before .place-of .ensures .0)) (c .wide .ensures .1)
+loop-again c = counted-next _ _ _ _ _ (c .before .before .before .before .loop .inv) (c .before .before .before .loop-test .taken) (c .wide .ensures .0 ∙ rw (c .before .before .place-of .ensures .0)) (c .wide .ensures .1)
 
 returns : tie.Need-returns Inv-loop μ-loop
-returns c = counted-all _ _ _ _ _ _ (c .before .loop .inv) (c .loop-test .left) (c .before .before .data-order .ensures)
+returns c = counted-all _ _ _ _ (c .before .loop .inv) (c .loop-test .left)
 
 pub counted-spec : {M : Type 1} → statement M
 counted-spec =
@@ -59,11 +54,9 @@ counted-spec =
     (tie.spec
     Inv-loop
     μ-loop
-    data-order-requires
     loop-holds
     place-of-requires
     mul-number
-    add-wide
     shared-slice-read-wide
     wide-requires
     cast-number

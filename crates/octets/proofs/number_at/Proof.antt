@@ -1,32 +1,54 @@
--- `octets::number_at`: counted where the octets can be read, 0 elsewhere. Assumes nothing.
+-- `octets::number_at`: the number of that part where it lies inside the image, 0 elsewhere. Assumes nothing.
+use native.Mathlib.Omega.{arith}
+use mathlib.Core.Path.{refl, sym, _∙_}
+use Rattle.octets.proofs.Laws.{inside-true, read-none, read-part}
 use borrow.Author.Needs.{needs}
-use mathlib.Core.Path.{sym, _∙_}
-use borrow.Author.Tests.{le-leb, lt-leb}
-use Rattle.octets.proofs.Laws.{read-none, read-there, inside-true}
 use Rattle.octets.proofs.number_at.Statement.{statement}
 use Rattle.octets.proofs.number_at.Tie as tie
 
 octet-requires : tie.Need-octet-requires
 octet-requires c κs = search needs
 
-returns : tie.Need-returns
-returns c = let a = c .before .before .before .args in read-none (a .image .now) (a .start .0) (a .octets) (rw (lt-leb (a .octets) 8 (c .if1 .taken)))
-
 ends-within-requires : tie.Need-ends-within-requires
 ends-within-requires c κs = search needs
 
-counted-requires : tie.Need-counted-requires
-counted-requires c κs = let a = c .before .before .before .before .before .args in record { few = c .before .before .if1 .left; within = inside-true (a .image .now) _ (a .octets) _ (c .before .ends-within .ensures) (c .if2 .taken) }
+add-end : tie.Need-add-end
+add-end c = let a = c .before .before .before .before .args in let h = inside-true (a .image .now) _ (a .octets) _ (c .before .ends-within .ensures) (c .if1 .taken) in omega (arith, h)
+
+sub-number-in : tie.Need-sub-number-in
+sub-number-in c = search needs
+
+part-number-in-start : tie.Need-part-number-in-start
+part-number-in-start c = search needs
+
+part-number-in-end : tie.Need-part-number-in-end
+part-number-in-end c = let a = c .before .before .before .before .args in let h = inside-true (a .image .now) _ (a .octets) _ (c .before .ends-within .ensures) (c .if1 .taken) in omega (arith, h)
+
+data-order-requires : tie.Need-data-order-requires
+data-order-requires c κs = search needs
+
+number-in-requires : tie.Need-number-in-requires
+number-in-requires c κs = search needs
+
+returns : tie.Need-returns
+returns c = let a = c .before .before .before .before .before .before .before .args in
+    let h = inside-true (a .image .now) _ (a .octets) _ (c .before .before .before .before .ends-within .ensures) (c .before .before .before .if1 .taken) in
+    rw (← c .before .before .before .before .before .octet .ensures) (read-part (a .image .now) _ (a .octets) _ _ _ refl h (c .before .data-order .ensures) (c .number-in .ensures))
 
 returns-2 : tie.Need-returns-2
-returns-2 c = let a = c .before .before .before .before .before .before .args in
-    let h = inside-true (a .image .now) _ (a .octets) _ (c .before .before .ends-within .ensures) (c .before .if2 .taken) in
-    (c .counted .ensures .0 ∙ sym (rw (← c .before .before .before .before .octet .ensures) (read-there (a .image .now) _ (a .octets) (c .before .before .before .if1 .left) h)), c .counted .ensures .1)
-
-returns-3 : tie.Need-returns-3
-returns-3 c = let a = c .before .before .before .before .before .args in read-none (a .image .now) (a .start .0) (a .octets) (rw (le-leb (a .octets) 8 (c .before .before .if1 .left), ← c .before .before .before .octet .ensures) (sym (c .before .ends-within .ensures) ∙ c .if2 .left))
+returns-2 c = let a = c .before .before .before .before .args in read-none (a .image .now) (a .start .0) (a .octets) (rw (← c .before .before .octet .ensures) (sym (c .before .ends-within .ensures) ∙ c .if1 .left))
 
 pub number-at-spec : {M : Type 1} → statement M
 number-at-spec =
     tie.close
-    (tie.spec octet-requires returns ends-within-requires counted-requires returns-2 returns-3)
+    (tie.spec
+    octet-requires
+    ends-within-requires
+    add-end
+    sub-number-in
+    part-number-in-start
+    part-number-in-end
+    data-order-requires
+    number-in-requires
+    returns
+    returns-2)

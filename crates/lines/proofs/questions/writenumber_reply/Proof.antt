@@ -8,8 +8,8 @@ use Rattle.lines.proofs.questions.writenumber_reply.Tie as tie
 write-number-requires : tie.Need-write-number-requires
 write-number-requires c κs = search needs
 
-put-written-requires : tie.Need-put-written-requires
-put-written-requires c κs = search needs
+put-verdict-requires : tie.Need-put-verdict-requires
+put-verdict-requires c κs = search needs
 
 same-length : tie.Need-same-length
 same-length c = search needs
@@ -21,9 +21,9 @@ returns : tie.Need-returns
 unfolding writenumberText
 returns c =
     let written = c .before .before .before .before .before .before .before .write-number .ensures in
-    put-as _ (c .before .before .put-written .ensures) (rw (written .0, written .1))
+    put-as _ (c .before .before .put-verdict .ensures) (rw (written .0, written .1))
 
 pub writenumber-reply-spec : {M : Type 1} → statement M
 writenumber-reply-spec =
     tie.close
-    (tie.spec write-number-requires put-written-requires same-length same-length-2 returns)
+    (tie.spec write-number-requires put-verdict-requires same-length same-length-2 returns)

@@ -8,8 +8,8 @@ use Rattle.lines.proofs.questions.writerange_reply.Tie as tie
 write-range-requires : tie.Need-write-range-requires
 write-range-requires c κs = search needs
 
-put-written-requires : tie.Need-put-written-requires
-put-written-requires c κs = search needs
+put-verdict-requires : tie.Need-put-verdict-requires
+put-verdict-requires c κs = search needs
 
 same-length : tie.Need-same-length
 same-length c = search needs
@@ -21,9 +21,9 @@ returns : tie.Need-returns
 unfolding writerangeText
 returns c =
     let written = c .before .before .before .before .before .before .before .write-range .ensures in
-    put-as _ (c .before .before .put-written .ensures) (rw (written .0, written .1))
+    put-as _ (c .before .before .put-verdict .ensures) (rw (written .0, written .1))
 
 pub writerange-reply-spec : {M : Type 1} → statement M
 writerange-reply-spec =
     tie.close
-    (tie.spec write-range-requires put-written-requires same-length same-length-2 returns)
+    (tie.spec write-range-requires put-verdict-requires same-length same-length-2 returns)

@@ -19,8 +19,7 @@ returns : tie.Need-returns
 unfolding imageWords
 returns c =
     let split = c .before .before .before .before .before .before .before .before .before .before .before .pre .1 .0 in
-    put-as _ (c .before .before .three-words .ensures)
-    (yes _ _ (counted _ _ split 3 (c .before .before .before .before .before .if1 .taken)))
+    put-as _ (c .before .before .three-words .ensures) (yes _ _ (counted _ _ split 3 (c .before .before .before .before .before .if1 .taken)))
 
 five-words-requires : tie.Need-five-words-requires
 five-words-requires c κs = search needs
@@ -60,8 +59,8 @@ returns-3 c =
     ∙ no _ _ (counted-other _ _ split 5 (c .before .before .before .before .before .before .before .before .before .before .before .if2 .left))
     ∙ no _ _ (counted-other _ _ split 3 (c .before .before .before .before .before .before .before .before .before .before .before .before .if1 .left)))
 
-element-questions-requires : tie.Need-element-questions-requires
-element-questions-requires c κs = search needs
+nine-words-requires : tie.Need-nine-words-requires
+nine-words-requires c κs = search needs
 
 same-length-8 : tie.Need-same-length-8
 same-length-8 c = search needs
@@ -75,11 +74,34 @@ same-length-10 c = search needs
 returns-4 : tie.Need-returns-4
 unfolding imageWords
 returns-4 c =
-    let split = c .before .before .before .before .before .before .before .before .before .before .before .before .before .before .before .before .before .before .pre .1 .0 in
+    let split = c .before .before .before .before .before .before .before .before .before .before .before .before .before .before .before .before .before .before .before .pre .1 .0 in
+    put-as _ (c .before .before .before .before .before .before .nine-words .ensures)
+    (yes _ _ (counted _ _ split 9 (c .before .before .before .before .before .before .before .before .before .before .if4 .taken))
+    ∙ no _ _ (counted-other _ _ split 7 (c .before .before .before .before .before .before .before .before .before .before .before .if3 .left))
+    ∙ no _ _ (counted-other _ _ split 5 (c .before .before .before .before .before .before .before .before .before .before .before .before .if2 .left))
+    ∙ no _ _ (counted-other _ _ split 3 (c .before .before .before .before .before .before .before .before .before .before .before .before .before .if1 .left)))
+
+element-questions-requires : tie.Need-element-questions-requires
+element-questions-requires c κs = search needs
+
+same-length-11 : tie.Need-same-length-11
+same-length-11 c = search needs
+
+same-length-12 : tie.Need-same-length-12
+same-length-12 c = search needs
+
+same-length-13 : tie.Need-same-length-13
+same-length-13 c = search needs
+
+returns-5 : tie.Need-returns-5
+unfolding imageWords
+returns-5 c =
+    let split = c .before .before .before .before .before .before .before .before .before .before .before .before .before .before .before .before .before .before .before .pre .1 .0 in
     put-as _ (c .before .before .before .before .before .before .element-questions .ensures)
-    (no _ _ (counted-other _ _ split 7 (c .before .before .before .before .before .before .before .before .before .before .if3 .left))
-    ∙ no _ _ (counted-other _ _ split 5 (c .before .before .before .before .before .before .before .before .before .before .before .if2 .left))
-    ∙ no _ _ (counted-other _ _ split 3 (c .before .before .before .before .before .before .before .before .before .before .before .before .if1 .left)))
+    (no _ _ (counted-other _ _ split 9 (c .before .before .before .before .before .before .before .before .before .before .if4 .left))
+    ∙ no _ _ (counted-other _ _ split 7 (c .before .before .before .before .before .before .before .before .before .before .before .if3 .left))
+    ∙ no _ _ (counted-other _ _ split 5 (c .before .before .before .before .before .before .before .before .before .before .before .before .if2 .left))
+    ∙ no _ _ (counted-other _ _ split 3 (c .before .before .before .before .before .before .before .before .before .before .before .before .before .if1 .left)))
 
 pub image-words-spec : {M : Type 1} → statement M
 image-words-spec =
@@ -98,8 +120,13 @@ image-words-spec =
     same-length-6
     same-length-7
     returns-3
-    element-questions-requires
+    nine-words-requires
     same-length-8
     same-length-9
     same-length-10
-    returns-4)
+    returns-4
+    element-questions-requires
+    same-length-11
+    same-length-12
+    same-length-13
+    returns-5)

@@ -1,9 +1,9 @@
--- `lines::put::put_written`: the numbers, a space, the image. Assumes nothing.
+-- `lines::put::put_verdict`: the numbers, a space, the octets. Assumes nothing.
 use native.Mathlib.Omega.{arith}
 use borrow.Author.Needs.{needs}
-use Rattle.lines.proofs.PutLaws.{image-room, written-put}
-use Rattle.lines.proofs.put.put_written.Statement.{statement}
-use Rattle.lines.proofs.put.put_written.Tie as tie
+use Rattle.lines.proofs.PutLaws.{octets-room, verdict-put}
+use Rattle.lines.proofs.put.put_verdict.Statement.{statement}
+use Rattle.lines.proofs.put.put_verdict.Tie as tie
 
 verdict-values-requires : tie.Need-verdict-values-requires
 verdict-values-requires c κs = search needs
@@ -26,7 +26,7 @@ put-hex-requires c κs =
     let n = put-numbers in
     let o = put-octet in
     let a = args in
-    image-room (a .verdict) (a .image .now) (omega arith) (rw (verdict-values .ensures) at (n .ensures)) (o .ensures) (n .kept .0) (o .kept .0)
+    octets-room (a .verdict) (a .octets .now) (omega arith) (rw (verdict-values .ensures) at (n .ensures)) (o .ensures) (n .kept .0) (o .kept .0)
 
 same-length : tie.Need-same-length
 same-length c = search needs
@@ -39,10 +39,10 @@ returns c =
     let put-octet = c .before .before .before .before .before .before .put-octet in
     let numbers = rw (verdict-values .ensures) at (put-numbers .ensures) in
     let a = args in
-    written-put (a .verdict) (a .image .now) (omega arith) numbers (put-octet .ensures) (c .before .before .put-hex .ensures)
+    verdict-put (a .verdict) (a .octets .now) (omega arith) numbers (put-octet .ensures) (c .before .before .put-hex .ensures)
 
-pub put-written-spec : {M : Type 1} → statement M
-put-written-spec =
+pub put-verdict-spec : {M : Type 1} → statement M
+put-verdict-spec =
     tie.close
     (tie.spec
     verdict-values-requires

@@ -1,0 +1,130 @@
+-- The calendar's definitions case by case: leap years, months, what makes a date real, the days counted. Assumes nothing.
+use Prim.Native.Nat.{ℕ, zero, suc, _+_, _*_, _<_, _≤_}
+use mathlib.Core.Path.{_≡_, refl, ap, _∙_}
+use mathlib.Core.Logic.{⊎-elim}
+use mathlib.Core.Bool.{Bool, true, false, cond, _&&_}
+use mathlib.Core.List.{List, [], _∷_}
+use native.Mathlib.Nat.{le-of-suc-le-suc, not-suc-le-zero}
+use native.Mathlib.Numerals.{add-one}
+use native.Mathlib.Omega.{arith}
+use borrow.Author.Tests.{leb-true, ltb-true, le-leb, lt-ltb}
+use lib.Dec.{leb, ltb}
+use lib.ListN.{length, getD, List·getD-eq-default}
+use Rattle.meaning.specs.Calendar.{leap, monthLength, realDate, yearDays, monthDays}
+use Rattle.almanac.specs.Days.{Real}
+use Rattle.almanac.proofs.Tests.{lt-or-ge, both-true}
+
+-- MONTHS
+pub february : (y m : ℕ) (b : Bool) → m ≡ 2 → leap y ≡ b → cond b 29 28 ≡ monthLength y m
+unfolding monthLength
+february y m b e l = rw (e, l)
+
+-- the table of lengths, with February's
+abbrev fromJanuary : (february : ℕ) → List ℕ
+fromJanuary n = 31 ∷ n ∷ 31 ∷ 30 ∷ 31 ∷ 30 ∷ 31 ∷ 31 ∷ 30 ∷ 31 ∷ 30 ∷ 31 ∷ []
+
+abbrev pub months : (february : ℕ) → List ℕ
+months n = 0 ∷ fromJanuary n
+
+-- another month is as long in every year
+pub other-month : (y m : ℕ) → (m ≡ 2 → ⊥) → getD (months 28) m 0 ≡ monthLength y m
+unfolding monthLength
+other-month y zero h = refl
+other-month y (suc zero) h = refl
+other-month y (suc (suc zero)) h = absurd (h refl)
+other-month y (suc (suc (suc k))) h = refl
+
+pub no-month : (y m : ℕ) → 12 < m → monthLength y m ≡ 0
+unfolding monthLength
+no-month y m h = List·getD-eq-default (months (cond (leap y) 29 28)) 0 h
+
+month-zero : (y : ℕ) → monthLength y 0 ≡ 0
+unfolding monthLength
+month-zero y = refl
+
+pub december : (y : ℕ) → monthLength y 12 ≡ 31
+unfolding monthLength
+december y = refl
+
+-- a test that holds of every number of a list
+abbrev every : (ℕ → Bool) → List ℕ → Bool
+every p [] = true
+every p (x ∷ xs) = p x && every p xs
+
+every-at : (p : ℕ → Bool) (xs : List ℕ) → every p xs ≡ true → (k : ℕ) → k < length xs → p (getD xs k 0) ≡ true
+every-at p [] e k h = absurd (not-suc-le-zero h)
+every-at p (x ∷ xs) e zero h = both-true (p x) (every p xs) e .0
+every-at p (x ∷ xs) e (suc k) h = every-at p xs (both-true (p x) (every p xs) e .1) k (le-of-suc-le-suc h)
+
+pub month-most : (y m : ℕ) → monthLength y m ≤ 31
+unfolding monthLength
+month-most y m = ⊎-elim (λ l. leb-true _ 31 (go (leap y) l)) (λ l. omega (arith, no-month y m l)) (lt-or-ge m 13)
+  where
+    go : (b : Bool) → m < 13 → leb (getD (months (cond b 29 28)) m 0) 31 ≡ true
+    go true = every-at (λ x. leb x 31) (months 29) refl m
+    go false = every-at (λ x. leb x 31) (months 28) refl m
+
+pub month-least : (y m : ℕ) → 1 ≤ m → m ≤ 12 → 28 ≤ monthLength y m
+unfolding monthLength
+month-least y zero f l = omega arith
+month-least y (suc k) f l = leb-true 28 _ (go (leap y))
+  where
+    go : (b : Bool) → leb 28 (getD (fromJanuary (cond b 29 28)) k 0) ≡ true
+    go true = every-at (λ x. leb 28 x) (fromJanuary 29) refl k l
+    go false = every-at (λ x. leb 28 x) (fromJanuary 28) refl k l
+
+-- A REAL DATE, and only such
+pub real : (y m d : ℕ) → realDate y m d ≡ true → Real y m d
+unfolding realDate
+real y m d e =
+    let p = both-true (leb 1990 y && leb y 2089 && ltb 0 d) (leb d (monthLength y m)) e in
+    let q = both-true (leb 1990 y && leb y 2089) (ltb 0 d) (p .0) in
+    let s = both-true (leb 1990 y) (leb y 2089) (q .0) in
+    let last : d ≤ monthLength y m = leb-true _ _ (p .1) in
+    let first : 0 < d = ltb-true 0 d (q .1) in
+    record {
+      from = leb-true _ _ (s .0);
+      to = leb-true _ _ (s .1);
+      firstMonth = ⊎-elim (λ l. absurd (none (omega arith) last first)) (λ l. l) (lt-or-ge m 1);
+      lastMonth = ⊎-elim (λ l. omega (arith, no-month y m l)) (λ l. l) (lt-or-ge 12 m);
+      first = first;
+      last = last;
+    }
+  where
+    none : m ≡ 0 → d ≤ monthLength y m → 0 < d → ⊥
+    none z l f = omega (arith, ap (monthLength y) z ∙ month-zero y)
+
+pub is-real : {y m d : ℕ} → Real y m d → realDate y m d ≡ true
+unfolding realDate
+is-real {y} {m} {d} r = rw (le-leb 1990 y (r .from), le-leb y 2089 (r .to), lt-ltb 0 d (r .first), le-leb d (monthLength y m) (r .last))
+
+-- THE DAYS COUNTED
+pub months-zero : (y : ℕ) → 0 ≡ monthDays y 0
+unfolding monthDays
+months-zero y = refl
+
+pub months-more : (y k : ℕ) → monthDays y k + monthLength y k ≡ monthDays y (k + 1)
+unfolding monthDays
+months-more y k = rw (add-one k)
+
+pub months-most : (y m : ℕ) → monthDays y m ≤ 31 * m
+unfolding monthDays
+months-most y zero = omega arith
+months-most y (suc m) = omega (arith, months-most y m, month-most y m)
+
+pub years-zero : 0 ≡ yearDays 0
+unfolding yearDays
+years-zero = refl
+
+pub years-more : (k : ℕ) (b : Bool) → leap (1990 + k) ≡ b → yearDays k + cond b 366 365 ≡ yearDays (k + 1)
+unfolding yearDays
+years-more k b e = rw (add-one k, e)
+
+pub years-most : (n : ℕ) → yearDays n ≤ 366 * n
+unfolding yearDays
+years-most zero = omega arith
+years-most (suc n) = go (leap (1990 + n)) (years-most n)
+  where
+    go : (b : Bool) → yearDays n ≤ 366 * n → yearDays n + cond b 366 365 ≤ 366 * suc n
+    go true h = omega arith
+    go false h = omega arith

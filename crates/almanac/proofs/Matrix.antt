@@ -1,0 +1,150 @@
+-- The matrix, cell by cell, is what specs/Matrix.antt says. Assumes nothing.
+use Prim.Native.Nat.{ℕ, _+_, _*_, _<_, _≤_}
+use mathlib.Core.Path.{_≡_, refl, sym, ap, _∙_, subst}
+use mathlib.Core.Logic.{_⊎_, inl, inr, ⊎-elim}
+use mathlib.Core.Bool.{Bool, true, false, cond, _&&_, and-false}
+use mathlib.Core.List.{List, []}
+use mathlib.Core.Option.{Option, some, none}
+use native.Mathlib.Nat.{mul-le-mul-right, suc-mul}
+use native.Mathlib.Omega.{arith}
+use borrow.Author.Tests.{lt-ltb, le-ltb, eqb-true}
+use lib.Dec.{eqb}
+use lib.ListN.{length, getD, List·getD-eq-default}
+use Rattle.meaning.specs.Basics.{build}
+use Rattle.meaning.specs.declared.Controls.{Controls}
+use Rattle.meaning.specs.declared.Refusal.{Refusal}
+use Rattle.meaning.specs.declared.Verdict.{Verdict}
+use Rattle.meaning.specs.Layout.{Seat}
+use Rattle.meaning.specs.Refusals.{Opened, opened, refused, openImage}
+use Rattle.meaning.specs.Calendar.{controlsOf, matrixAt, dayColumns, rowWidth, table54Size, cellAt, Found, found, missing, sized, seatsFound, calendarIn, calendar, matrixCell, matrixOf, matrixIn, matrixReply, matrixVerdictIn, matrixVerdict}
+use Rattle.almanac.specs.Matrix.{cell, Fifteen, Shown, MatrixSays}
+use Rattle.almanac.proofs.Tests.{lt-or-ge, both-true}
+use Rattle.almanac.proofs.Build.{build-long, build-at}
+
+-- A LIST OF LISTS BUILT
+module _ (f : ℕ → ℕ → ℕ) where
+  abbrev grid : List (List ℕ)
+  grid = build 15 (λ row. build 22 (λ column. f row column))
+
+  grid-fifteen : Fifteen grid
+  grid-fifteen = record { rows = build-long 15 _; columns = λ row h. ap length (build-at 15 _ row [] h) ∙ build-long 22 _ }
+
+  grid-cell : (row column : ℕ) → row < 15 → column < 22 → cell grid row column ≡ f row column
+  grid-cell row column h k = ap (λ (r : List ℕ). getD r column 0) (build-at 15 _ row [] h) ∙ build-at 22 (f row) column 0 k
+
+  -- past its end there is 0, as where f gives it
+  grid-zero : (row column : ℕ) → f row column ≡ 0 → cell grid row column ≡ 0
+  grid-zero row column e = ⊎-elim (λ h. ⊎-elim (λ k. grid-cell row column h k ∙ e) (past-column h) (lt-or-ge column 22)) past-row (lt-or-ge row 15)
+    where
+      past-row : 15 ≤ row → cell grid row column ≡ 0
+      past-row h = ap (λ (r : List ℕ). getD r column 0) (List·getD-eq-default grid [] (omega (arith, build-long 15 (λ (i : ℕ). build 22 (f i)))))
+
+      past-column : row < 15 → 22 ≤ column → cell grid row column ≡ 0
+      past-column h k = List·getD-eq-default (getD grid row []) 0 (omega (arith, grid-fifteen .columns row h))
+
+-- A CALENDAR THAT IS FOUND: Table 51 has room for no more than fifteen rows of twenty-two, and Table 54 is of the size that it says
+pub record Sized (c : Controls) (t : List ℕ) : Type 0 where
+  pub rows : c .seasons ≤ 15
+  pub columns : rowWidth c ≤ 22
+  pub size : length t ≡ matrixAt c + c .seasons * rowWidth c
+
+abbrev AllSized : Found → Type 0
+AllSized (found o c t) = Sized c t
+AllSized (missing r) = Unit {0}
+
+controls-rows : (o : ℕ) (t : List ℕ) → controlsOf o t .seasons ≤ 15
+unfolding controlsOf
+controls-rows o t = omega arith
+
+pub days-most : (c : Controls) → dayColumns c ≤ 7
+unfolding dayColumns
+days-most c = go (c .weekdays)
+  where
+    go : (b : Bool) → cond b 7 3 ≤ 7
+    go true = omega arith
+    go false = omega arith
+
+pub width-most : (c : Controls) → c .specials ≤ 15 → rowWidth c ≤ 22
+unfolding rowWidth
+width-most c h = omega (arith, days-most c)
+
+controls-specials : (o : ℕ) (t : List ℕ) → controlsOf o t .specials ≤ 15
+unfolding controlsOf
+controls-specials o t = omega arith
+
+sized-sized : (o : ℕ) (a b : List ℕ) → AllSized (sized o a b)
+unfolding sized table54Size
+sized-sized o a b = go (eqb (length a) 9 && eqb (length b) (table54Size (controlsOf o a))) refl
+  where
+    go : (x : Bool) → (eqb (length a) 9 && eqb (length b) (table54Size (controlsOf o a))) ≡ x
+        → AllSized (cond x (found o (controlsOf o a) b) (missing Refusal.NotACalendar))
+    go true e =
+        record {
+          rows = controls-rows o a;
+          columns = width-most (controlsOf o a) (controls-specials o a);
+          size = eqb-true _ _ (both-true (eqb (length a) 9) (eqb (length b) (table54Size (controlsOf o a))) e .1);
+        }
+    go false e = tt
+
+seats-sized : (img : List ℕ) (a b c : Option Seat) → AllSized (seatsFound img a b c)
+unfolding seatsFound
+seats-sized img none b c = tt
+seats-sized img (some a) none c = tt
+seats-sized img (some a) (some b) none = tt
+seats-sized img (some a) (some b) (some c) = sized-sized _ _ _
+
+in-sized : (img : List ℕ) (x : Opened) → AllSized (calendarIn img x)
+unfolding calendarIn
+in-sized img (opened ts es s n) = seats-sized img _ _ _
+in-sized img (refused r) = tt
+
+pub calendar-sized : (d img : List ℕ) (o : ℕ) (c : Controls) (t : List ℕ) → calendar d img ≡ found o c t → Sized c t
+unfolding calendar
+calendar-sized d img o c t e = subst AllSized e (in-sized img (openImage d img))
+
+-- THE CELLS
+cell-used : (c : Controls) (t : List ℕ) (row column : ℕ) → row < c .seasons → column < rowWidth c
+    → matrixCell c t row column ≡ getD t (matrixAt c + row * rowWidth c + column) 0
+unfolding matrixCell cellAt
+cell-used c t row column h k = rw (lt-ltb _ _ h, lt-ltb _ _ k)
+
+cell-unused : (c : Controls) (t : List ℕ) (row column : ℕ) → (c .seasons ≤ row) ⊎ (rowWidth c ≤ column) → matrixCell c t row column ≡ 0
+unfolding matrixCell
+cell-unused c t row column (inl h) = rw (le-ltb _ _ h)
+cell-unused c t row column (inr h) = rw (le-ltb _ _ h, and-false)
+
+-- a row's cells lie before the next row's
+pub row-inside : (n row w column : ℕ) → row < n → column < w → row * w + column < n * w
+row-inside n row w column h k = omega (arith, mul-le-mul-right w h, suc-mul row w)
+
+matrix-found : (o : ℕ) (c : Controls) (t : List ℕ) → Sized c t → Shown c t (matrixIn (found o c t))
+unfolding matrixIn matrixOf
+matrix-found o c t s =
+    record {
+      rows = s .rows;
+      columns = s .columns;
+      inside = λ row column h k. omega (arith, row-inside (c .seasons) row (rowWidth c) column h k, s .size);
+      used = λ row column h k. grid-cell (matrixCell c t) row column (omega arith) (omega arith) ∙ cell-used c t row column h k;
+      unused = λ row column h. grid-zero (matrixCell c t) row column (cell-unused c t row column h);
+    }
+
+-- REFUSED OR FOUND, it has its rows
+matrix-fifteen : (x : Found) → Fifteen (matrixIn x)
+unfolding matrixIn matrixOf
+matrix-fifteen (found o c t) = grid-fifteen (matrixCell c t)
+matrix-fifteen (missing r) = grid-fifteen (λ row column. 0)
+
+-- refused, nothing but zeros
+matrix-missing : (x : Found) (r : Refusal) → matrixVerdictIn x ≡ Verdict.Refused r → (row column : ℕ) → cell (matrixIn x) row column ≡ 0
+unfolding matrixIn matrixVerdictIn
+matrix-missing (found o c t) r e row column = let z : _≡_ {A = ℕ} 0 1 = cc in omega arith
+matrix-missing (missing s) r e row column = grid-zero (λ row column. 0) row column refl
+
+pub matrix-says : (d img : List ℕ) → MatrixSays d img
+unfolding matrixReply matrixVerdict
+matrix-says d img =
+    record {
+      fifteen = matrix-fifteen (calendar d img);
+      shown = λ o c t e. subst (λ (x : Found). Shown c t (matrixIn x)) (sym e) (matrix-found o c t (calendar-sized d img o c t e));
+      refused = matrix-missing (calendar d img);
+    }

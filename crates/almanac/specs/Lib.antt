@@ -1,0 +1,4 @@
+pub mod Days
+pub mod Latest
+pub mod Choices
+pub mod Matrix

@@ -1,0 +1,56 @@
+-- `calendar::calendar_at`: a table missing, or both there. Assumes nothing.
+use Rattle.calendar.proofs.Laws.{no-51, no-54, both-there}
+use borrow.Author.Needs.{needs}
+use Rattle.calendar.proofs.calendar_at.Statement.{statement}
+use Rattle.calendar.proofs.calendar_at.Tie as tie
+
+table-place-requires : tie.Need-table-place-requires
+table-place-requires c κs = search needs
+
+table-place-requires-2 : tie.Need-table-place-requires-2
+table-place-requires-2 c κs = search needs
+
+enum-known-table51 : tie.Need-enum-known-table51
+enum-known-table51 c = search needs
+
+enum-known-table51-2 : tie.Need-enum-known-table51-2
+enum-known-table51-2 c = search needs
+
+enum-known-table54 : tie.Need-enum-known-table54
+enum-known-table54 c = search needs
+
+enum-known-table54-2 : tie.Need-enum-known-table54-2
+enum-known-table54-2 c = search needs
+
+part-requires : tie.Need-part-requires
+part-requires c κs = search needs
+
+sized-requires : tie.Need-sized-requires
+sized-requires c κs = search needs
+
+returns : tie.Need-returns
+returns c = (no-51 _ _ _ _ (c .before .before .before .before .table-place .ensures) (c .before .before .before .table-place2 .ensures) _ (c .before .table51 .given .1), tt)
+
+returns-2 : tie.Need-returns-2
+returns-2 c =
+    (no-54 _ _ _ _ (c .before .before .before .before .before .before .before .table-place .ensures) (c .before .before .before .before .before .before .table-place2 .ensures) _ _ (c .before .before .before .before .table512 .given .1) _ (c .before .table54 .given .1), tt)
+
+returns-3 : tie.Need-returns-3
+returns-3 c =
+    (both-there _ _ _ _ (c .before .before .before .before .before .before .before .before .before .table-place .ensures) (c .before .before .before .before .before .before .before .before .table-place2 .ensures) _ _ (c .before .before .before .before .before .before .table512 .given .1) _ _ (c .before .before .before .table542 .given .1) _ (c .sized .result) (c .before .part .ensures) (c .sized .ensures .0), c .sized .ensures .1)
+
+pub calendar-at-spec : {M : Type 1} → statement M
+calendar-at-spec =
+    tie.close
+    (tie.spec
+    table-place-requires
+    table-place-requires-2
+    enum-known-table51
+    enum-known-table51-2
+    enum-known-table54
+    enum-known-table54-2
+    part-requires
+    sized-requires
+    returns
+    returns-2
+    returns-3)

@@ -1,0 +1,51 @@
+-- `calendar::column_on`: the weekday's, or the special schedule's. Assumes nothing.
+use Rattle.meaning.specs.Calendar.{columnOn}
+use Rattle.almanac.proofs.Matrix.{days-most}
+use native.Mathlib.Omega.{arith}
+use mathlib.Core.Path.{_∙_}
+use borrow.Author.Needs.{needs}
+use Rattle.calendar.proofs.column_on.Statement.{statement}
+use Rattle.calendar.proofs.column_on.Tie as tie
+
+enum-told : tie.Need-enum-told
+enum-told c = search needs
+
+weekday-requires : tie.Need-weekday-requires
+weekday-requires c κs = search needs
+
+day-column-requires : tie.Need-day-column-requires
+day-column-requires c κs = search needs
+
+enum-known-special : tie.Need-enum-known-special
+enum-known-special c = search needs
+
+day-columns-requires : tie.Need-day-columns-requires
+day-columns-requires c κs = search needs
+
+cast-result : tie.Need-cast-result
+cast-result c = search needs
+
+add-result : tie.Need-add-result
+add-result c = omega (arith, c .day-columns .ensures, days-most (c .before .before .before .before .args .controls))
+
+returns : tie.Need-returns
+unfolding columnOn
+returns c = c .day-column .ensures ∙ rw (c .before .weekday .ensures, c .before .before .enum-told .given .1)
+
+returns-2 : tie.Need-returns-2
+unfolding columnOn
+returns-2 c = rw (c .day-columns .ensures, c .before .before .special .given .1)
+
+pub column-on-spec : {M : Type 1} → statement M
+column-on-spec =
+    tie.close
+    (tie.spec
+    enum-told
+    weekday-requires
+    day-column-requires
+    enum-known-special
+    day-columns-requires
+    cast-result
+    add-result
+    returns
+    returns-2)

@@ -1,0 +1,54 @@
+-- `dates::month_days`: the days of the months passed. Assumes nothing.
+use Prim.Native.Nat.{_-_, _≤_}
+use mathlib.Core.Path.{_≡_, ap, _∙_}
+use native.Mathlib.Nat.{le-antisymm}
+use native.Mathlib.Omega.{arith}
+use borrow.Author.Needs.{needs}
+use Rattle.meaning.specs.Calendar.{monthDays}
+use Rattle.almanac.proofs.Days.{month-most, months-zero, months-more, months-most}
+use Rattle.dates.proofs.month_days.Statement.{statement}
+use Rattle.dates.proofs.month_days.Tie as tie
+
+abbrev Inv-loop : tie.InvT-loop
+Inv-loop year month days₀ k₀ days k = (k ≤ month) × (days ≡ monthDays year k)
+
+abbrev μ-loop : tie.MeasureT-loop
+μ-loop year month days₀ k₀ days k = month - k
+
+loop-holds : tie.Need-loop-holds Inv-loop μ-loop
+loop-holds c = (omega arith, months-zero _)
+
+month-length-requires : tie.Need-month-length-requires Inv-loop μ-loop
+month-length-requires c κs = search needs
+
+add-days : tie.Need-add-days Inv-loop μ-loop
+add-days c =
+    let k = c .before .before .loop .k in
+    let y = c .before .before .before .args .year in
+    omega (arith, c .month-length .ensures, month-most y k, months-most y k)
+
+add-k : tie.Need-add-k Inv-loop μ-loop
+add-k c = omega arith
+
+loop-less : tie.Need-loop-less Inv-loop μ-loop
+loop-less c = omega arith
+
+loop-again : tie.Need-loop-again Inv-loop μ-loop
+loop-again c = (omega arith, rw (c .before .before .loop .inv .1, c .month-length .ensures) (months-more _ _))
+
+returns : tie.Need-returns Inv-loop μ-loop
+returns c = c .before .loop .inv .1 ∙ ap (monthDays _) (le-antisymm (c .before .loop .inv .0) (c .loop-test .left))
+
+pub month-days-spec : {M : Type 1} → statement M
+month-days-spec =
+    tie.close
+    (tie.spec
+    Inv-loop
+    μ-loop
+    loop-holds
+    month-length-requires
+    add-days
+    add-k
+    loop-less
+    loop-again
+    returns)

@@ -1,0 +1,16 @@
+-- `dates::weekday`: the remainder may be taken before the sum. Assumes nothing.
+use native.Mathlib.Omega.{arith}
+use Rattle.meaning.specs.Calendar.{weekdayOf}
+use borrow.Author.Needs.{needs}
+use Rattle.dates.proofs.weekday.Statement.{statement}
+use Rattle.dates.proofs.weekday.Tie as tie
+
+add-result : tie.Need-add-result
+add-result c = search needs
+
+returns : tie.Need-returns
+unfolding weekdayOf
+returns c = omega arith
+
+pub weekday-spec : {M : Type 1} → statement M
+weekday-spec = tie.close (tie.spec add-result returns)

@@ -1,0 +1,67 @@
+-- `dates::year_days`: the days of the years passed. Assumes nothing.
+use Prim.Native.Nat.{_-_, _≤_}
+use mathlib.Core.Path.{_≡_, sym, ap, _∙_}
+use mathlib.Core.Logic.{⊎-elim}
+use mathlib.Core.Bool.{true, false}
+use native.Mathlib.Nat.{le-antisymm}
+use native.Mathlib.Omega.{arith}
+use borrow.Author.Needs.{needs}
+use Rattle.meaning.specs.Calendar.{yearDays}
+use Rattle.almanac.proofs.Days.{years-zero, years-more, years-most}
+use Rattle.dates.proofs.year_days.Statement.{statement}
+use Rattle.dates.proofs.year_days.Tie as tie
+
+abbrev Inv-loop : tie.InvT-loop
+Inv-loop years days₀ k₀ days k = (k ≤ years) × (days ≡ yearDays k)
+
+abbrev μ-loop : tie.MeasureT-loop
+μ-loop years days₀ k₀ days k = years - k
+
+loop-holds : tie.Need-loop-holds Inv-loop μ-loop
+loop-holds c = (omega arith, years-zero)
+
+add-is-leap : tie.Need-add-is-leap Inv-loop μ-loop
+add-is-leap c = omega arith
+
+is-leap-requires : tie.Need-is-leap-requires Inv-loop μ-loop
+is-leap-requires c κs = search needs
+
+add-days : tie.Need-add-days Inv-loop μ-loop
+add-days c = omega (arith, years-most (c .before .before .before .loop .k))
+
+add-days-2 : tie.Need-add-days-2 Inv-loop μ-loop
+add-days-2 c = omega (arith, years-most (c .before .before .before .loop .k))
+
+add-k : tie.Need-add-k Inv-loop μ-loop
+add-k c = omega arith
+
+loop-less : tie.Need-loop-less Inv-loop μ-loop
+loop-less c = omega arith
+
+loop-again : tie.Need-loop-again Inv-loop μ-loop
+loop-again c =
+    let l = c .before .before .before .loop in
+    let e = c .before .is-leap .ensures in (
+      omega arith,
+      ⊎-elim (λ w. w .1 ∙ rw (l .inv .1) (years-more (l .k) true (sym e ∙ w .0 .taken)))
+          (λ w. w .1 ∙ rw (l .inv .1) (years-more (l .k) false (sym e ∙ w .0 .left))) (c .if1 .came),
+    )
+
+returns : tie.Need-returns Inv-loop μ-loop
+returns c = c .before .loop .inv .1 ∙ ap yearDays (le-antisymm (c .before .loop .inv .0) (c .loop-test .left))
+
+pub year-days-spec : {M : Type 1} → statement M
+year-days-spec =
+    tie.close
+    (tie.spec
+    Inv-loop
+    μ-loop
+    loop-holds
+    add-is-leap
+    is-leap-requires
+    add-days
+    add-days-2
+    add-k
+    loop-less
+    loop-again
+    returns)

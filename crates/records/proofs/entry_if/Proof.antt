@@ -1,0 +1,13 @@
+-- `records::entry_if`: as defined. Assumes nothing.
+use borrow.Author.Needs.{needs}
+use Rattle.records.proofs.entry_if.Statement.{statement}
+use Rattle.records.proofs.entry_if.Tie as tie
+
+returns : tie.Need-returns
+returns c = rw (c .if1 .taken)
+
+returns-2 : tie.Need-returns-2
+returns-2 c = search needs
+
+pub entry-if-spec : {M : Type 1} → statement M
+entry-if-spec = tie.close (tie.spec returns returns-2)

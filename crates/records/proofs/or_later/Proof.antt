@@ -1,0 +1,49 @@
+use native.Mathlib.Omega.{arith}
+-- `records::or_later`: one case for each pair of what two records bring. Assumes nothing.
+use mathlib.Core.Path.{refl, sym, _∙_, ap₂}
+use Rattle.meaning.specs.Calendar.{orLater}
+use Rattle.almanac.proofs.Latest.{none-earlier, none-later, later-wins, earlier-stays}
+use borrow.Author.Needs.{needs}
+use Rattle.records.proofs.or_later.Statement.{statement}
+use Rattle.records.proofs.or_later.Tie as tie
+
+enum-told : tie.Need-enum-told
+enum-told c = search needs
+
+enum-known-earlier : tie.Need-enum-known-earlier
+enum-known-earlier c = search needs
+
+enum-told-2 : tie.Need-enum-told-2
+enum-told-2 c = search needs
+
+enum-known-later : tie.Need-enum-known-later
+enum-known-later c = search needs
+
+returns : tie.Need-returns
+returns c = let a = c .before .before .before .before .before .earlier .given in
+    let b = c .before .before .later .given in
+    sym (ap₂ orLater (a .1) (b .1) ∙ later-wins (a .0 .0) _ (b .0 .0) _ (omega (arith, c .if1 .taken)))
+
+returns-2 : tie.Need-returns-2
+returns-2 c = sym (ap₂ orLater (c .enum-told .given .1) refl ∙ none-earlier _)
+
+returns-3 : tie.Need-returns-3
+returns-3 c = sym (ap₂ orLater (c .before .before .before .earlier .given .1) (c .enum-told2 .given .1) ∙ none-later _)
+
+returns-4 : tie.Need-returns-4
+returns-4 c = let a = c .before .before .before .before .before .earlier .given in
+    let b = c .before .before .later .given in
+    sym (ap₂ orLater (a .1) (b .1) ∙ earlier-stays (a .0 .0) _ (b .0 .0) _ (omega (arith, c .if1 .left)))
+
+pub or-later-spec : {M : Type 1} → statement M
+or-later-spec =
+    tie.close
+    (tie.spec
+    enum-told
+    enum-known-earlier
+    enum-told-2
+    enum-known-later
+    returns
+    returns-2
+    returns-3
+    returns-4)
