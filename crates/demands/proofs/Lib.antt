@@ -11,3 +11,8 @@ pub mod ElementWrites
 pub mod Demand3
 pub mod Demand2
 pub mod Wrong
+pub mod Known
+pub mod FirstGiven
+pub mod Demand1
+pub mod Demands
+pub mod Unique

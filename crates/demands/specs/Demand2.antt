@@ -1,5 +1,6 @@
--- DEMAND 2: "Over a passed description and an image that lays out, a write is accepted exactly when its table or element exists, its range, length or number
--- fits, the table is writable and no dimension octet is touched. Afterwards reading that place gives what was written, and every other octet is the same."
+-- DEMAND 2: "Reads, writes and the calendar follow C12.19-1997 as condensed in 01. Over a passed description and an image that lays out, a write is accepted
+-- exactly when its table or element exists, its range, length or number fits, the table is writable and no dimension octet is touched. Afterwards reading that
+-- place gives what was written, and every other octet is the same."
 -- Each clause is one named statement over the replies: `writeRangeReply`, `writeOctetsReply` and `writeNumberReply` are the replies of the three writes,
 -- `write..Image` the image afterwards, `tableReply` and `whereReply` say where a table or an element is, `tableOctets`, `elementOctets` and `numberReply` what
 -- is read there (crate meaning, specs/Refusals). The public calls are proved to give these, for every input. A table or an element exists only over a passed
@@ -7,19 +8,25 @@
 use Prim.Native.Nat.{ℕ, _+_, _^_, _<_, _≤_}
 use mathlib.Core.Path.{_≡_}
 use mathlib.Core.Logic.{_⊎_}
-use mathlib.Core.Bool.{true, false}
+use mathlib.Core.Bool.{Bool, true, false}
 use mathlib.Core.List.{List}
 use lib.ListN.{length, getD}
 use Rattle.offsets.specs.declared.TableOffset.{TableOffset}
 use Rattle.meaning.specs.Basics.{part}
 use Rattle.meaning.specs.declared.ElementName.{ElementName}
+use Rattle.meaning.specs.declared.Quantity.{Quantity}
 use Rattle.meaning.specs.declared.Refusal.{Refusal}
+use Rattle.meaning.specs.declared.Triple.{Triple}
 use Rattle.meaning.specs.declared.Verdict.{Verdict}
 use Rattle.meaning.specs.declared.Place.{Place}
 use Rattle.meaning.specs.declared.Number.{Number}
 use Rattle.meaning.specs.Description.{itemCount, fieldsAt, isTable, isUint, isDimension, isTableNamed}
 use Rattle.meaning.specs.Passed.{Exactly}
+use Rattle.meaning.specs.Layout.{numberAt}
 use Rattle.meaning.specs.Refusals.{tableReply, whereReply, tableOctets, elementOctets, numberReply, writable, writeRangeReply, writeRangeImage, writeOctetsReply, writeOctetsImage, writeNumberReply, writeNumberImage}
+use Rattle.almanac.specs.Choices.{SeasonSays, SpecialSays, SwitchSays}
+use Rattle.almanac.specs.Days.{Days}
+use Rattle.almanac.specs.Matrix.{MatrixSays}
 use Rattle.demands.specs.Demand3.{Holds, InBody}
 
 -- n octets from octet p on
@@ -101,8 +108,24 @@ pub record NumberWrites (d img : List ℕ) (q : ElementName) (x : ℕ) : Type 0 
   pub others : (p n : ℕ) → writeNumberReply d img q x ≡ Verdict.Passed → whereReply d img q ≡ octetsAt p n → OthersSame img (writeNumberImage d img q x) p n
   pub unchanged : Unchanged (writeNumberReply d img q x) img (writeNumberImage d img q x)
 
+-- READS: the octets of the place that is told, and of an integer the number that they make in the image's DATA_ORDER. On refusal see specs/Demand1
+pub record Reads (d img : List ℕ) : Type 0 where
+  pub table : (m k p n : ℕ) → tableReply d img m k ≡ octetsAt p n → tableOctets d img m k ≡ part img p n
+  pub element : (q : ElementName) (p n : ℕ) → whereReply d img q ≡ octetsAt p n → elementOctets d img q ≡ part img p n
+  pub number : (q : ElementName) (p n : ℕ) → whereReply d img q ≡ octetsAt p n → isUint (fieldsAt d (q .item)) ≡ true → numberReply d img q ≡ Number.Is (numberAt img p n)
+
+-- THE CALENDAR: days and weekdays; which record chooses season, special schedule and tier, each exactly; the matrix cell by cell (crate almanac, specs/)
+pub record Calendar (d img : List ℕ) : Type 0 where
+  pub days : Days
+  pub season : (day : ℕ) (dates : List Triple) → SeasonSays day dates
+  pub special : (day : ℕ) (dates : List Triple) → SpecialSays day dates
+  pub switches : (separate : Bool) (q : Quantity) (schedule minute : ℕ) (switches : List Triple) → SwitchSays separate q schedule minute switches
+  pub matrix : MatrixSays d img
+
 -- ALL OF IT
 pub record Demand2 (d img : List ℕ) : Type 0 where
+  pub reads : Reads d img
+  pub calendar : Calendar d img
   pub range : (m k : ℕ) (o : TableOffset) (new : List ℕ) → RangeWrites d img m k o new
   pub octets : (q : ElementName) (new : List ℕ) → OctetsWrites d img q new
   pub number : (q : ElementName) (x : ℕ) → NumberWrites d img q x

@@ -1,7 +1,7 @@
--- What reading words of octets leans on: what `words::octets` tells where there is room, and D and M together. Assumes nothing.
+-- What reading words of octets leans on: what `words::octets` tells where there is room, and a word that a form has or hasn't. Assumes nothing.
 use mathlib.Core.Path.{_≡_, refl, sym}
 use mathlib.Core.List.{List}
-use mathlib.Core.Bool.{Bool, true, false, cond, and-true, and-false}
+use mathlib.Core.Bool.{Bool, true, false, cond, and-true}
 use Prim.Native.Nat.{ℕ, _+_, _/_, _≤_}
 use native.Mathlib.Omega.{arith}
 use borrow.Author.Tests.{le-leb}
@@ -10,11 +10,10 @@ use lib.Seq.{take-at}
 use Rattle.words.specs.declared.types.Octets.{Octets}
 use Rattle.words.specs.declared.types.Octets.the-variants.{Are, Not}
 use Rattle.words.specs.Put.{fits, laid}
-use Rattle.words.specs.Hex.{areOctets, octetsOf, canRead, OctetsRead}
+use Rattle.words.specs.Hex.{isDash, areOctets, octetsOf, canRead, OctetsRead}
 use Rattle.words.proofs.HexLaws.{octets-length}
-use Rattle.lines.specs.declared.read.Both.the-variants as both
-use Rattle.lines.specs.Answer.{nth, bothGiven}
-use Rattle.lines.specs.Read.{BothAre, BothRead}
+use Rattle.lines.specs.Answer.{wordIf}
+use Rattle.lines.specs.Read.{PartRead}
 
 -- A WORD OF OCTETS, read where there was room for it
 -- what is known where n octets were read: `later` starts with them
@@ -56,33 +55,21 @@ module _ {word out later : List ℕ} {r : Octets} (p : OctetsRead word out later
       go true f g = let z : _≡_ {A = ℕ} 0 1 = cc in absurd (omega arith)
       go false f g = f
 
--- D AND M, read into memory of their own
-pub both-are : {words : List (List ℕ)} {d m description image : List ℕ} {n k : ℕ} → d ≡ nth words 1 → m ≡ nth words 2
-    → OctetsAre d description n → OctetsAre m image k → BothRead words description image (both.Are n k)
-unfolding bothGiven
-both-are {words} {d} {m} {description} {image} {n} {k} e f s t =
-    let p : BothAre words description image n k =
-    record {
-      words-are = rw (← e, ← f, s .word-is, t .word-is);
-      d-within = s .within;
-      d-octets = rw (← e) (s .octets);
-      m-within = t .within;
-      m-octets = rw (← f) (t .octets);
-    } in
-    record {
-      are = λ n′ k′ g. (let a : n ≡ n′ = cc in let b : k ≡ k′ = cc in rw (← a, ← b) p);
-      not = λ g. (let z : _≡_ {A = ℕ} 0 1 = cc in absurd (omega arith));
-    }
+-- A WORD THAT A FORM HAS, OR HASN'T
+pub part-none : {there : Bool} (word later : List ℕ) → there ≡ false → PartRead (wordIf there word) later (record { are = true; count = 0 })
+unfolding wordIf areOctets isDash octetsOf
+part-none word later h = record { reply = rw h; within = omega arith; octets = λ g. rw h }
 
-neither : {words : List (List ℕ)} (description image : List ℕ) → bothGiven words ≡ false → BothRead words description image both.Not
-neither description image h = record { are = λ n k g. (let z : _≡_ {A = ℕ} 0 1 = cc in absurd (omega arith)); not = λ g. h }
+module _ {there : Bool} (word later : List ℕ) (h : there ≡ true) where
+  pub part-are : {n : ℕ} → OctetsAre word later n → PartRead (wordIf there word) later (record { are = true; count = n })
+  unfolding wordIf
+  part-are o = record { reply = rw h (sym (o .word-is)); within = o .within; octets = λ g. rw h (o .octets) }
 
-pub d-not : {words : List (List ℕ)} {d : List ℕ} (description image : List ℕ) → d ≡ nth words 1 → areOctets d ≡ false
-    → BothRead words description image both.Not
-unfolding bothGiven
-d-not description image e h = neither description image (rw (← e, h))
-
-pub m-not : {words : List (List ℕ)} {m : List ℕ} (description image : List ℕ) → m ≡ nth words 2 → areOctets m ≡ false
-    → BothRead words description image both.Not
-unfolding bothGiven
-m-not {words} description image e h = neither description image (rw (← e, h) (and-false (areOctets (nth words 1))))
+  pub part-not : areOctets word ≡ false → PartRead (wordIf there word) later (record { are = false; count = 0 })
+  unfolding wordIf
+  part-not o =
+      record {
+        reply = rw h (sym o);
+        within = omega arith;
+        octets = λ g. (let z : _≡_ {A = ℕ} 0 1 = cc in absurd (omega arith));
+      }

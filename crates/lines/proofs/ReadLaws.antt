@@ -1,20 +1,26 @@
 -- What reading numbers leans on, each within its limit: `SoFar` says what is known when the first i words have been read. Assumes nothing.
 use mathlib.Core.Path.{_≡_, refl, sym, ap, _∙_}
-use mathlib.Core.List.{List, [], _∷_}
+use mathlib.Core.List.{List, [], _∷_, _++_, append-assoc}
 use mathlib.Core.Bool.{Bool, true, false, cond, _&&_}
-use Prim.Native.Nat.{ℕ, zero, suc, _+_, _≤_, _<_, zero-le}
+use Prim.Native.Nat.{ℕ, zero, suc, _+_, _-_, _≤_, _<_, zero-le}
 use native.Mathlib.Nat.{not-suc-le-zero, le-of-suc-le-suc, add-zero}
 use native.Mathlib.Numerals.{add-one}
 use native.Mathlib.Omega.{arith}
 use borrow.Author.Tests.{leb-true}
 use lib.Dec.{leb}
-use lib.ListN.{length, getD, take, drop, set, length-set, drop-of-length-le}
-use lib.Seq.{take-all, take-suc, take-suc-set, drop-cons}
+use lib.ListN.{length, getD, take, drop, set, replicate, drop-of-length-le}
+use lib.Seq.{getD-take, take-all, take-suc, set-at, drop-cons, length-take-le}
+use Rattle.meaning.specs.Basics.{_=?_}
 use Rattle.words.specs.declared.types.Number.{Number}
 use Rattle.words.specs.declared.types.Number.the-variants.{Is, Not}
 use Rattle.words.specs.Number.{allDigits, valueOf, isNumber, numberOf}
-use Rattle.lines.specs.Answer.{nth, areNumbers, numbersIn}
-use Rattle.lines.specs.Read.{NumbersRead}
+use Rattle.words.specs.Hex.{areOctets}
+use Rattle.lines.specs.declared.kind.Form.{Form}
+use Rattle.lines.specs.declared.read.Numbers.{Numbers}
+use Rattle.lines.specs.declared.read.Part.{Part}
+use Rattle.lines.specs.declared.read.Asked.{Asked}
+use Rattle.lines.specs.Answer.{nth, areNumbers, numbersIn, seven, limits, wordIf, dWord, mWord, givenWord, ofForm}
+use Rattle.lines.specs.Read.{OfSeven, NumbersRead, PartRead, AskedRead}
 
 -- ONE NUMBER
 module _ (word : List ℕ) (most : ℕ) {r : Number} (e : r ≡ numberOf word most) where
@@ -77,52 +83,104 @@ number-within words from [] i e = zero-le
 number-within words from (m ∷ most) zero e = small (nth words from) m (both-left (isNumber (nth words from) m) _ e)
 number-within words from (m ∷ most) (suc i) e = number-within words (from + 1) most i (both-right (isNumber (nth words from) m) _ e)
 
--- the first i words are numbers, and `values` starts with what they come to
-pub record SoFar (words : List (List ℕ)) (from : ℕ) (most values : List ℕ) (i : ℕ) : Type 0 where
+pub limits-long : {count : ℕ} {most : List ℕ} → OfSeven count most → length (take count most) ≡ count
+limits-long {count} {most} o = length-take-le count most (omega arith)
+
+-- the first i words from word 3 on are numbers, and `values` are what they come to, with zeros behind
+pub record SoFar (words : List (List ℕ)) (most values : List ℕ) (i : ℕ) : Type 0 where
   pub within : i ≤ length most
-  pub long : length values ≡ length most
-  pub left : areNumbers words from most ≡ areNumbers words (from + i) (drop i most)
-  pub front : take i values ≡ take i (numbersIn words from most)
+  pub left : areNumbers words 3 most ≡ areNumbers words (3 + i) (drop i most)
+  pub front : values ≡ take i (numbersIn words 3 most) ++ replicate (7 - i) 0
 
-pub so-far-none : (words : List (List ℕ)) (from : ℕ) (most values : List ℕ) → length values ≡ length most → SoFar words from most values 0
-so-far-none words from most values h = record { within = zero-le; long = h; left = rw add-zero; front = refl }
+pub so-far-none : (words : List (List ℕ)) (most : List ℕ) → SoFar words most (replicate 7 0) 0
+so-far-none words most = record { within = zero-le; left = rw add-zero; front = refl }
 
-module _ {words : List (List ℕ)} {from : ℕ} {most values : List ℕ} {i : ℕ} (s : SoFar words from most values i) (h : i < length most)
-    {word : List ℕ} {r : Number} (w : word ≡ nth words (from + i)) (e : r ≡ numberOf word (getD most i 0)) where
-  pub so-far-more : (n : ℕ) → r ≡ Is n → SoFar words from most (set values i n) (i + 1)
+-- one number more in place of the first zero
+more : (xs : List ℕ) (i n : ℕ) → length xs ≡ i → i < 7 → set (xs ++ replicate (7 - i) 0) i n ≡ (xs ++ n ∷ []) ++ replicate (7 - (i + 1)) 0
+more xs i n e h =
+    let k : 7 - i ≡ suc (7 - (i + 1)) = omega arith in
+    rw (k, set-at xs 0 (replicate (7 - (i + 1)) 0) n i e, append-assoc)
+
+module _ {words : List (List ℕ)} {count : ℕ} {all values : List ℕ} {i : ℕ} (o : OfSeven count all) (s : SoFar words (take count all) values i) (less : i < count)
+    {word : List ℕ} {r : Number} (w : word ≡ nth words (3 + i)) (e : r ≡ numberOf word (getD all i 0)) where
+  h : i < length (take count all)
+  h = omega (arith, limits-long o)
+
+  m : getD all i 0 ≡ getD (take count all) i 0
+  m = sym (getD-take count all i 0 less)
+
+  pub so-far-more : (n : ℕ) → r ≡ Is n → SoFar words (take count all) (set values i n) (i + 1)
   so-far-more n f =
-      let q = number-is word (getD most i 0) e n f in
-      let v : n ≡ getD (numbersIn words from most) i 0 = q .1 ∙ ap valueOf w ∙ sym (number-at words from most i h) in
-      let t : isNumber (nth words (from + i)) (getD most i 0) ≡ true = rw w at (q .0) in
-      let l : i < length (numbersIn words from most) = omega (arith, numbers-long words from most) in
+      let most : List ℕ = take count all in
+      let q = number-is word (getD all i 0) e n f in
+      let v : n ≡ getD (numbersIn words 3 most) i 0 = q .1 ∙ ap valueOf w ∙ sym (number-at words 3 most i h) in
+      let t : isNumber (nth words (3 + i)) (getD most i 0) ≡ true = rw (w, m) at (q .0) in
+      let l : i < length (numbersIn words 3 most) = omega (arith, numbers-long words 3 most, h) in
+      let front : length (take i (numbersIn words 3 most)) ≡ i = length-take-le i (numbersIn words 3 most) (omega arith) in
       record {
-        within = omega arith;
-        long = length-set values i n ∙ s .long;
-        left = s .left ∙ are-next words from most i h ∙ rw t;
-        front =
-            rw (add-one i, take-suc-set values i n (omega (arith, s .long)), s .front, take-suc (numbersIn words from most) i 0 l, v);
+        within = omega (arith, h);
+        left = s .left ∙ are-next words 3 most i h ∙ rw t;
+        front = rw (s .front, more (take i (numbersIn words 3 most)) i n front (omega arith), add-one i, take-suc (numbersIn words 3 most) i 0 l, v);
       }
 
-  pub so-far-not : r ≡ Not → NumbersRead words from most values false
+  pub so-far-not : r ≡ Not → NumbersRead words (take count all) (record { are = false; values = values })
   so-far-not f =
-      let t : isNumber (nth words (from + i)) (getD most i 0) ≡ false = rw w at (number-not word (getD most i 0) e f) in
+      let t : isNumber (nth words (3 + i)) (getD (take count all) i 0) ≡ false = rw (w, m) at (number-not word (getD all i 0) e f) in
       record {
-        reply = sym (s .left ∙ are-next words from most i h ∙ rw t);
+        reply = sym (s .left ∙ are-next words 3 (take count all) i h ∙ rw t);
         memory = λ g. (let z : _≡_ {A = ℕ} 0 1 = cc in absurd (omega arith));
       }
 
-pub so-far-all : {words : List (List ℕ)} {from : ℕ} {most values : List ℕ} {i : ℕ} → SoFar words from most values i → length most ≤ i
-    → NumbersRead words from most values true
-unfolding areNumbers
-so-far-all {words} {from} {most} {values} {i} s h =
+pub so-far-all : {words : List (List ℕ)} {most values : List ℕ} {i : ℕ} → SoFar words most values i → length most ≤ i
+    → NumbersRead words most (record { are = true; values = values })
+unfolding areNumbers seven
+so-far-all {words} {most} {values} {i} s h =
+    let l : length (numbersIn words 3 most) ≡ i = numbers-long words 3 most ∙ omega arith in
     record {
       reply = sym (s .left ∙ rw (drop-of-length-le most h));
-      memory = λ g. sym (take-all i values (omega (arith, s .long)))
-          ∙ s .front
-          ∙ take-all i (numbersIn words from most) (omega (arith, numbers-long words from most));
+      memory = λ g. s .front ∙ rw (take-all i (numbersIn words 3 most) (omega arith), l);
     }
 
+-- ALL THAT A LINE ASKS
+-- the zeros behind the numbers are what an index past the end reads
+zeros : (k i : ℕ) → _≡_ {A = ℕ} (getD (replicate k 0) i 0) 0
+zeros zero i = refl
+zeros (suc k) zero = refl
+zeros (suc k) (suc i) = zeros k i
+
+padded : (xs : List ℕ) (k i : ℕ) → getD (xs ++ replicate k 0) i 0 ≡ getD xs i 0
+padded [] k i = zeros k i
+padded (x ∷ xs) k zero = refl
+padded (x ∷ xs) k (suc i) = padded xs k i
+
+module _ {f : Form} {words : List (List ℕ)} {description image given : List ℕ} {d m g : Part} {n : Numbers}
+    (is-d : PartRead (wordIf true (nth words 1)) description d) (is-m : PartRead (wordIf (f .image) (nth words 2)) image m)
+    (is-n : NumbersRead words (take (f .numbers) (f .most)) n) (is-g : PartRead (wordIf (f .given) (nth words (3 + f .numbers))) given g) where
+  pub asked-read : {counted two three all r : Bool} → counted ≡ (length words =? f .words) → two ≡ (m .are && g .are) → three ≡ (d .are && two)
+      → all ≡ (three && n .are) → r ≡ (counted && all)
+      → AskedRead f words description image given (record { is = r; d = d .count; m = m .count; given = g .count; numbers = n .values })
+  unfolding ofForm limits dWord mWord givenWord
+  asked-read {counted} {two} {three} {all} {r} c e₂ e₃ a e =
+      let is-all : r ≡ true → (three && n .are) ≡ true = λ h. sym a ∙ both-right counted all (sym e ∙ h) in
+      let is-three : r ≡ true → (d .are && two) ≡ true = λ h. sym e₃ ∙ both-left three (n .are) (is-all h) in
+      let is-two : r ≡ true → (m .are && g .are) ≡ true = λ h. sym e₂ ∙ both-right (d .are) two (is-three h) in
+      record {
+        reply = rw (e, c, a, e₃, e₂, is-d .reply, is-m .reply, is-g .reply, is-n .reply);
+        d-within = is-d .within;
+        m-within = is-m .within;
+        given-within = is-g .within;
+        d-octets = λ h. is-d .octets (both-left (d .are) two (is-three h));
+        m-octets = λ h. is-m .octets (both-left (m .are) (g .are) (is-two h));
+        given-octets = λ h. is-g .octets (both-right (m .are) (g .are) (is-two h));
+        values = λ h. is-n .memory (both-right three (n .are) (is-all h));
+      }
+
 -- FOR CALLERS: each number that was read is within its limit
-pub read-within : {words : List (List ℕ)} {from : ℕ} {most later : List ℕ} {r : Bool} → NumbersRead words from most later r → r ≡ true → (i : ℕ)
-    → getD later i 0 ≤ getD most i 0
-read-within {words} {from} {most} s e i = rw (s .memory e) (number-within words from most i (sym (s .reply) ∙ e))
+pub read-within : {f : Form} {words : List (List ℕ)} {description image given : List ℕ} {r : Asked} → AskedRead f words description image given r
+    → r .is ≡ true → (i : ℕ) → getD (r .numbers) i 0 ≤ getD (limits f) i 0
+unfolding ofForm seven
+read-within {f} {words} s e i =
+    let octets : Bool = areOctets (dWord words) && (areOctets (mWord f words) && areOctets (givenWord f words)) in
+    let a : (octets && areNumbers words 3 (limits f)) ≡ true = both-right (length words =? f .words) _ (sym (s .reply) ∙ e) in
+    let t : areNumbers words 3 (limits f) ≡ true = both-right octets _ a in
+    rw (s .values e, padded (numbersIn words 3 (limits f)) _ i) (number-within words 3 (limits f) i t)

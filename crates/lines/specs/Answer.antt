@@ -1,8 +1,8 @@
 -- The reply to a line: docs/LINES.md, question by question. Octets are ASCII: a space is 32, a line feed 10, `?` 63. Assumes nothing.
-use Prim.Native.Nat.{ℕ, _+_, _*_, _≤_}
-use mathlib.Core.Bool.{Bool, true, _&&_}
+use Prim.Native.Nat.{ℕ, _+_, _-_, _*_, _≤_}
+use mathlib.Core.Bool.{Bool, true, false, _&&_}
 use mathlib.Core.List.{List, [], _∷_, _++_, flatten}
-use lib.ListN.{length, getD, replicate}
+use lib.ListN.{length, getD, take, replicate}
 use Rattle.meaning.specs.Basics.{if_then_else_, _=?_, _<?_}
 use Rattle.meaning.specs.declared.ElementName.{ElementName}
 use Rattle.meaning.specs.declared.Moment.{Moment}
@@ -13,10 +13,13 @@ use Rattle.meaning.specs.Refusals.{verdictValues, totalValues, placeValues, num
 use Rattle.meaning.specs.Refusals.{writeRangeReply, writeRangeImage, writeOctetsReply, writeOctetsImage, writeNumberReply, writeNumberImage}
 use Rattle.meaning.specs.Description.{soundness}
 use Rattle.meaning.specs.Calendar.{tierReply, matrixReply, matrixVerdict}
+use Rattle.replies.specs.Asked.{quantityOf}
 use Rattle.words.specs.Number.{isNumber, valueOf, decimalText}
 use Rattle.words.specs.Hex.{areOctets, octetsOf, hexText}
 use Rattle.words.specs.Line.{lineWords, isName}
 use Rattle.words.specs.Put.{IsPut}
+use Rattle.lines.specs.declared.kind.Kind.{Kind}
+use Rattle.lines.specs.declared.kind.Form.{Form}
 
 -- TEXTS
 -- numbers, each behind a space
@@ -60,41 +63,45 @@ unfoldable pub numbersIn : List (List ℕ) → (from : ℕ) → (most : List ℕ
 numbersIn words from [] = []
 numbersIn words from (m ∷ most) = valueOf (nth words from) ∷ numbersIn words (from + 1) most
 
--- `mfr num`, from word 3 on
+-- `mfr num`
 abbrev pub tableLimits : List ℕ
 tableLimits = 1 ∷ 65535 ∷ []
 
--- `mfr num offset`, from word 3 on
+-- `mfr num offset`
 abbrev pub rangeLimits : List ℕ
 rangeLimits = 1 ∷ 65535 ∷ 18446744073709551615 ∷ []
 
--- `S`, from word 3 on: `item n s0 s1 s2 s3`
+-- `S`, which is `item n s0 s1 s2 s3`
 abbrev pub elementLimits : List ℕ
 elementLimits = replicate 6 18446744073709551615
+
+-- `S value`
+abbrev pub valueLimits : List ℕ
+valueLimits = replicate 7 18446744073709551615
+
+-- `year month day hour minute what`; `what` is 0 for summations, 1 for demands
+abbrev pub tierLimits : List ℕ
+tierLimits = replicate 5 4294967295 ++ 1 ∷ []
+
+-- numbers filled up with zeros to seven, as many as a line has at most
+unfoldable pub seven : List ℕ → List ℕ
+seven numbers = numbers ++ replicate (7 - length numbers) 0
 
 unfoldable pub elementOf : List ℕ → ElementName
 elementOf n = record { item = getD n 0 0; count = getD n 1 0; subscripts = getD n 2 0 ∷ getD n 3 0 ∷ getD n 4 0 ∷ getD n 5 0 ∷ [] }
 
--- `year month day hour minute what`, from word 3 on
-abbrev pub tierLimits : List ℕ
-tierLimits = replicate 5 4294967295 ++ 1 ∷ []
-
 unfoldable pub momentOf : List ℕ → Moment
 momentOf n = record { year = getD n 0 0; month = getD n 1 0; day = getD n 2 0; hour = getD n 3 0; minute = getD n 4 0 }
 
--- `what`: 0 is summations, 1 demands
-unfoldable pub quantityOf : ℕ → Quantity
-quantityOf what = if what =? 0 then Quantity.Summations else Quantity.Demands
-
--- THE QUESTIONS
+-- THE QUESTIONS, by the octets of D, M and DATA and by the numbers
 -- `check D`
 abbrev pub checkName : List ℕ
 checkName = 99 ∷ 104 ∷ 101 ∷ 99 ∷ 107 ∷ []
 
 unfoldable pub checkText : (d : List ℕ) → List ℕ
-checkText d = if areOctets d then numbersLine (verdictValues (soundness (octetsOf d))) else noForm
+checkText d = numbersLine (verdictValues (soundness d))
 
--- `layout D M`, and in all that follow, the octets of D and M
+-- `layout D M`
 abbrev pub layoutName : List ℕ
 layoutName = 108 ∷ 97 ∷ 121 ∷ 111 ∷ 117 ∷ 116 ∷ []
 
@@ -171,93 +178,94 @@ matrixName = 109 ∷ 97 ∷ 116 ∷ 114 ∷ 105 ∷ 120 ∷ []
 unfoldable pub matrixText : (d m : List ℕ) → List ℕ
 matrixText d m = verdictLine (matrixVerdict d m) (flatten (matrixReply d m))
 
--- WHICH QUESTION IS ASKED: by the number of words, then by the first of them
-unfoldable pub twoWords : List (List ℕ) → List ℕ
-twoWords words = if isName (nth words 0) checkName then checkText (nth words 1) else noForm
+-- WHICH QUESTION IS ASKED: its name, the first word, tells its kind
+unfoldable pub kindOf : (name : List ℕ) → Kind
+kindOf name =
+    if isName name checkName then Kind.Check
+    else if isName name layoutName then Kind.Layout
+    else if isName name tableName then Kind.Table
+    else if isName name tablepartName then Kind.TablePart
+    else if isName name whereName then Kind.Where
+    else if isName name octetsName then Kind.Octets
+    else if isName name numberName then Kind.Number
+    else if isName name writerangeName then Kind.WriteRange
+    else if isName name writeoctetsName then Kind.WriteOctets
+    else if isName name writenumberName then Kind.WriteNumber
+    else if isName name tierName then Kind.Tier
+    else if isName name matrixName then Kind.Matrix
+    else Kind.Unknown
 
-unfoldable pub threeWords : List (List ℕ) → (d m : List ℕ) → List ℕ
-threeWords words d m =
-    if isName (nth words 0) layoutName then layoutText d m
-    else if isName (nth words 0) matrixName then matrixText d m
+-- THE FORM of a kind's lines: how many words; whether M stands behind the name and D; what the numbers from word 3 on may come to; whether
+-- DATA stands behind them
+abbrev pub form : (words : ℕ) → (image : Bool) → (limits : List ℕ) → (given : Bool) → Form
+form words image limits given = record { words = words; image = image; numbers = length limits; most = seven limits; given = given }
+
+unfoldable pub formOf : Kind → Form
+formOf Kind.Check = form 2 false [] false
+formOf Kind.Layout = form 3 true [] false
+formOf Kind.Table = form 5 true tableLimits false
+formOf Kind.TablePart = form 5 true tableLimits false
+formOf Kind.Where = form 9 true elementLimits false
+formOf Kind.Octets = form 9 true elementLimits false
+formOf Kind.Number = form 9 true elementLimits false
+formOf Kind.WriteRange = form 7 true rangeLimits true
+formOf Kind.WriteOctets = form 10 true elementLimits true
+formOf Kind.WriteNumber = form 10 true valueLimits false
+formOf Kind.Tier = form 9 true tierLimits false
+formOf Kind.Matrix = form 3 true [] false
+formOf Kind.Unknown = form 0 false [] false
+
+-- a form's limits, without the zeros behind them
+unfoldable pub limits : Form → List ℕ
+limits f = take (f .numbers) (f .most)
+
+-- numbers are within a kind's limits
+pub record Within (kind : Kind) (numbers : List ℕ) : Type 0 where
+  pub each : (i : ℕ) → getD numbers i 0 ≤ getD (limits (formOf kind)) i 0
+
+-- a word that the form has, or in its place `-`, which is no octets
+unfoldable pub wordIf : Bool → (word : List ℕ) → List ℕ
+wordIf there word = if there then word else 45 ∷ []
+
+-- D, M and DATA
+unfoldable pub dWord : List (List ℕ) → List ℕ
+dWord words = wordIf true (nth words 1)
+
+unfoldable pub mWord : Form → List (List ℕ) → List ℕ
+mWord f words = wordIf (f .image) (nth words 2)
+
+unfoldable pub givenWord : Form → List (List ℕ) → List ℕ
+givenWord f words = wordIf (f .given) (nth words (3 + f .numbers))
+
+-- words are of a form
+unfoldable pub ofForm : Form → List (List ℕ) → Bool
+ofForm f words =
+    (length words =? f .words) && ((areOctets (dWord words) && (areOctets (mWord f words) && areOctets (givenWord f words))) && areNumbers words 3 (limits f))
+
+-- THE REPLY to a question of this kind, by the octets of D and M, the numbers and the octets of DATA
+unfoldable pub replyText : Kind → (d m numbers new : List ℕ) → List ℕ
+replyText Kind.Check d m n new = checkText d
+replyText Kind.Layout d m n new = layoutText d m
+replyText Kind.Table d m n new = tableText d m (getD n 0 0) (getD n 1 0)
+replyText Kind.TablePart d m n new = tablepartText d m (getD n 0 0) (getD n 1 0)
+replyText Kind.Where d m n new = whereText d m (elementOf n)
+replyText Kind.Octets d m n new = octetsText d m (elementOf n)
+replyText Kind.Number d m n new = numberText d m (elementOf n)
+replyText Kind.WriteRange d m n new = writerangeText d m (getD n 0 0) (getD n 1 0) (record { 0 = getD n 2 0 }) new
+replyText Kind.WriteOctets d m n new = writeoctetsText d m (elementOf n) new
+replyText Kind.WriteNumber d m n new = writenumberText d m (elementOf n) (getD n 6 0)
+replyText Kind.Tier d m n new = tierText d m (momentOf n) (quantityOf (getD n 5 0))
+replyText Kind.Matrix d m n new = matrixText d m
+replyText Kind.Unknown d m n new = noForm
+
+unfoldable pub answerAs : Kind → Form → List (List ℕ) → List ℕ
+answerAs kind f words =
+    if ofForm f words
+    then replyText kind (octetsOf (dWord words)) (octetsOf (mWord f words)) (seven (numbersIn words 3 (limits f))) (octetsOf (givenWord f words))
     else noForm
-
--- of a table
-unfoldable pub tableWords : (name : List ℕ) → (d m : List ℕ) → (mfr num : ℕ) → List ℕ
-tableWords name d m mfr num =
-    if isName name tableName then tableText d m mfr num
-    else if isName name tablepartName then tablepartText d m mfr num
-    else noForm
-
-unfoldable pub fiveWords : List (List ℕ) → (d m : List ℕ) → List ℕ
-fiveWords words d m = if areNumbers words 3 tableLimits then tableWords (nth words 0) d m (valueOf (nth words 3)) (valueOf (nth words 4)) else noForm
-
--- a range of a table, with the octets to be written in word 6
-unfoldable pub rangeWords : List (List ℕ) → (d m : List ℕ) → List ℕ
-rangeWords words d m =
-    if areNumbers words 3 rangeLimits && areOctets (nth words 6)
-    then writerangeText d m (valueOf (nth words 3)) (valueOf (nth words 4)) (record { 0 = valueOf (nth words 5) }) (octetsOf (nth words 6))
-    else noForm
-
-unfoldable pub sevenWords : List (List ℕ) → (d m : List ℕ) → List ℕ
-sevenWords words d m = if isName (nth words 0) writerangeName then rangeWords words d m else noForm
-
--- of an element
-unfoldable pub elementWords : (name : List ℕ) → (d m : List ℕ) → ElementName → List ℕ
-elementWords name d m element =
-    if isName name whereName then whereText d m element
-    else if isName name octetsName then octetsText d m element
-    else if isName name numberName then numberText d m element
-    else noForm
-
--- what is to be written to an element: octets, or a number
-unfoldable pub octetsWritten : (word : List ℕ) → (d m : List ℕ) → ElementName → List ℕ
-octetsWritten word d m element = if areOctets word then writeoctetsText d m element (octetsOf word) else noForm
-
-unfoldable pub numberWritten : (word : List ℕ) → (d m : List ℕ) → ElementName → List ℕ
-numberWritten word d m element = if isNumber word 18446744073709551615 then writenumberText d m element (valueOf word) else noForm
-
-unfoldable pub writeWords : (name word : List ℕ) → (d m : List ℕ) → ElementName → List ℕ
-writeWords name word d m element =
-    if isName name writeoctetsName then octetsWritten word d m element
-    else if isName name writenumberName then numberWritten word d m element
-    else noForm
-
--- an element is named the same way in all of them
-unfoldable pub withElement : List (List ℕ) → (d m : List ℕ) → ElementName → List ℕ
-withElement words d m element =
-    if length words =? 9 then elementWords (nth words 0) d m element
-    else if length words =? 10 then writeWords (nth words 0) (nth words 9) d m element
-    else noForm
-
-unfoldable pub elementQuestions : List (List ℕ) → (d m : List ℕ) → List ℕ
-elementQuestions words d m = if areNumbers words 3 elementLimits then withElement words d m (elementOf (numbersIn words 3 elementLimits)) else noForm
-
--- a tier at a moment, or an element
-unfoldable pub tierWords : List (List ℕ) → (d m : List ℕ) → List ℕ
-tierWords words d m =
-    if areNumbers words 3 tierLimits then tierText d m (momentOf (numbersIn words 3 tierLimits)) (quantityOf (valueOf (nth words 8))) else noForm
-
-unfoldable pub nineWords : List (List ℕ) → (d m : List ℕ) → List ℕ
-nineWords words d m = if isName (nth words 0) tierName then tierWords words d m else elementQuestions words d m
-
--- the questions about an image, by the octets of D and M
-unfoldable pub imageWords : List (List ℕ) → (d m : List ℕ) → List ℕ
-imageWords words d m =
-    if length words =? 3 then threeWords words d m
-    else if length words =? 5 then fiveWords words d m
-    else if length words =? 7 then sevenWords words d m
-    else if length words =? 9 then nineWords words d m
-    else elementQuestions words d m
-
--- all of them have D and M behind the name
-unfoldable pub bothGiven : List (List ℕ) → Bool
-bothGiven words = areOctets (nth words 1) && areOctets (nth words 2)
-
-unfoldable pub withImage : List (List ℕ) → List ℕ
-withImage words = if bothGiven words then imageWords words (octetsOf (nth words 1)) (octetsOf (nth words 2)) else noForm
 
 unfoldable pub answerWords : List (List ℕ) → List ℕ
-answerWords words = if length words =? 2 then twoWords words else withImage words
+answerWords words = answerAs (kindOf (nth words 0)) (formOf (kindOf (nth words 0))) words
 
 -- what a line is answered, with the line feed that ends the reply; a line of more than 300,000 octets is of no form
 unfoldable pub answerText : List ℕ → List ℕ

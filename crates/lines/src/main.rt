@@ -1,6 +1,7 @@
 // Reads requests from standard input, a line each, and writes one reply line for each to standard
 // output, in order, until the input ends. Nothing is kept between lines.
 mod input;
+mod kind;
 mod put;
 mod questions;
 mod read;

@@ -4,31 +4,21 @@ use meaning::ElementName;
 use meaning::Moment;
 use meaning::Quantity;
 use offsets::TableOffset;
-use words::Octets;
 ghost use Prim.Native.Nat.{_≤_};
 ghost use lib.ListN.{length};
 ghost use Rattle.lines.specs.Answer.{checkText, layoutText, tableText, tablepartText, whereText, octetsText, numberText};
 ghost use Rattle.lines.specs.Answer.{writerangeText, writeoctetsText, writenumberText, tierText, matrixText, roomFor, Replied};
 
-// `check D`. The octets of D are read into description, which has room for them: an octet is two
-// digits of the line.
-pub fn check_reply(d: &[u8], out: &mut [u8], description: &mut [u8]) -> usize
-    requires { ⌜ length (now d) ≤ 300000 ⌝ }
-    requires { ⌜ 110 ≤ length (now out) ⌝ }
-    requires { ⌜ 150000 ≤ length (now description) ⌝ }
+// `check D`, D being these octets, here and in all that follow.
+pub fn check_reply(d: &[u8], out: &mut [u8]) -> usize
+    requires { ⌜ 64 ≤ length (now out) ⌝ }
     ensures { λ r. ⌜ Replied (now (out .entry)) (checkText (now (d .entry))) (now (out .exit)) r ⌝ }
 {
-    let read = words::octets(d, description);
-    match read {
-        Octets::Are(n) => {
-            let values = replies::verdict_values(sound::check(&description[..n]));
-            put::put_line(out, &values)
-        }
-        Octets::Not => put::no_form(out),
-    }
+    let values = replies::verdict_values(sound::check(d));
+    put::put_line(out, &values)
 }
 
-// `layout D M`, D and M being these octets, here and in all that follow.
+// `layout D M`, and M these octets.
 pub fn layout_reply(d: &[u8], m: &[u8], out: &mut [u8]) -> usize
     requires { ⌜ roomFor (now m) ≤ length (now out) ⌝ }
     ensures { λ r. ⌜ Replied (now (out .entry)) (layoutText (now (d .entry)) (now (m .entry))) (now (out .exit)) r ⌝ }

@@ -1,34 +1,49 @@
-// The words that questions share: numbers, each within its limit; the octets of D and M; an element.
+// What a line asks: the octets of D, M and DATA, the numbers, and what numbers name.
+use crate::kind::Form;
 use meaning::ElementName;
 use meaning::Moment;
-use meaning::Quantity;
 use words::Number;
 use words::Octets;
 use words::Words;
 ghost use mathlib.Core.Path.{_≡_};
-ghost use Prim.Native.Nat.{ℕ, _+_, _≤_};
-ghost use lib.ListN.{length, getD};
+ghost use Prim.Native.Nat.{ℕ, _≤_};
+ghost use lib.ListN.{length, getD, take};
 ghost use Rattle.words.specs.Line.{lineWords, splitOf};
-ghost use Rattle.lines.specs.Answer.{elementOf, momentOf, quantityOf, tierLimits};
-ghost use Rattle.lines.specs.Read.{NumbersRead, BothRead};
+ghost use Rattle.lines.specs.Answer.{nth, wordIf, elementOf, momentOf, tierLimits};
+ghost use Rattle.lines.specs.Read.{OfSeven, NumbersRead, PartRead, AskedRead};
 
-// D and M as octets: how many each has.
-pub enum Both {
-    Are { d: usize, m: usize },
-    Not,
+// Numbers: whether each is one, and what they come to; 0 behind the last.
+pub struct Numbers {
+    pub are: bool,
+    pub values: [u64; 7],
 }
 
-// Whether the words from `from` on are numbers, each at most what stands for it in most; then
-// values are what they come to.
-pub fn numbers(line: &[u8], split: Words, from: usize, most: &[u64], values: &mut [u64]) -> bool
+// A word of octets: whether it is one, and how many octets it has.
+pub struct Part {
+    pub are: bool,
+    pub count: usize,
+}
+
+// A line: whether it is of the form that was looked for; how many octets D, M and DATA have, and
+// the numbers.
+pub struct Asked {
+    pub is: bool,
+    pub d: usize,
+    pub m: usize,
+    pub given: usize,
+    pub numbers: [u64; 7],
+}
+
+// The numbers from word 3 on, as many as count, each at most what stands for it in most.
+fn read_numbers(line: &[u8], split: Words, count: usize, most: [u64; 7]) -> Numbers
     requires { ⌜ split ≡ splitOf (now line) ⌝ }
-    requires { ⌜ length (now values) ≡ length (now most) ⌝ }
-    requires { ⌜ from + length (now most) ≤ 20 ⌝ }
-    ensures { λ r. ⌜ NumbersRead (lineWords (now (line .entry))) from (now (most .entry)) (now (values .exit)) r ⌝ }
+    requires { ⌜ OfSeven count most ⌝ }
+    ensures { λ r. ⌜ NumbersRead (lineWords (now (line .entry))) (take count most) r ⌝ }
 {
+    let mut values = [0u64; 7];
     let mut i = 0;
-    while i < most.len() {
-        let word = words::word(line, split, from + i);
+    while i < count {
+        let word = words::word(line, split, 3 + i);
         let read = words::number(word, most[i]);
         match read {
             Number::Is(n) => {
@@ -36,37 +51,78 @@ pub fn numbers(line: &[u8], split: Words, from: usize, most: &[u64], values: &mu
                 i += 1;
             }
             Number::Not => {
-                return false;
+                return Numbers { are: false, values };
             }
         }
     }
-    true
+    Numbers { are: true, values }
 }
 
-// The octets of D and M, words 1 and 2, at the start of description and of image, which have room
-// for them: an octet is two digits of the line.
-pub fn d_and_m(line: &[u8], split: Words, description: &mut [u8], image: &mut [u8]) -> Both
+// The octets of word k, where the form has it, at the start of out, which has room for them: an
+// octet is two digits of the line.
+fn read_octets(line: &[u8], split: Words, k: usize, there: bool, out: &mut [u8]) -> Part
+    requires { ⌜ split ≡ splitOf (now line) ⌝ }
+    requires { ⌜ length (now line) ≤ 300000 ⌝ }
+    requires { ⌜ 150000 ≤ length (now out) ⌝ }
+    ensures { λ r. ⌜ PartRead (wordIf there (nth (lineWords (now (line .entry))) k)) (now (out .exit)) r ⌝ }
+{
+    if !there {
+        return Part {
+            are: true,
+            count: 0,
+        };
+    }
+    let read = words::octets(words::word(line, split, k), out);
+    match read {
+        Octets::Are(n) => Part {
+            are: true,
+            count: n,
+        },
+        Octets::Not => Part {
+            are: false,
+            count: 0,
+        },
+    }
+}
+
+// Reads all that a line of this form asks. Every word is read, whatever the others are, so that the
+// tests are joined once, at the end.
+pub fn read_asked(
+    line: &[u8],
+    split: Words,
+    form: Form,
+    description: &mut [u8],
+    image: &mut [u8],
+    given: &mut [u8],
+) -> Asked
     requires { ⌜ split ≡ splitOf (now line) ⌝ }
     requires { ⌜ length (now line) ≤ 300000 ⌝ }
     requires { ⌜ 150000 ≤ length (now description) ⌝ }
     requires { ⌜ 150000 ≤ length (now image) ⌝ }
-    ensures { λ r. ⌜ BothRead (lineWords (now (line .entry))) (now (description .exit)) (now (image .exit)) r ⌝ }
+    requires { ⌜ 150000 ≤ length (now given) ⌝ }
+    requires { ⌜ OfSeven (form .numbers) (form .most) ⌝ }
+    ensures { λ r. ⌜ AskedRead form (lineWords (now (line .entry))) (now (description .exit)) (now (image .exit)) (now (given .exit)) r ⌝ }
 {
-    let first = words::octets(words::word(line, split, 1), description);
-    match first {
-        Octets::Are(n) => {
-            let second = words::octets(words::word(line, split, 2), image);
-            match second {
-                Octets::Are(k) => Both::Are { d: n, m: k },
-                Octets::Not => Both::Not,
-            }
-        }
-        Octets::Not => Both::Not,
+    let d = read_octets(line, split, 1, true, description);
+    let m = read_octets(line, split, 2, form.image, image);
+    let count = form.numbers;
+    let most = form.most;
+    let read = read_numbers(line, split, count, most);
+    let new = read_octets(line, split, 3 + count, form.given, given);
+    let values = read.values;
+    let octets_are = basics::both(d.are, basics::both(m.are, new.are));
+    let words_are = basics::both(octets_are, read.are);
+    Asked {
+        is: basics::both(split.count == form.words, words_are),
+        d: d.count,
+        m: m.count,
+        given: new.count,
+        numbers: values,
     }
 }
 
 // An element by its six numbers.
-pub fn element(n: [u64; 6]) -> ElementName
+pub fn element(n: [u64; 7]) -> ElementName
     ensures { λ r. ⌜ r ≡ elementOf n ⌝ }
 {
     ElementName {
@@ -77,7 +133,7 @@ pub fn element(n: [u64; 6]) -> ElementName
 }
 
 // A moment by its numbers, each within its limit; what is asked for stands behind them.
-pub fn moment(n: [u64; 6]) -> Moment
+pub fn moment(n: [u64; 7]) -> Moment
     requires { ⌜ ((i : ℕ) → getD n i 0 ≤ getD tierLimits i 0) ⌝ }
     ensures { λ r. ⌜ r ≡ momentOf n ⌝ }
 {
@@ -88,14 +144,4 @@ pub fn moment(n: [u64; 6]) -> Moment
         hour: n[3] as u32,
         minute: n[4] as u32,
     }
-}
-
-// What a tier is asked for: 0 is summations, 1 demands.
-pub fn quantity(what: u64) -> Quantity
-    ensures { λ r. ⌜ r ≡ quantityOf what ⌝ }
-{
-    if what == 0 {
-        return Quantity::Summations;
-    }
-    Quantity::Demands
 }

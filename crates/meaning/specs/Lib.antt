@@ -5,6 +5,7 @@ pub mod Passed
 pub mod Layout
 pub mod Refusals
 pub mod Calendar
+pub mod Questions
 pub mod Examples
 pub mod Unpassed
 pub mod Careful

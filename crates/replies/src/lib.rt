@@ -1,9 +1,11 @@
-// An answer as the paper's numbers, for callers that know no enum: a line of text, or C.
+// An answer as the paper's numbers, for callers that know no enum: a line of text, or C. What they
+// ask by a number is turned into its value here too.
 //
 // A refusal is three numbers: its own, then the item and the octet that it reports, each 0 where it
 // reports none. An answer starts with those three, all 0 where nothing is refused.
 use meaning::Number;
 use meaning::Place;
+use meaning::Quantity;
 use meaning::Refusal;
 use meaning::Tier;
 use meaning::Total;
@@ -11,6 +13,7 @@ use meaning::Verdict;
 ghost use mathlib.Core.Path.{_≡_};
 ghost use mathlib.Core.List.{flatten};
 ghost use Rattle.meaning.specs.Refusals.{reported, verdictValues, totalValues, placeValues, numberValues, tierValues};
+ghost use Rattle.replies.specs.Asked.{quantityOf};
 
 // A refusal's number, item and octet.
 pub fn reported(r: Refusal) -> [u64; 3]
@@ -110,4 +113,14 @@ pub fn cells(matrix: [[u8; 22]; 15]) -> [u8; 330]
         at += 1;
     }
     octets
+}
+
+// What a tier is asked for: 0 is summations, any other number demands.
+pub fn quantity(what: u64) -> Quantity
+    ensures { λ r. ⌜ r ≡ quantityOf what ⌝ }
+{
+    if what == 0 {
+        return Quantity::Summations;
+    }
+    Quantity::Demands
 }

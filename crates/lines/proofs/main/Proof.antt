@@ -1,6 +1,10 @@
 -- `lines::main`: the memory is as long as what is lent asks. Assumes nothing.
+use Prim.Native.Nat.{ℕ}
+use mathlib.Core.Path.{sym}
 use native.Mathlib.Omega.{arith}
+use lib.ListN.{length-replicate}
 use borrow.Author.Needs.{needs}
+use Rattle.lines.proofs.InputLaws.{memory-of}
 use Rattle.lines.proofs.main.Statement.{statement}
 use Rattle.lines.proofs.main.Tie as tie
 
@@ -11,22 +15,22 @@ slice-aggregate-run : tie.Need-slice-aggregate-run
 slice-aggregate-run c = search needs
 
 slice-aggregate-run-2 : tie.Need-slice-aggregate-run-2
-slice-aggregate-run-2 c = search needs
+slice-aggregate-run-2 c = sym (length-replicate {A = ℕ} 300001 0)
 
 slice-aggregate-run-3 : tie.Need-slice-aggregate-run-3
-slice-aggregate-run-3 c = search needs
+slice-aggregate-run-3 c = sym (length-replicate {A = ℕ} 300726 0)
 
 slice-aggregate-run-4 : tie.Need-slice-aggregate-run-4
-slice-aggregate-run-4 c = search needs
+slice-aggregate-run-4 c = sym (length-replicate {A = ℕ} 150000 0)
 
 slice-aggregate-run-5 : tie.Need-slice-aggregate-run-5
-slice-aggregate-run-5 c = search needs
+slice-aggregate-run-5 c = sym (length-replicate {A = ℕ} 150000 0)
 
 slice-aggregate-run-6 : tie.Need-slice-aggregate-run-6
-slice-aggregate-run-6 c = search needs
+slice-aggregate-run-6 c = sym (length-replicate {A = ℕ} 150000 0)
 
 run-requires : tie.Need-run-requires
-run-requires c κs = record { reply = omega arith; items = omega arith; tables = omega arith; new = omega arith }
+run-requires c κs = memory-of 300726 150000 150000 150000 (omega arith) (omega arith) (omega arith) (omega arith)
 
 returns : tie.Need-returns
 returns c = search needs

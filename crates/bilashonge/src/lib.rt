@@ -1,0 +1,281 @@
+// The C interface. include/bilashonge.h is its manual. Each function calls one of the layers below
+// and hands its answer on as the paper's numbers, in a struct that C knows.
+//
+// Nothing is kept. Memory is lent to be read, but for an image that is to be written and the cells of
+// the matrix: what those hold afterwards is stated too, for answers and refusals.
+use meaning::ElementName;
+use meaning::Moment;
+use meaning::Verdict;
+use offsets::TableOffset;
+ghost use mathlib.Core.Path.{_≡_};
+ghost use lib.ListN.{getD};
+ghost use Rattle.meaning.specs.Description.{soundness};
+ghost use Rattle.meaning.specs.Refusals.{verdictValues, placeValues};
+ghost use Rattle.meaning.specs.Calendar.{matrixReply, matrixVerdict};
+ghost use Rattle.meaning.specs.Questions.{numbersTo, imageAfter, layOut, whereTable, whereElement, numberOf, writeRange, writeOctets, writeNumber, tierAt, matrixRefusal};
+ghost use Rattle.replies.specs.Asked.{quantityOf};
+ghost use Rattle.bilashonge.specs.Interface.{inRefusal, inTotal, inPlace, inNumber, inTier, elementNamed, momentOf, cellsAfter};
+
+// Why a question is refused: the paper's number, the item and the octet that it reports, 0 where it
+// reports none. All three are 0 where the question is answered.
+#[repr(C)]
+pub struct Refusal {
+    pub number: u64,
+    pub item: u64,
+    pub octet: u64,
+}
+
+// The total of octets used, 0 on refusal.
+#[repr(C)]
+pub struct Total {
+    pub refusal: Refusal,
+    pub total: u64,
+}
+
+// The first octet in the image, and the length, both 0 on refusal.
+#[repr(C)]
+pub struct Place {
+    pub refusal: Refusal,
+    pub start: u64,
+    pub length: u64,
+}
+
+// An element's number, 0 on refusal.
+#[repr(C)]
+pub struct Number {
+    pub refusal: Refusal,
+    pub number: u64,
+}
+
+// 1 for "none yet today", and the tier, both 0 on refusal.
+#[repr(C)]
+pub struct Tier {
+    pub refusal: Refusal,
+    pub none: u64,
+    pub tier: u64,
+}
+
+// Subscript k of those lent, 0 past the last.
+fn subscript(subscripts: &[usize], k: usize) -> usize
+    ensures { λ r. ⌜ r ≡ getD (now (subscripts .entry)) k 0 ⌝ }
+{
+    if k < subscripts.len() {
+        return subscripts[k];
+    }
+    0
+}
+
+// The element of that item and those subscripts. More than four name none, whichever they are.
+fn element_named(item: usize, subscripts: &[usize]) -> ElementName
+    ensures { λ r. ⌜ r ≡ elementNamed item (now (subscripts .entry)) ⌝ }
+{
+    ElementName {
+        item: item,
+        count: subscripts.len(),
+        subscripts: [
+            subscript(subscripts, 0),
+            subscript(subscripts, 1),
+            subscript(subscripts, 2),
+            subscript(subscripts, 3),
+        ],
+    }
+}
+
+// A refusal by its numbers, in the order in which an answer has them.
+fn told(number: u64, item: u64, octet: u64) -> Refusal
+    ensures { λ r. ⌜ r ≡ record { number = number; item = item; octet = octet } ⌝ }
+{
+    Refusal {
+        number: number,
+        item: item,
+        octet: octet,
+    }
+}
+
+// A verdict, as C has it.
+fn refusal_of(verdict: Verdict) -> Refusal
+    ensures { λ r. ⌜ r ≡ inRefusal (verdictValues verdict) ⌝ }
+{
+    let v = replies::verdict_values(verdict);
+    told(v[0], v[1], v[2])
+}
+
+// A place, as C has it.
+fn place_of(place: meaning::Place) -> Place
+    ensures { λ r. ⌜ r ≡ inPlace (placeValues place) ⌝ }
+{
+    let v = replies::place_values(place);
+    Place {
+        refusal: told(v[0], v[1], v[2]),
+        start: v[3],
+        length: v[4],
+    }
+}
+
+// Is this description sound.
+#[no_mangle]
+pub extern "C" fn bilashonge_check(description: &[u8]) -> Refusal
+    ensures { λ r. ⌜ r ≡ inRefusal (verdictValues (soundness (now (description .entry)))) ⌝ }
+{
+    refusal_of(sound::check(description))
+}
+
+// Lay the image out: the total of octets used.
+#[no_mangle]
+pub extern "C" fn bilashonge_layout(description: &[u8], image: &[u8]) -> Total
+    ensures { λ r. ⌜ r ≡ inTotal (numbersTo layOut (now (description .entry)) (now (image .entry))) ⌝ }
+{
+    let v = replies::total_values(places::total(description, image));
+    Total {
+        refusal: told(v[0], v[1], v[2]),
+        total: v[3],
+    }
+}
+
+// Where a table is, and how long.
+#[no_mangle]
+pub extern "C" fn bilashonge_table_place(
+    description: &[u8],
+    image: &[u8],
+    manufacturer: u32,
+    number: u32,
+) -> Place
+    ensures { λ r. ⌜ r ≡ inPlace (numbersTo (whereTable manufacturer number) (now (description .entry)) (now (image .entry))) ⌝ }
+{
+    place_of(places::table_place(description, image, manufacturer, number))
+}
+
+// Where an element is, and how long.
+#[no_mangle]
+pub extern "C" fn bilashonge_element_place(
+    description: &[u8],
+    image: &[u8],
+    item: usize,
+    subscripts: &[usize],
+) -> Place
+    ensures { λ r. ⌜ r ≡ inPlace (numbersTo (whereElement (elementNamed item (now (subscripts .entry)))) (now (description .entry)) (now (image .entry))) ⌝ }
+{
+    place_of(places::element_place(description, image, element_named(item, subscripts)))
+}
+
+// An element's number.
+#[no_mangle]
+pub extern "C" fn bilashonge_element_number(
+    description: &[u8],
+    image: &[u8],
+    item: usize,
+    subscripts: &[usize],
+) -> Number
+    ensures { λ r. ⌜ r ≡ inNumber (numbersTo (numberOf (elementNamed item (now (subscripts .entry)))) (now (description .entry)) (now (image .entry))) ⌝ }
+{
+    let v = replies::number_values(access::element_number(
+        description,
+        image,
+        element_named(item, subscripts),
+    ));
+    Number {
+        refusal: told(v[0], v[1], v[2]),
+        number: v[3],
+    }
+}
+
+// Writes a range of a table.
+#[no_mangle]
+pub extern "C" fn bilashonge_write_range(
+    description: &[u8],
+    image: &mut [u8],
+    manufacturer: u32,
+    number: u32,
+    offset: usize,
+    new: &[u8],
+) -> Refusal
+    ensures reply { λ r. ⌜ r ≡ inRefusal (numbersTo (writeRange manufacturer number (record { 0 = offset }) (now (new .entry))) (now (description .entry)) (now (image .entry))) ⌝ }
+    ensures image { λ _. ⌜ now (image .exit) ≡ imageAfter (writeRange manufacturer number (record { 0 = offset }) (now (new .entry))) (now (description .entry)) (now (image .entry)) ⌝ }
+{
+    let at = TableOffset::new(offset);
+    refusal_of(access::write_range(description, image, manufacturer, number, at, new))
+}
+
+// Writes an element's octets.
+#[no_mangle]
+pub extern "C" fn bilashonge_write_octets(
+    description: &[u8],
+    image: &mut [u8],
+    item: usize,
+    subscripts: &[usize],
+    new: &[u8],
+) -> Refusal
+    ensures reply { λ r. ⌜ r ≡ inRefusal (numbersTo (writeOctets (elementNamed item (now (subscripts .entry))) (now (new .entry))) (now (description .entry)) (now (image .entry))) ⌝ }
+    ensures image { λ _. ⌜ now (image .exit) ≡ imageAfter (writeOctets (elementNamed item (now (subscripts .entry))) (now (new .entry))) (now (description .entry)) (now (image .entry)) ⌝ }
+{
+    refusal_of(access::write_octets(description, image, element_named(item, subscripts), new))
+}
+
+// Writes an element's number, in the image's DATA_ORDER.
+#[no_mangle]
+pub extern "C" fn bilashonge_write_number(
+    description: &[u8],
+    image: &mut [u8],
+    item: usize,
+    subscripts: &[usize],
+    value: u64,
+) -> Refusal
+    ensures reply { λ r. ⌜ r ≡ inRefusal (numbersTo (writeNumber (elementNamed item (now (subscripts .entry))) value) (now (description .entry)) (now (image .entry))) ⌝ }
+    ensures image { λ _. ⌜ now (image .exit) ≡ imageAfter (writeNumber (elementNamed item (now (subscripts .entry))) value) (now (description .entry)) (now (image .entry)) ⌝ }
+{
+    refusal_of(access::write_number(description, image, element_named(item, subscripts), value))
+}
+
+// The tier at a date and time.
+#[no_mangle]
+pub extern "C" fn bilashonge_tier_at(
+    description: &[u8],
+    image: &[u8],
+    year: u32,
+    month: u32,
+    day: u32,
+    hour: u32,
+    minute: u32,
+    quantity: u32,
+) -> Tier
+    ensures { λ r. ⌜ r ≡ inTier (numbersTo (tierAt (momentOf year month day hour minute) (quantityOf quantity)) (now (description .entry)) (now (image .entry))) ⌝ }
+{
+    let moment = Moment {
+        year: year,
+        month: month,
+        day: day,
+        hour: hour,
+        minute: minute,
+    };
+    let v = replies::tier_values(calendar::tier(
+        description,
+        image,
+        moment,
+        replies::quantity(quantity as u64),
+    ));
+    Tier {
+        refusal: told(v[0], v[1], v[2]),
+        none: v[3],
+        tier: v[4],
+    }
+}
+
+// The schedule matrix, into cells. A refused call leaves cells as they are.
+#[no_mangle]
+pub extern "C" fn bilashonge_matrix(
+    description: &[u8],
+    image: &[u8],
+    cells: &mut [[u8; 22]; 15],
+) -> Refusal
+    ensures reply { λ r. ⌜ r ≡ inRefusal (numbersTo matrixRefusal (now (description .entry)) (now (image .entry))) ⌝ }
+    ensures cells { λ _. ⌜ now (cells .exit) ≡ cellsAfter (matrixVerdict (now (description .entry)) (now (image .entry))) (matrixReply (now (description .entry)) (now (image .entry))) (now (cells .entry)) ⌝ }
+{
+    let verdict = calendar::matrix_verdict(description, image);
+    match verdict {
+        Verdict::Passed => {
+            *cells = calendar::matrix(description, image);
+            refusal_of(Verdict::Passed)
+        }
+        Verdict::Refused(r) => refusal_of(Verdict::Refused(r)),
+    }
+}

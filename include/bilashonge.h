@@ -1,0 +1,221 @@
+/*
+ * Bilashonge: a meter's tables (ANSI C12.19) worked out from the octets lent to each call.
+ *
+ * A DESCRIPTION says how a meter's tables are built: 1 to 512 items of four octets, the first octet
+ * most significant. An IMAGE holds the octets of those tables, joined in the description's order, at
+ * most 65,535 of them. Every function works the layout out anew and keeps nothing: no global, no
+ * allocation, no file; of the C library it calls memcpy and memset alone. Calls may run at the same
+ * time on any threads, as long as nobody writes to memory that another of them is lent.
+ *
+ * EVERY CALL IS ANSWERED OR REFUSED. A reply begins with a struct bilashonge_refusal. Where its
+ * number is 0 the question is answered. Else it is one of enum bilashonge_refusal_number, the reply's
+ * other numbers are 0, and no octet that was lent has changed. Any octets may be lent as description,
+ * image or data: damaged ones are refused, not misread.
+ *
+ * POINTERS. An octet pointer comes with its length right behind it. It may be null where that length
+ * is 0, and must otherwise point to that many octets. A pointer to subscripts comes with their count,
+ * likewise. cells must not be null. Memory that a call may write (image in the three writes, cells in
+ * bilashonge_matrix) must not overlap any other memory lent to that call; memory that is only read
+ * may overlap. What is written: image in place, its length never changes; cells whole. Nothing else.
+ *
+ * ITEMS of a description, by bits 31 to 28, with what stands in the other bits (all else is 0):
+ *   1 TABLE  27 manufacturer's, 26..16 number, 15 writable, 14..0 items in its body
+ *   2 UINT   27..26 octets (0, 1, 2 for 1, 2, 4), 25..20 slot that its number is kept in (0 for none)
+ *   3 BLOCK  27..16 octets
+ *   4 SET    reference; 11 clear: the value is octets, set: flags, eight to an octet
+ *   5 ARRAY  reference (how often), 11..0 items in its body
+ *   6 IF     reference (not 0 is true), 11..6 items if true, 5..0 items if false, which follow those
+ * A reference is 27..22 slot, 21..17 low bit, 16..12 width less 1: so many bits of the slot's number, bit
+ * 0 least significant. Items in a body are counted with all that is nested in them. A UINT that keeps its
+ * number in a slot is a dimension: later items are laid out by it, so no write may touch it.
+ *
+ * NUMBERS. Octets, items, tables' offsets and subscripts count from 0. Structs hold uint64_t alone,
+ * so they have no padding. Structs are returned by value. The library is compiled for x86-64 Linux
+ * (System V calling convention); a call takes less than 20 kB of stack.
+ *
+ * Link with -lbilashonge. C99, C11 and C++ compile this header.
+ */
+#ifndef BILASHONGE_H
+#define BILASHONGE_H
+
+#include <stddef.h>
+#include <stdint.h>
+
+#ifdef __cplusplus
+extern "C" {
+#endif
+
+/*
+ * Why a question is refused. Of all that apply, a question gives the first in this order: 1 to 9,
+ * then 10 to 15; a question about the calendar 1 to 9, 10, 20, 16, 18, 17, 19. 2 to 7 report the
+ * first item that breaks a rule, with the lowest number of those that it breaks.
+ */
+enum bilashonge_refusal_number {
+    BILASHONGE_ANSWERED = 0,             /* not refused */
+    BILASHONGE_DESCRIPTION_LENGTH = 1,   /* description of 0 octets, over 2,048, or not whole items */
+    BILASHONGE_MALFORMED_ITEM = 2,       /* kind unknown, width code 3, spare bit set, count or slot too low */
+    BILASHONGE_MISPLACED_ITEM = 3,       /* item at a level or place it may not have */
+    BILASHONGE_BODY_OVERRUNS = 4,        /* body runs past what encloses it */
+    BILASHONGE_FIFTH_LEVEL = 5,          /* an ARRAY or IF inside four others */
+    BILASHONGE_GIVEN_TWICE = 6,          /* slot or table given twice */
+    BILASHONGE_BAD_REFERENCE = 7,        /* reference to a slot not set earlier, or bits outside it */
+    BILASHONGE_IMAGE_TOO_LONG = 8,       /* image over 65,535 octets */
+    BILASHONGE_IMAGE_SHORT = 9,          /* image ends inside item, which starts at octet */
+    BILASHONGE_NO_TABLE = 10,            /* no such table */
+    BILASHONGE_NO_ELEMENT = 11,          /* no such element, or a number asked of a BLOCK or SET */
+    BILASHONGE_OUTSIDE_TABLE = 12,       /* offset + length over the table's size */
+    BILASHONGE_NOT_WRITABLE = 13,        /* table not marked writable */
+    BILASHONGE_HOLDS_DIMENSION = 14,     /* what would be written holds an octet of a dimension */
+    BILASHONGE_WRONG_SIZE = 15,          /* data of another length than the element, or number too large */
+    BILASHONGE_NOT_A_DATE = 16,          /* no real date of 1990 to 2089, or no time 00:00 to 23:59 */
+    BILASHONGE_NO_SEASON = 17,           /* no season chosen by that date */
+    BILASHONGE_SEASON_CHANGE_ARMED = 18, /* SEASON_CHNG_ARMED_FLAG set */
+    BILASHONGE_NO_ROW_OR_COLUMN = 19,    /* season or special schedule without a row or column */
+    BILASHONGE_NOT_A_CALENDAR = 20       /* Table 51 isn't 9 octets, or Table 54 not of the size it says */
+};
+
+/* number: of enum bilashonge_refusal_number. item: of the description, with 2 to 7 and 9. octet: of
+ * the image, with 9. All that a refusal doesn't report is 0; all three are 0 where it is answered. */
+struct bilashonge_refusal {
+    uint64_t number;
+    uint64_t item;
+    uint64_t octet;
+};
+
+/* total: of octets used, from octet 0 to the end of the last table. */
+struct bilashonge_total {
+    struct bilashonge_refusal refusal;
+    uint64_t total;
+};
+
+/* start: the first octet, counted in the image. length: in octets; it may be 0. */
+struct bilashonge_place {
+    struct bilashonge_refusal refusal;
+    uint64_t start;
+    uint64_t length;
+};
+
+/* number: an element's, at most 4,294,967,295. */
+struct bilashonge_number {
+    struct bilashonge_refusal refusal;
+    uint64_t number;
+};
+
+/* none: 1 where no switch has come yet that day, and then tier is 0; else 0. tier: 0 to 7. */
+struct bilashonge_tier {
+    struct bilashonge_refusal refusal;
+    uint64_t none;
+    uint64_t tier;
+};
+
+/* What a tier is asked for. Any number but 0 is taken for demands. */
+enum bilashonge_quantity {
+    BILASHONGE_SUMMATIONS = 0,
+    BILASHONGE_DEMANDS = 1
+};
+
+/* The matrix: a row a season; columns are days, then special schedules. */
+enum bilashonge_matrix_size {
+    BILASHONGE_MATRIX_ROWS = 15,
+    BILASHONGE_MATRIX_COLUMNS = 22
+};
+
+/*
+ * IS THIS DESCRIPTION SOUND? Answered where it is; else refused by 1 to 7. The other functions give
+ * the same refusals themselves, so nobody has to call this first.
+ */
+struct bilashonge_refusal bilashonge_check(
+    const uint8_t *description, size_t description_length);
+
+/*
+ * LAY THE IMAGE OUT: the total of octets used, or 1 to 9. Octets of the image past the total belong
+ * to no table.
+ */
+struct bilashonge_total bilashonge_layout(
+    const uint8_t *description, size_t description_length,
+    const uint8_t *image, size_t image_length);
+
+/*
+ * WHERE IS THIS TABLE? Its octets are image + start, length of them; or 1 to 10. manufacturer is 0
+ * for a table of the standard, 1 for one of the manufacturer; with any other there is no such table.
+ */
+struct bilashonge_place bilashonge_table_place(
+    const uint8_t *description, size_t description_length,
+    const uint8_t *image, size_t image_length,
+    uint32_t manufacturer, uint32_t number);
+
+/*
+ * WHERE IS THIS ELEMENT? Its octets are image + start, length of them; or 1 to 9 and 11. An element
+ * is a UINT, BLOCK or SET of the description, named by its item and one subscript for each ARRAY
+ * round it, outermost first. More than four subscripts name no element.
+ */
+struct bilashonge_place bilashonge_element_place(
+    const uint8_t *description, size_t description_length,
+    const uint8_t *image, size_t image_length,
+    size_t item, const size_t *subscripts, size_t subscript_count);
+
+/*
+ * THE ELEMENT'S NUMBER, of a UINT, read in the image's DATA_ORDER; or 1 to 9 and 11.
+ */
+struct bilashonge_number bilashonge_element_number(
+    const uint8_t *description, size_t description_length,
+    const uint8_t *image, size_t image_length,
+    size_t item, const size_t *subscripts, size_t subscript_count);
+
+/*
+ * WRITE A RANGE OF A TABLE: data_length octets from offset on, offset counted in the table. Refused
+ * by 1 to 10, 12, 13, 14. Data of no octets, at an offset up to the table's length, change nothing;
+ * they are not refused by 12 or 14, but by 13 where the table isn't marked writable.
+ */
+struct bilashonge_refusal bilashonge_write_range(
+    const uint8_t *description, size_t description_length,
+    uint8_t *image, size_t image_length,
+    uint32_t manufacturer, uint32_t number,
+    size_t offset, const uint8_t *data, size_t data_length);
+
+/*
+ * WRITE AN ELEMENT'S OCTETS, as many as it has. Refused by 1 to 9, 11, 13, 14, 15.
+ */
+struct bilashonge_refusal bilashonge_write_octets(
+    const uint8_t *description, size_t description_length,
+    uint8_t *image, size_t image_length,
+    size_t item, const size_t *subscripts, size_t subscript_count,
+    const uint8_t *data, size_t data_length);
+
+/*
+ * WRITE AN ELEMENT'S NUMBER, of a UINT, in the image's DATA_ORDER. Refused by 1 to 9, 11, 13, 14, 15.
+ */
+struct bilashonge_refusal bilashonge_write_number(
+    const uint8_t *description, size_t description_length,
+    uint8_t *image, size_t image_length,
+    size_t item, const size_t *subscripts, size_t subscript_count,
+    uint64_t value);
+
+/*
+ * THE TIER at a date and time, of tables 51 and 54; or 1 to 10 and 16 to 20. year is written whole
+ * (2024), month and day from 1. quantity is of enum bilashonge_quantity.
+ */
+struct bilashonge_tier bilashonge_tier_at(
+    const uint8_t *description, size_t description_length,
+    const uint8_t *image, size_t image_length,
+    uint32_t year, uint32_t month, uint32_t day, uint32_t hour, uint32_t minute,
+    uint32_t quantity);
+
+/*
+ * THE SCHEDULE MATRIX: into cells, the schedule number of each season (row) and day (column), as they
+ * stand in Table 54's rows: Sunday to Saturday or, where Table 51 says that weekdays share a column,
+ * Saturday, Sunday, weekday; then the special schedules. Unused cells are set to 0. Refused by 1 to 10
+ * and 20, and then cells are left as they are. How many are in use stands in Table 51: octet 2 has the
+ * seasons in bits 0 to 3 and the special schedules in bits 4 to 7; bit 1 of octet 1 is set where each
+ * day of the week has its own column.
+ */
+struct bilashonge_refusal bilashonge_matrix(
+    const uint8_t *description, size_t description_length,
+    const uint8_t *image, size_t image_length,
+    uint8_t cells[BILASHONGE_MATRIX_ROWS][BILASHONGE_MATRIX_COLUMNS]);
+
+#ifdef __cplusplus
+}
+#endif
+
+#endif

@@ -1,0 +1,619 @@
+/*
+ * Calls of the C interface with octets and replies written by hand: what the line language can't ask, and the
+ * scope document's starred examples. Prints how many checks there were; fails where one does.
+ */
+#include "bilashonge.h"
+
+#include <stdbool.h>
+#include <stdio.h>
+#include <string.h>
+
+static unsigned checks, failures;
+
+static void check(bool met, const char *what, int line)
+{
+    checks++;
+    if (!met) {
+        failures++;
+        fprintf(stderr, "calls.c:%d: not so: %s\n", line, what);
+    }
+}
+
+#define CHECK(condition) check((condition), #condition, __LINE__)
+
+/* An array and how many octets or subscripts it has, as the interface takes them. */
+#define OCTETS(array) array, sizeof array
+#define SUBSCRIPTS(array) array, sizeof array / sizeof array[0]
+#define NONE NULL, 0
+
+/* ----------------------------------------------------------------------------------- what is asked about */
+
+/* D of the scope document. Table 0: DATA_ORDER (slot 1) and an octet (slot 2). Table 5, writable: where bit
+ * 7 of slot 2 is set, a BLOCK of 2 octets (item 5); then UINTs of 2 octets (item 7), as many as bits 0..2 of
+ * slot 2 say. */
+static const uint8_t D[] = {
+    0x10, 0x00, 0x00, 0x02, 0x20, 0x10, 0x00, 0x00, 0x20, 0x20, 0x00, 0x00, 0x10, 0x05, 0x80, 0x04,
+    0x60, 0x8e, 0x00, 0x40, 0x30, 0x02, 0x00, 0x00, 0x50, 0x80, 0x20, 0x01, 0x24, 0x00, 0x00, 0x00,
+};
+/* D with table 0 writable */
+static const uint8_t D_writable[] = {
+    0x10, 0x00, 0x80, 0x02, 0x20, 0x10, 0x00, 0x00, 0x20, 0x20, 0x00, 0x00, 0x10, 0x05, 0x80, 0x04,
+    0x60, 0x8e, 0x00, 0x40, 0x30, 0x02, 0x00, 0x00, 0x50, 0x80, 0x20, 0x01, 0x24, 0x00, 0x00, 0x00,
+};
+/* D whose item 4 refers to slot 4, never set */
+static const uint8_t D_unset[] = {
+    0x10, 0x00, 0x00, 0x02, 0x20, 0x10, 0x00, 0x00, 0x20, 0x20, 0x00, 0x00, 0x10, 0x05, 0x80, 0x04,
+    0x61, 0x00, 0x00, 0x40, 0x30, 0x02, 0x00, 0x00, 0x50, 0x80, 0x20, 0x01, 0x24, 0x00, 0x00, 0x00,
+};
+static const uint8_t first_image[] = {0x00, 0x82, 0xaa, 0xbb, 0x34, 0x12, 0x78, 0x56};
+static const uint8_t second_image[] = {0x01, 0x02, 0x34, 0x12, 0x78, 0x56};
+static const uint8_t bare_image[] = {0x00, 0x00};
+
+/* The starred calendar. Table 51 is a BLOCK of 9 octets and Table 54 one of 12. Season 0 begins on 1 January
+ * 2024; each day of it has schedule 1, which switches at 00:00 to tier 0 and at 07:30 to tier 2. */
+static const uint8_t clock_description[] = {
+    0x10, 0x00, 0x00, 0x01, 0x20, 0x10, 0x00, 0x00, 0x10, 0x33, 0x00, 0x01,
+    0x30, 0x09, 0x00, 0x00, 0x10, 0x36, 0x00, 0x01, 0x30, 0x0c, 0x00, 0x00,
+};
+static const uint8_t clock_image[] = {
+    0x00,                                                                   /* Table 00 */
+    0x00, 0x00, 0x01, 0x01, 0x00, 0x02, 0x00, 0x00, 0x00,                   /* Table 51 */
+    0x98, 0x08, 0x03, 0x00, 0x00, 0x01, 0xc2, 0x3b, 0x01, 0x01, 0x01, 0x01, /* Table 54 */
+};
+
+/* Demands apart from summations, and a Table 54 of 18 octets. Season 0 begins on 1 January 2020; schedule 1
+ * switches at 00:00 to tier 1 for both, at 06:00 to tier 2 for summations, at 07:00 to tier 3 for demands,
+ * and at 08:00 to tier 4 for neither. */
+static const uint8_t apart_description[] = {
+    0x10, 0x00, 0x00, 0x01, 0x20, 0x10, 0x00, 0x00, 0x10, 0x33, 0x00, 0x01,
+    0x30, 0x09, 0x00, 0x00, 0x10, 0x36, 0x00, 0x01, 0x30, 0x12, 0x00, 0x00,
+};
+static const uint8_t apart_image[] = {
+    0x00,                                                                   /* Table 00 */
+    0x00, 0x04, 0x01, 0x01, 0x00, 0x04, 0x00, 0x00, 0x00,                   /* Table 51 */
+    0x94, 0x08, 0x03, 0x19, 0x00, 0x01, 0x0a, 0x30, 0x01, 0x13, 0x38, 0x01, /* Table 54 */
+    0x04, 0x40, 0x01, 0x01, 0x01, 0x01,
+};
+
+/* Fifteen seasons and fifteen special schedules, weekdays apart, no dates and no switches: Table 54 is the
+ * matrix alone, 330 octets. The image is made in `full_matrix`. */
+static const uint8_t full_description[] = {
+    0x10, 0x00, 0x00, 0x01, 0x20, 0x10, 0x00, 0x00, 0x10, 0x33, 0x00, 0x01,
+    0x30, 0x09, 0x00, 0x00, 0x10, 0x36, 0x00, 0x01, 0x31, 0x4a, 0x00, 0x00,
+};
+static const uint8_t full_table51[] = {0x00, 0x02, 0xff, 0x00, 0x00, 0x00, 0x00, 0x00, 0x00};
+
+/* Table 0, writable: DATA_ORDER, then a UINT of one octet (item 6) inside four ARRAYs. Each has as many
+ * elements as bit 0 of DATA_ORDER's octet says. */
+static const uint8_t deep_description[] = {
+    0x10, 0x00, 0x80, 0x06, 0x20, 0x10, 0x00, 0x00, 0x50, 0x40, 0x00, 0x04, 0x50, 0x40,
+    0x00, 0x03, 0x50, 0x40, 0x00, 0x02, 0x50, 0x40, 0x00, 0x01, 0x20, 0x00, 0x00, 0x00,
+};
+static const uint8_t deep_image[] = {0x01, 0xaa};
+
+/* Table 5 of the manufacturer, writable, with one UINT of two octets (item 3). */
+static const uint8_t manufacturer_description[] = {
+    0x10, 0x00, 0x00, 0x01, 0x20, 0x10, 0x00, 0x00, 0x18, 0x05, 0x80, 0x01, 0x24, 0x00, 0x00, 0x00,
+};
+static const uint8_t manufacturer_image[] = {0x00, 0x34, 0x12};
+
+/* Table 0, writable: DATA_ORDER, an octet (slot 2), and a SET of as many octets as that says (item 3). */
+static const uint8_t set_description[] = {
+    0x10, 0x00, 0x80, 0x03, 0x20, 0x10, 0x00, 0x00, 0x20, 0x20, 0x00, 0x00, 0x40, 0x80, 0x70, 0x00,
+};
+
+typedef uint8_t cells_of_matrix[BILASHONGE_MATRIX_ROWS][BILASHONGE_MATRIX_COLUMNS];
+
+static const size_t zero[] = {0};
+static const size_t one[] = {1};
+
+/* ------------------------------------------------------------------------------------------- comparisons */
+
+static bool is_refusal(struct bilashonge_refusal refusal, uint64_t number, uint64_t item, uint64_t octet)
+{
+    return refusal.number == number && refusal.item == item && refusal.octet == octet;
+}
+
+/* Refused with nothing but a number. */
+static bool refused(struct bilashonge_refusal refusal, uint64_t number)
+{
+    return is_refusal(refusal, number, 0, 0);
+}
+
+static bool answered(struct bilashonge_refusal refusal)
+{
+    return is_refusal(refusal, 0, 0, 0);
+}
+
+static bool is_total(struct bilashonge_total total, uint64_t value)
+{
+    return answered(total.refusal) && total.total == value;
+}
+
+static bool is_place(struct bilashonge_place place, uint64_t start, uint64_t length)
+{
+    return answered(place.refusal) && place.start == start && place.length == length;
+}
+
+static bool no_place(struct bilashonge_place place, uint64_t number)
+{
+    return refused(place.refusal, number) && place.start == 0 && place.length == 0;
+}
+
+static bool is_number(struct bilashonge_number number, uint64_t value)
+{
+    return answered(number.refusal) && number.number == value;
+}
+
+static bool no_number(struct bilashonge_number number, uint64_t refusal)
+{
+    return refused(number.refusal, refusal) && number.number == 0;
+}
+
+static bool is_tier(struct bilashonge_tier tier, uint64_t value)
+{
+    return answered(tier.refusal) && tier.none == 0 && tier.tier == value;
+}
+
+static bool no_tier(struct bilashonge_tier tier, uint64_t number)
+{
+    return refused(tier.refusal, number) && tier.none == 0 && tier.tier == 0;
+}
+
+#define SAME(array, other) (sizeof array == sizeof other && memcmp(array, other, sizeof array) == 0)
+
+/* -------------------------------------------------------------------------------------------- the header */
+
+static void structs(void)
+{
+    CHECK(sizeof(struct bilashonge_refusal) == 24);
+    CHECK(offsetof(struct bilashonge_refusal, number) == 0);
+    CHECK(offsetof(struct bilashonge_refusal, item) == 8);
+    CHECK(offsetof(struct bilashonge_refusal, octet) == 16);
+    CHECK(sizeof(struct bilashonge_total) == 32);
+    CHECK(offsetof(struct bilashonge_total, refusal) == 0);
+    CHECK(offsetof(struct bilashonge_total, total) == 24);
+    CHECK(sizeof(struct bilashonge_place) == 40);
+    CHECK(offsetof(struct bilashonge_place, refusal) == 0);
+    CHECK(offsetof(struct bilashonge_place, start) == 24);
+    CHECK(offsetof(struct bilashonge_place, length) == 32);
+    CHECK(sizeof(struct bilashonge_number) == 32);
+    CHECK(offsetof(struct bilashonge_number, refusal) == 0);
+    CHECK(offsetof(struct bilashonge_number, number) == 24);
+    CHECK(sizeof(struct bilashonge_tier) == 40);
+    CHECK(offsetof(struct bilashonge_tier, refusal) == 0);
+    CHECK(offsetof(struct bilashonge_tier, none) == 24);
+    CHECK(offsetof(struct bilashonge_tier, tier) == 32);
+}
+
+static void enums(void)
+{
+    CHECK(BILASHONGE_ANSWERED == 0);
+    CHECK(BILASHONGE_DESCRIPTION_LENGTH == 1);
+    CHECK(BILASHONGE_MALFORMED_ITEM == 2);
+    CHECK(BILASHONGE_MISPLACED_ITEM == 3);
+    CHECK(BILASHONGE_BODY_OVERRUNS == 4);
+    CHECK(BILASHONGE_FIFTH_LEVEL == 5);
+    CHECK(BILASHONGE_GIVEN_TWICE == 6);
+    CHECK(BILASHONGE_BAD_REFERENCE == 7);
+    CHECK(BILASHONGE_IMAGE_TOO_LONG == 8);
+    CHECK(BILASHONGE_IMAGE_SHORT == 9);
+    CHECK(BILASHONGE_NO_TABLE == 10);
+    CHECK(BILASHONGE_NO_ELEMENT == 11);
+    CHECK(BILASHONGE_OUTSIDE_TABLE == 12);
+    CHECK(BILASHONGE_NOT_WRITABLE == 13);
+    CHECK(BILASHONGE_HOLDS_DIMENSION == 14);
+    CHECK(BILASHONGE_WRONG_SIZE == 15);
+    CHECK(BILASHONGE_NOT_A_DATE == 16);
+    CHECK(BILASHONGE_NO_SEASON == 17);
+    CHECK(BILASHONGE_SEASON_CHANGE_ARMED == 18);
+    CHECK(BILASHONGE_NO_ROW_OR_COLUMN == 19);
+    CHECK(BILASHONGE_NOT_A_CALENDAR == 20);
+    CHECK(BILASHONGE_SUMMATIONS == 0);
+    CHECK(BILASHONGE_DEMANDS == 1);
+    CHECK(BILASHONGE_MATRIX_ROWS == 15);
+    CHECK(BILASHONGE_MATRIX_COLUMNS == 22);
+}
+
+/* ---------------------------------------------------------------------------------- the starred examples */
+
+static void starred_reads(void)
+{
+    CHECK(answered(bilashonge_check(OCTETS(D))));
+    CHECK(is_refusal(bilashonge_check(OCTETS(D_unset)), 7, 4, 0));
+
+    CHECK(is_total(bilashonge_layout(OCTETS(D), OCTETS(first_image)), 8));
+    CHECK(is_place(bilashonge_table_place(OCTETS(D), OCTETS(first_image), 0, 5), 2, 6));
+    CHECK(is_number(bilashonge_element_number(OCTETS(D), OCTETS(first_image), 7, SUBSCRIPTS(one)), 0x5678));
+
+    CHECK(is_total(bilashonge_layout(OCTETS(D), OCTETS(second_image)), 6));
+    CHECK(is_number(bilashonge_element_number(OCTETS(D), OCTETS(second_image), 7, SUBSCRIPTS(zero)),
+                    0x3412));
+    CHECK(no_place(bilashonge_element_place(OCTETS(D), OCTETS(second_image), 5, NONE), 11));
+
+    struct bilashonge_total cut = bilashonge_layout(OCTETS(D), first_image, 7);
+    CHECK(is_refusal(cut.refusal, 9, 6, 4) && cut.total == 0);
+    struct bilashonge_total empty = bilashonge_layout(OCTETS(D), first_image, 0);
+    CHECK(is_refusal(empty.refusal, 9, 1, 0) && empty.total == 0);
+
+    CHECK(is_total(bilashonge_layout(OCTETS(D), OCTETS(bare_image)), 2));
+    CHECK(is_place(bilashonge_table_place(OCTETS(D), OCTETS(bare_image), 0, 5), 2, 0));
+    static const size_t some[] = {0, 1, 2, 255, 65535, 4294967296, SIZE_MAX};
+    for (size_t k = 0; k < sizeof some / sizeof some[0]; k++)
+        CHECK(no_place(bilashonge_element_place(OCTETS(D), OCTETS(bare_image), 7, &some[k], 1), 11));
+}
+
+static void starred_writes(void)
+{
+    uint8_t image[sizeof first_image];
+    memcpy(image, first_image, sizeof image);
+    for (unsigned x = 0; x < 256; x++) {
+        const uint8_t data[] = {(uint8_t)x};
+        CHECK(refused(bilashonge_write_range(OCTETS(D), OCTETS(image), 0, 0, 1, OCTETS(data)), 13));
+        CHECK(refused(bilashonge_write_range(OCTETS(D_writable), OCTETS(image), 0, 0, 1, OCTETS(data)),
+                      14));
+        CHECK(refused(bilashonge_write_range(OCTETS(D), OCTETS(image), 0, 5, 6, OCTETS(data)), 12));
+        CHECK(answered(bilashonge_write_range(OCTETS(D), OCTETS(image), 0, 5, 6, data, 0)));
+        CHECK(SAME(image, first_image));
+    }
+}
+
+static void starred_tiers(void)
+{
+    for (uint32_t quantity = 0; quantity < 2; quantity++) {
+        CHECK(is_tier(bilashonge_tier_at(OCTETS(clock_description), OCTETS(clock_image), 2024, 3, 5, 7, 30,
+                                         quantity), 2));
+        CHECK(is_tier(bilashonge_tier_at(OCTETS(clock_description), OCTETS(clock_image), 2024, 3, 5, 7, 29,
+                                         quantity), 0));
+        CHECK(no_tier(bilashonge_tier_at(OCTETS(clock_description), OCTETS(clock_image), 2023, 12, 31, 7,
+                                         30, quantity), 17));
+    }
+}
+
+/* ------------------------------------------------------------------ what the line language can't ask for */
+
+/* Four zeros name the element inside four ARRAYs. A fifth names none, nor do more. */
+static void many_subscripts(void)
+{
+    static const size_t zeros[100] = {0};
+    static const uint8_t data[] = {0xbb}, after[] = {0x01, 0xbb};
+    uint8_t image[sizeof deep_image];
+    memcpy(image, deep_image, sizeof image);
+    for (size_t count = 0; count <= 100; count++) {
+        if (count == 4)
+            continue;
+        CHECK(no_place(bilashonge_element_place(OCTETS(deep_description), OCTETS(image), 6, zeros, count),
+                       11));
+        CHECK(no_number(bilashonge_element_number(OCTETS(deep_description), OCTETS(image), 6, zeros,
+                                                  count), 11));
+        CHECK(refused(bilashonge_write_octets(OCTETS(deep_description), OCTETS(image), 6, zeros, count,
+                                              OCTETS(data)), 11));
+        CHECK(refused(bilashonge_write_number(OCTETS(deep_description), OCTETS(image), 6, zeros, count,
+                                              0xbb), 11));
+        CHECK(SAME(image, deep_image));
+    }
+    CHECK(is_place(bilashonge_element_place(OCTETS(deep_description), OCTETS(image), 6, zeros, 4), 1, 1));
+    CHECK(is_number(bilashonge_element_number(OCTETS(deep_description), OCTETS(image), 6, zeros, 4), 0xaa));
+    CHECK(answered(bilashonge_write_number(OCTETS(deep_description), OCTETS(image), 6, zeros, 4, 0xbb)));
+    CHECK(SAME(image, after));
+    static const size_t one_and_zeros[] = {1, 0, 0, 0, 0};
+    CHECK(no_place(bilashonge_element_place(OCTETS(D), OCTETS(first_image), 7, SUBSCRIPTS(one_and_zeros)),
+                   11));
+}
+
+/* 0 is a table of the standard, 1 one of the manufacturer; a number past 2^11 or 2^16 is no other table. */
+static void table_names(void)
+{
+    static const uint32_t others[] = {2, 3, 7, 256, 257, 65537, 0x80000001, UINT32_MAX};
+    static const uint32_t numbers[] = {4, 6, 5 + 256, 5 + 2048, 5 + 65536, 0x80000005, UINT32_MAX};
+    static const uint8_t data[] = {0xcc}, after[] = {0x00, 0xcc, 0x12};
+    uint8_t image[sizeof manufacturer_image];
+    memcpy(image, manufacturer_image, sizeof image);
+#define THAT_METER OCTETS(manufacturer_description), OCTETS(image)
+    CHECK(is_place(bilashonge_table_place(THAT_METER, 1, 5), 1, 2));
+    CHECK(no_place(bilashonge_table_place(THAT_METER, 0, 5), 10));
+    CHECK(refused(bilashonge_write_range(THAT_METER, 0, 5, 0, OCTETS(data)), 10));
+    for (size_t k = 0; k < sizeof others / sizeof others[0]; k++) {
+        CHECK(no_place(bilashonge_table_place(THAT_METER, others[k], 5), 10));
+        CHECK(no_place(bilashonge_table_place(THAT_METER, others[k], 0), 10));
+        CHECK(refused(bilashonge_write_range(THAT_METER, others[k], 5, 0, OCTETS(data)), 10));
+    }
+    for (size_t k = 0; k < sizeof numbers / sizeof numbers[0]; k++) {
+        CHECK(no_place(bilashonge_table_place(THAT_METER, 1, numbers[k]), 10));
+        CHECK(refused(bilashonge_write_range(THAT_METER, 1, numbers[k], 0, OCTETS(data)), 10));
+    }
+    CHECK(SAME(image, manufacturer_image));
+    CHECK(answered(bilashonge_write_range(THAT_METER, 1, 5, 0, OCTETS(data))));
+    CHECK(SAME(image, after));
+    CHECK(no_place(bilashonge_table_place(OCTETS(D), OCTETS(first_image), 2, 5), 10));
+}
+
+static void quantities(void)
+{
+    static const uint32_t demands[] = {1, 2, 7, 256, 65536, 0x80000000, UINT32_MAX};
+    CHECK(is_tier(bilashonge_tier_at(OCTETS(apart_description), OCTETS(apart_image), 2024, 3, 5, 8, 0, 0),
+                  2));
+    for (size_t k = 0; k < sizeof demands / sizeof demands[0]; k++)
+        CHECK(is_tier(bilashonge_tier_at(OCTETS(apart_description), OCTETS(apart_image), 2024, 3, 5, 8, 0,
+                                         demands[k]), 3));
+}
+
+/* A description of no octets, and a null pointer to it: 1 of every function. */
+static void null_description(void)
+{
+    uint8_t image[sizeof first_image];
+    cells_of_matrix cells = {{0}};
+    static const uint8_t data[] = {0xcc, 0xdd};
+    memcpy(image, first_image, sizeof image);
+    CHECK(refused(bilashonge_check(NONE), 1));
+    struct bilashonge_total total = bilashonge_layout(NONE, OCTETS(image));
+    CHECK(refused(total.refusal, 1) && total.total == 0);
+    CHECK(no_place(bilashonge_table_place(NONE, OCTETS(image), 0, 5), 1));
+    CHECK(no_place(bilashonge_element_place(NONE, OCTETS(image), 7, SUBSCRIPTS(one)), 1));
+    CHECK(no_number(bilashonge_element_number(NONE, OCTETS(image), 7, SUBSCRIPTS(one)), 1));
+    CHECK(refused(bilashonge_write_range(NONE, OCTETS(image), 0, 5, 0, OCTETS(data)), 1));
+    CHECK(refused(bilashonge_write_octets(NONE, OCTETS(image), 7, SUBSCRIPTS(one), OCTETS(data)), 1));
+    CHECK(refused(bilashonge_write_number(NONE, OCTETS(image), 7, SUBSCRIPTS(one), 1), 1));
+    CHECK(no_tier(bilashonge_tier_at(NONE, OCTETS(image), 2024, 3, 5, 7, 30, 0), 1));
+    CHECK(refused(bilashonge_matrix(NONE, OCTETS(image), cells), 1));
+    CHECK(SAME(image, first_image));
+    total = bilashonge_layout(NONE, NONE);
+    CHECK(refused(total.refusal, 1) && total.total == 0);
+}
+
+/* An image of no octets, and a null pointer to it: it ends inside item 1, at octet 0. */
+static void null_image(void)
+{
+    cells_of_matrix cells = {{0}};
+    static const uint8_t data[] = {0xcc, 0xdd};
+    struct bilashonge_total total = bilashonge_layout(OCTETS(D), NONE);
+    CHECK(is_refusal(total.refusal, 9, 1, 0) && total.total == 0);
+    struct bilashonge_place place = bilashonge_table_place(OCTETS(D), NONE, 0, 5);
+    CHECK(is_refusal(place.refusal, 9, 1, 0) && place.start == 0 && place.length == 0);
+    place = bilashonge_element_place(OCTETS(D), NONE, 7, SUBSCRIPTS(one));
+    CHECK(is_refusal(place.refusal, 9, 1, 0) && place.start == 0 && place.length == 0);
+    struct bilashonge_number number = bilashonge_element_number(OCTETS(D), NONE, 7, SUBSCRIPTS(one));
+    CHECK(is_refusal(number.refusal, 9, 1, 0) && number.number == 0);
+    CHECK(is_refusal(bilashonge_write_range(OCTETS(D), NONE, 0, 5, 0, OCTETS(data)), 9, 1, 0));
+    CHECK(is_refusal(bilashonge_write_octets(OCTETS(D), NONE, 7, SUBSCRIPTS(one), OCTETS(data)), 9, 1, 0));
+    CHECK(is_refusal(bilashonge_write_number(OCTETS(D), NONE, 7, SUBSCRIPTS(one), 1), 9, 1, 0));
+    struct bilashonge_tier tier = bilashonge_tier_at(OCTETS(clock_description), NONE, 2024, 3, 5, 7, 30, 0);
+    CHECK(is_refusal(tier.refusal, 9, 1, 0) && tier.none == 0 && tier.tier == 0);
+    CHECK(is_refusal(bilashonge_matrix(OCTETS(clock_description), NONE, cells), 9, 1, 0));
+}
+
+/* Data of no octets: accepted up to a table's end, too short for a BLOCK, and all that a SET of none has. */
+static void null_data(void)
+{
+    uint8_t image[sizeof first_image], bare[sizeof bare_image];
+    memcpy(image, first_image, sizeof image);
+    memcpy(bare, bare_image, sizeof bare);
+    CHECK(answered(bilashonge_write_range(OCTETS(D), OCTETS(image), 0, 5, 0, NONE)));
+    CHECK(answered(bilashonge_write_range(OCTETS(D), OCTETS(image), 0, 5, 6, NONE)));
+    CHECK(refused(bilashonge_write_range(OCTETS(D), OCTETS(image), 0, 5, 7, NONE), 12));
+    CHECK(refused(bilashonge_write_range(OCTETS(D), OCTETS(image), 0, 5, SIZE_MAX, NONE), 12));
+    CHECK(refused(bilashonge_write_range(OCTETS(D), OCTETS(image), 0, 0, 0, NONE), 13));
+    CHECK(refused(bilashonge_write_octets(OCTETS(D), OCTETS(image), 5, NONE, NONE), 15));
+    CHECK(SAME(image, first_image));
+    CHECK(is_place(bilashonge_element_place(OCTETS(set_description), OCTETS(bare), 3, NONE), 2, 0));
+    CHECK(answered(bilashonge_write_octets(OCTETS(set_description), OCTETS(bare), 3, NONE, NONE)));
+    CHECK(SAME(bare, bare_image));
+}
+
+/* No subscripts: an element inside no ARRAY. */
+static void null_subscripts(void)
+{
+    static const uint8_t data[] = {0xcc, 0xdd};
+    static const uint8_t block_after[] = {0x00, 0x82, 0xcc, 0xdd, 0x34, 0x12, 0x78, 0x56};
+    static const uint8_t number_after[] = {0x00, 0x02, 0x01};
+    uint8_t image[sizeof first_image], small[sizeof manufacturer_image];
+    memcpy(image, first_image, sizeof image);
+    memcpy(small, manufacturer_image, sizeof small);
+    CHECK(is_place(bilashonge_element_place(OCTETS(D), OCTETS(image), 5, NONE), 2, 2));
+    CHECK(no_place(bilashonge_element_place(OCTETS(D), OCTETS(image), 7, NONE), 11));
+    CHECK(is_number(bilashonge_element_number(OCTETS(D), OCTETS(image), 2, NONE), 0x82));
+    CHECK(no_number(bilashonge_element_number(OCTETS(D), OCTETS(image), 5, NONE), 11));
+    CHECK(answered(bilashonge_write_octets(OCTETS(D), OCTETS(image), 5, NONE, OCTETS(data))));
+    CHECK(SAME(image, block_after));
+    CHECK(answered(bilashonge_write_number(OCTETS(manufacturer_description), OCTETS(small), 3, NONE,
+                                           0x0102)));
+    CHECK(SAME(small, number_after));
+}
+
+/* ------------------------------------------------------------------------------------------------- cells */
+
+/* Each refusal that a matrix can have of its own: no Table 51; a Table 54 one octet too long. */
+static void cells_untouched(void)
+{
+    cells_of_matrix cells, before;
+    uint8_t longer_description[sizeof clock_description];
+    uint8_t longer_image[sizeof clock_image + 1] = {0};
+    memcpy(longer_description, clock_description, sizeof clock_description);
+    longer_description[21] = 0x0d; /* item 5, the BLOCK of Table 54: 13 octets for 12 */
+    memcpy(longer_image, clock_image, sizeof clock_image);
+    for (int fill = 0; fill < 256; fill++) {
+        memset(cells, fill, sizeof cells);
+        memset(before, fill, sizeof before);
+        CHECK(refused(bilashonge_matrix(OCTETS(D), OCTETS(first_image), cells), 10));
+        CHECK(SAME(cells, before));
+        CHECK(refused(bilashonge_matrix(OCTETS(longer_description), OCTETS(longer_image), cells), 20));
+        CHECK(SAME(cells, before));
+        CHECK(is_refusal(bilashonge_matrix(OCTETS(D_unset), OCTETS(first_image), cells), 7, 4, 0));
+        CHECK(SAME(cells, before));
+    }
+}
+
+/* One row of three columns is used. All others are set to 0, whatever they held. */
+static void cells_overwritten(void)
+{
+    static const cells_of_matrix expected = {{0x01, 0x01, 0x01}};
+    cells_of_matrix cells;
+    for (int fill = 0; fill < 256; fill++) {
+        memset(cells, fill, sizeof cells);
+        CHECK(answered(bilashonge_matrix(OCTETS(clock_description), OCTETS(clock_image), cells)));
+        CHECK(SAME(cells, expected));
+    }
+}
+
+/* Every cell is used: cell k of the matrix, row by row, is Table 54's octet k. */
+static void full_matrix(void)
+{
+    uint8_t image[1 + sizeof full_table51 + sizeof(cells_of_matrix)] = {0};
+    cells_of_matrix cells = {{0}};
+    unsigned wrong = 0;
+    memcpy(image + 1, full_table51, sizeof full_table51);
+    for (unsigned k = 0; k < sizeof cells; k++)
+        image[1 + sizeof full_table51 + k] = (uint8_t)(7 * k + 1);
+    CHECK(answered(bilashonge_matrix(OCTETS(full_description), OCTETS(image), cells)));
+    for (unsigned row = 0; row < 15; row++)
+        for (unsigned column = 0; column < 22; column++)
+            wrong += cells[row][column] != (uint8_t)(7 * (22 * row + column) + 1);
+    CHECK(wrong == 0);
+}
+
+/* ---------------------------------------------------------------------------------------------- overlaps */
+
+/* The description stands inside the image, past its tables: each reply is as of copies. */
+static void description_in_image(void)
+{
+    uint8_t image[sizeof first_image + sizeof D];
+    uint8_t calendar[sizeof clock_image + sizeof clock_description];
+    const uint8_t *within = image + sizeof first_image;
+    const uint8_t *within_calendar = calendar + sizeof clock_image;
+    static const cells_of_matrix expected = {{0x01, 0x01, 0x01}};
+    cells_of_matrix cells = {{0}};
+    memcpy(image, first_image, sizeof first_image);
+    memcpy(image + sizeof first_image, D, sizeof D);
+    memcpy(calendar, clock_image, sizeof clock_image);
+    memcpy(calendar + sizeof clock_image, clock_description, sizeof clock_description);
+    CHECK(is_total(bilashonge_layout(within, sizeof D, OCTETS(image)), 8));
+    CHECK(is_place(bilashonge_table_place(within, sizeof D, OCTETS(image), 0, 5), 2, 6));
+    CHECK(is_place(bilashonge_element_place(within, sizeof D, OCTETS(image), 7, SUBSCRIPTS(one)), 6, 2));
+    CHECK(is_number(bilashonge_element_number(within, sizeof D, OCTETS(image), 7, SUBSCRIPTS(one)),
+                    0x5678));
+    CHECK(is_tier(bilashonge_tier_at(within_calendar, sizeof clock_description, OCTETS(calendar), 2024, 3,
+                                     5, 7, 30, 0), 2));
+    CHECK(answered(bilashonge_matrix(within_calendar, sizeof clock_description, OCTETS(calendar), cells)));
+    CHECK(SAME(cells, expected));
+}
+
+/* D is its own image: slot 2 is its second octet, 0, so table 5 has no octets. */
+static void description_as_image(void)
+{
+    CHECK(is_total(bilashonge_layout(OCTETS(D), OCTETS(D)), 2));
+    CHECK(is_place(bilashonge_table_place(OCTETS(D), OCTETS(D), 0, 5), 2, 0));
+}
+
+/* Data inside the description (its octets 8 and 9 are 20 20), and subscripts inside the image. */
+static void other_overlaps(void)
+{
+    static const uint8_t after[] = {0x00, 0x82, 0x20, 0x20, 0x34, 0x12, 0x78, 0x56};
+    uint8_t image[sizeof first_image];
+    size_t words[2] = {0, 1};
+    memcpy(image, first_image, sizeof image);
+    CHECK(answered(bilashonge_write_range(OCTETS(D), OCTETS(image), 0, 5, 0, D + 8, 2)));
+    CHECK(SAME(image, after));
+    memcpy(image, first_image, sizeof image);
+    CHECK(answered(bilashonge_write_octets(OCTETS(D), OCTETS(image), 5, NONE, D + 8, 2)));
+    CHECK(SAME(image, after));
+    memcpy(&words[0], first_image, sizeof first_image);
+    CHECK(is_number(bilashonge_element_number(OCTETS(D), (const uint8_t *)words, sizeof words, 7,
+                                              &words[1], 1), 0x5678));
+}
+
+/* --------------------------------------------------------------------------------------- nothing is kept */
+
+static void two_images_in_turn(void)
+{
+    for (int turn = 0; turn < 3; turn++) {
+        CHECK(is_total(bilashonge_layout(OCTETS(D), OCTETS(first_image)), 8));
+        CHECK(is_total(bilashonge_layout(OCTETS(D), OCTETS(second_image)), 6));
+        CHECK(is_place(bilashonge_table_place(OCTETS(D), OCTETS(first_image), 0, 5), 2, 6));
+        CHECK(is_place(bilashonge_table_place(OCTETS(D), OCTETS(second_image), 0, 5), 2, 4));
+        CHECK(is_number(bilashonge_element_number(OCTETS(D), OCTETS(first_image), 7, SUBSCRIPTS(zero)),
+                        0x1234));
+        CHECK(is_number(bilashonge_element_number(OCTETS(D), OCTETS(second_image), 7, SUBSCRIPTS(zero)),
+                        0x3412));
+    }
+}
+
+static void two_descriptions_in_turn(void)
+{
+    for (int turn = 0; turn < 3; turn++) {
+        CHECK(answered(bilashonge_check(OCTETS(D))));
+        CHECK(is_refusal(bilashonge_check(OCTETS(D_unset)), 7, 4, 0));
+        CHECK(is_tier(bilashonge_tier_at(OCTETS(clock_description), OCTETS(clock_image), 2024, 3, 5, 8, 0,
+                                         1), 2));
+        CHECK(is_tier(bilashonge_tier_at(OCTETS(apart_description), OCTETS(apart_image), 2024, 3, 5, 8, 0,
+                                         1), 3));
+    }
+}
+
+/* The caller changes the image where it stands: the next call sees it. Without bit 7 of slot 2 the BLOCK is
+ * gone, and what was its octets are item 7's. */
+static void image_changed_in_place(void)
+{
+    uint8_t image[sizeof first_image];
+    memcpy(image, first_image, sizeof image);
+    for (int turn = 0; turn < 2; turn++) {
+        image[1] = 0x82;
+        CHECK(is_total(bilashonge_layout(OCTETS(D), OCTETS(image)), 8));
+        CHECK(is_number(bilashonge_element_number(OCTETS(D), OCTETS(image), 7, SUBSCRIPTS(zero)), 0x1234));
+        image[1] = 0x02;
+        CHECK(is_total(bilashonge_layout(OCTETS(D), OCTETS(image)), 6));
+        CHECK(is_number(bilashonge_element_number(OCTETS(D), OCTETS(image), 7, SUBSCRIPTS(zero)), 0xbbaa));
+    }
+}
+
+/* A write, what is read then, and the write back. Both images: least significant octet first, and last. */
+static void written_and_read(void)
+{
+    static const uint8_t first_after[] = {0x00, 0x82, 0xaa, 0xbb, 0x34, 0x12, 0x02, 0x01};
+    static const uint8_t second_after[] = {0x01, 0x02, 0x34, 0x12, 0x01, 0x02};
+    uint8_t image[sizeof first_image], other[sizeof second_image];
+    memcpy(image, first_image, sizeof image);
+    memcpy(other, second_image, sizeof other);
+    for (int turn = 0; turn < 2; turn++) {
+        CHECK(answered(bilashonge_write_number(OCTETS(D), OCTETS(image), 7, SUBSCRIPTS(one), 0x0102)));
+        CHECK(SAME(image, first_after));
+        CHECK(is_number(bilashonge_element_number(OCTETS(D), OCTETS(image), 7, SUBSCRIPTS(one)), 0x0102));
+        CHECK(answered(bilashonge_write_number(OCTETS(D), OCTETS(other), 7, SUBSCRIPTS(one), 0x0102)));
+        CHECK(SAME(other, second_after));
+        CHECK(refused(bilashonge_write_number(OCTETS(D), OCTETS(image), 7, SUBSCRIPTS(one), 65536), 15));
+        CHECK(refused(bilashonge_write_number(OCTETS(D), OCTETS(image), 7, SUBSCRIPTS(one), UINT64_MAX),
+                      15));
+        CHECK(SAME(image, first_after));
+        CHECK(answered(bilashonge_write_number(OCTETS(D), OCTETS(image), 7, SUBSCRIPTS(one), 0x5678)));
+        CHECK(SAME(image, first_image));
+        CHECK(answered(bilashonge_write_number(OCTETS(D), OCTETS(other), 7, SUBSCRIPTS(one), 0x7856)));
+        CHECK(SAME(other, second_image));
+    }
+}
+
+int main(void)
+{
+    structs();
+    enums();
+    starred_reads();
+    starred_writes();
+    starred_tiers();
+    many_subscripts();
+    table_names();
+    quantities();
+    null_description();
+    null_image();
+    null_data();
+    null_subscripts();
+    cells_untouched();
+    cells_overwritten();
+    full_matrix();
+    description_in_image();
+    description_as_image();
+    other_overlaps();
+    two_images_in_turn();
+    two_descriptions_in_turn();
+    image_changed_in_place();
+    written_and_read();
+    printf("%u checks, %u failed\n", checks, failures);
+    return failures == 0 ? 0 : 1;
+}
