@@ -49,6 +49,34 @@ fn counts_far(description: &str) -> bool {
     })
 }
 
+// A request's question, as the definitions have it, and what its reply tells: how many numbers, whether octets, whether the image afterwards.
+fn question(words: &[&str]) -> Option<(String, usize, bool, bool)> {
+    let table = || format!("{} {}", words[3], words[4]);
+    let element = || name(&words[3..]);
+    Some(match words[0] {
+        "check" => ("check".to_string(), 3, false, false),
+        "layout" => ("layout".to_string(), 4, false, false),
+        "table" => (format!("tablePlace {}", table()), 5, false, false),
+        "tablepart" => (format!("tablePart {}", table()), 0, true, false),
+        "where" => (format!("elementPlace {}", element()), 5, false, false),
+        "octets" => (format!("elementPart {}", element()), 0, true, false),
+        "number" => (format!("elementNumber {}", element()), 4, false, false),
+        "writerange" => (format!("writeRange {} (record {{ 0 = {} }}) {}", table(), words[5], hex_list(words[6])), 3, false, true),
+        "writeoctets" => (format!("writeOctets {} {}", element(), hex_list(words[9])), 3, false, true),
+        "writenumber" => (format!("writeNumber {} {}", element(), words[9]), 3, false, true),
+        "tier" => {
+            let moment = format!(
+                "(record {{ year = {}; month = {}; day = {}; hour = {}; minute = {} }})",
+                words[3], words[4], words[5], words[6], words[7]
+            );
+            let asked = if words[8] == "0" { "Quantity.Summations" } else { "Quantity.Demands" };
+            (format!("tier {} {}", moment, asked), 5, false, false)
+        }
+        "matrix" => ("matrix".to_string(), 3, true, false),
+        _ => return None,
+    })
+}
+
 // What the definitions say of a request, and what the reply says it is.
 fn equations(request: &str, reply: &str) -> Vec<String> {
     let words: Vec<&str> = request.split(' ').collect();
@@ -56,46 +84,19 @@ fn equations(request: &str, reply: &str) -> Vec<String> {
     if reply == "?" || request.len() > LONGEST || counts_far(words[1]) {
         return Vec::new();
     }
-    let d = hex_list(words[1]);
-    let on = |image: &str| format!("{} {}", d, hex_list(image));
-    let numbers = |call: String| vec![format!("{} ≡ {}", call, word_list(&values))];
-    let part = |call: String| vec![format!("{} ≡ {}", call, hex_list(reply))];
-    let written = |call: &str, arguments: String| {
-        vec![
-            format!("verdictValues ({}Reply {}) ≡ {}", call, arguments, word_list(&values[..3])),
-            format!("{}Image {} ≡ {}", call, arguments, hex_list(values[3])),
-        ]
+    let (question, count, octets, after) = match question(&words) {
+        Some(found) => found,
+        None => return Vec::new(),
     };
-    match words[0] {
-        "check" => numbers(format!("verdictValues (soundness {})", d)),
-        "layout" => numbers(format!("totalValues (totalReply {})", on(words[2]))),
-        "table" => numbers(format!("placeValues (tableReply {} {} {})", on(words[2]), words[3], words[4])),
-        "tablepart" => part(format!("tableOctets {} {} {}", on(words[2]), words[3], words[4])),
-        "where" => numbers(format!("placeValues (whereReply {} {})", on(words[2]), name(&words[3..]))),
-        "octets" => part(format!("elementOctets {} {}", on(words[2]), name(&words[3..]))),
-        "number" => numbers(format!("numberValues (numberReply {} {})", on(words[2]), name(&words[3..]))),
-        "writerange" => {
-            written("writeRange", format!("{} {} {} (record {{ 0 = {} }}) {}", on(words[2]), words[3], words[4], words[5], hex_list(words[6])))
-        }
-        "writeoctets" => written("writeOctets", format!("{} {} {}", on(words[2]), name(&words[3..]), hex_list(words[9]))),
-        "writenumber" => written("writeNumber", format!("{} {} {}", on(words[2]), name(&words[3..]), words[9])),
-        "tier" => {
-            let moment = format!(
-                "(record {{ year = {}; month = {}; day = {}; hour = {}; minute = {} }})",
-                words[3], words[4], words[5], words[6], words[7]
-            );
-            let asked = if words[8] == "0" { "Quantity.Summations" } else { "Quantity.Demands" };
-            numbers(format!("tierValues (tierReply {} {} {})", on(words[2]), moment, asked))
-        }
-        "matrix" => {
-            let rows: Vec<String> = octets(values[3]).chunks_exact(22).map(octet_list).collect();
-            vec![
-                format!("verdictValues (matrixVerdict {}) ≡ {}", on(words[2]), word_list(&values[..3])),
-                format!("matrixReply {} ≡ {}", on(words[2]), list(&rows)),
-            ]
-        }
-        _ => Vec::new(),
+    let on = format!("({}) {} {}", question, hex_list(words[1]), if words[0] == "check" { "[]".to_string() } else { hex_list(words[2]) });
+    let mut found = vec![format!("numbersOf {} (replyTo {}) ≡ {}", count, on, word_list(&values[..count]))];
+    if octets {
+        found.push(format!("octetsTo {} ≡ {}", on, hex_list(values[count])));
     }
+    if after {
+        found.push(format!("imageAfter {} ≡ {}", on, hex_list(values[count])));
+    }
+    found
 }
 
 const HEAD: &str = "use mathlib.Core.Path.{_≡_, refl}
@@ -103,9 +104,8 @@ use mathlib.Core.List.{List, [], _∷_}
 use Prim.Native.Nat.{ℕ}
 use Rattle.meaning.proofs.Computing.{computing}
 use Rattle.meaning.specs.declared.Quantity.{Quantity}
-use Rattle.meaning.specs.Description.{soundness}
-use Rattle.meaning.specs.Refusals.{verdictValues, totalValues, placeValues, numberValues, tierValues, totalReply, tableReply, whereReply, tableOctets, elementOctets, numberReply, writeRangeReply, writeRangeImage, writeOctetsReply, writeOctetsImage, writeNumberReply, writeNumberImage}
-use Rattle.meaning.specs.Calendar.{tierReply, matrixReply, matrixVerdict}
+use Rattle.meaning.specs.Refusals.{numbersOf}
+use Rattle.meaning.specs.Questions.{check, layout, tablePlace, tablePart, elementPlace, elementPart, elementNumber, writeRange, writeOctets, writeNumber, tier, matrix, replyTo, octetsTo, imageAfter}
 ";
 
 fn main() -> io::Result<()> {

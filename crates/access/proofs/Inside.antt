@@ -15,8 +15,9 @@ use Rattle.meaning.specs.declared.Refusal.{Refusal}
 use Rattle.meaning.specs.declared.Place.{Place}
 use Rattle.meaning.specs.Description.{fieldsAt, isUint}
 use Rattle.meaning.specs.Layout.{Placed, Seat, tableNamed, numberAt}
-use Rattle.meaning.specs.Refusals.{opened, openImage, seatPlace, whereReply, integerPlace, writable, holdsDimension, tableAround, allowed, allowedAt, fitting, rangeOf, rangeIn, rangePlace, octetsPlaceIn, numberPlaceIn}
+use Rattle.meaning.specs.Refusals.{opened, openImage, seatPlace, elementPlaceReply, integerPlace, writable, anyDimension, tableAround, allowed, allowedAt, fitting, rangeOf, rangeIn, rangePlace, octetsPlaceIn, numberPlaceIn}
 use Rattle.meaning.proofs.Ranges.{fields-range}
+use Rattle.meaning.specs.Numbers.{noTable, noElement, outsideTable, notWritable, holdsDimension, wrongSize}
 use Rattle.laying.proofs.Cover.{total-inside}
 use Rattle.laying.proofs.Found.{whole-items, element-own, element-ends, table-ends}
 use Rattle.laying.proofs.Opened.{Came, opens, refuses, came, opened-image, table-laid, where-opens, table-opens}
@@ -35,7 +36,7 @@ pub record Stands (d img : List ℕ) (q : ElementName) (p n : ℕ) : Type 0 wher
   pub whole : Whole d
   pub few : isUint (fieldsAt d (q .item)) ≡ true → n ≤ 4
 
-pub stands : (d img : List ℕ) (q : ElementName) (p n : ℕ) → whereReply d img q ≡ Place.At (record { 0 = p }) n → Stands d img q p n
+pub stands : (d img : List ℕ) (q : ElementName) (p n : ℕ) → elementPlaceReply d img q ≡ Place.At (record { 0 = p }) n → Stands d img q p n
 stands d img q p n e =
     let a = where-opens d img q p n e in
     record {
@@ -45,7 +46,7 @@ stands d img q p n e =
     }
 
 -- of an image that is opened, a place tells that the description has whole items
-pub whole-at : (d img : List ℕ) (q : ElementName) (v : Place) → v ≡ whereReply d img q → WholeAt d v
+pub whole-at : (d img : List ℕ) (q : ElementName) (v : Place) → v ≡ elementPlaceReply d img q → WholeAt d v
 whole-at d img q (Place.At p n) e = stands d img q (p .0) n (sym e) .whole
 whole-at d img q (Place.Refused r) e = tt
 
@@ -55,20 +56,20 @@ unfolding integerPlace
 integer-only d i (Place.Refused r) p n e = let z : _≡_ {A = ℕ} 0 1 = cc in absurd (omega arith)
 integer-only d i (Place.At s l) p n e = go (isUint (fieldsAt d i)) refl e
   where
-    go : (b : Bool) → isUint (fieldsAt d i) ≡ b → (if b then Place.At s l else Place.Refused Refusal.NoElement) ≡ Place.At (record { 0 = p }) n
+    go : (b : Bool) → isUint (fieldsAt d i) ≡ b → (if b then Place.At s l else Place.Refused noElement) ≡ Place.At (record { 0 = p }) n
         → (Place.At s l ≡ Place.At (record { 0 = p }) n) × (isUint (fieldsAt d i) ≡ true)
     go true g e = (e, g)
     go false g e = let z : _≡_ {A = ℕ} 0 1 = cc in absurd (omega arith)
 
 -- so does an integer's place
-pub whole-integer : (d img : List ℕ) (q : ElementName) (v : Place) → v ≡ integerPlace d (q .item) (whereReply d img q) → WholeAt d v
+pub whole-integer : (d img : List ℕ) (q : ElementName) (v : Place) → v ≡ integerPlace d (q .item) (elementPlaceReply d img q) → WholeAt d v
 whole-integer d img q (Place.Refused r) e = tt
-whole-integer d img q (Place.At p n) e = stands d img q (p .0) n (integer-only d (q .item) (whereReply d img q) (p .0) n (sym e) .0) .whole
+whole-integer d img q (Place.At p n) e = stands d img q (p .0) n (integer-only d (q .item) (elementPlaceReply d img q) (p .0) n (sym e) .0) .whole
 
 -- an integer is read as it stands
-pub read-integer : (d img : List ℕ) (q : ElementName) (p n : ℕ) → integerPlace d (q .item) (whereReply d img q) ≡ Place.At (record { 0 = p }) n → numberRead img p n ≡ numberAt img p n
+pub read-integer : (d img : List ℕ) (q : ElementName) (p n : ℕ) → integerPlace d (q .item) (elementPlaceReply d img q) ≡ Place.At (record { 0 = p }) n → numberRead img p n ≡ numberAt img p n
 read-integer d img q p n e =
-    let i = integer-only d (q .item) (whereReply d img q) p n e in
+    let i = integer-only d (q .item) (elementPlaceReply d img q) p n e in
     let s = stands d img q p n (i .0) in
     read-there img p n (omega (arith, s .few (i .1))) (s .inside)
 
@@ -82,7 +83,7 @@ found-only none i s l e = absurd (no-not-yes i s l e)
 found-only (some t) i s l e = ap (λ (x : TableFound). placeBy x) e
   where
     placeBy : TableFound → Place
-    placeBy No = Place.Refused Refusal.NoTable
+    placeBy No = Place.Refused noTable
     placeBy (Yes i s l) = Place.At (record { 0 = s .0 }) l
 
 -- A TABLE FOUND: where it ends, and that the description has whole items
@@ -110,9 +111,9 @@ table-stands d img q i s l e = go (came d img)
 -- what holds of every refusal, and of the octets asked about, holds of what may be written
 allowed-holds : (P : Place → Type 0) → ((r : Refusal) → P (Place.Refused r)) → (d img : List ℕ) (es : List Placed) (t p n : ℕ) → P (Place.At (record { 0 = p }) n) → P (allowed d img es t p n)
 unfolding allowed
-allowed-holds P refusals d img es t p n there = go (writable d img t) (holdsDimension es p n)
+allowed-holds P refusals d img es t p n there = go (writable d img t) (anyDimension es p n)
   where
-    go : (a b : Bool) → P (if not a then Place.Refused Refusal.NotWritable else if b then Place.Refused Refusal.HoldsDimension else Place.At (record { 0 = p }) n)
+    go : (a b : Bool) → P (if not a then Place.Refused notWritable else if b then Place.Refused holdsDimension else Place.At (record { 0 = p }) n)
     go true true = refusals _
     go true false = there
     go false b = refusals _
@@ -124,7 +125,7 @@ module _ (d img : List ℕ) (es : List Placed) (o : TableOffset) (n : ℕ) where
   found-fits none f = tt
   found-fits (some t) f = go (t .size <? o .0 + n) refl
     where
-      go : (b : Bool) → (t .size <? o .0 + n) ≡ b → FitsAt img n (if b then Place.Refused Refusal.OutsideTable else allowed d img es (t .item) (t .start + o .0) n)
+      go : (b : Bool) → (t .size <? o .0 + n) ≡ b → FitsAt img n (if b then Place.Refused outsideTable else allowed d img es (t .item) (t .start + o .0) n)
       go true e = tt
       go false e = allowed-holds (FitsAt img n) (λ r. tt) d img es (t .item) (t .start + o .0) n (omega (arith, ltb-false (t .size) (o .0 + n) e, f t refl))
 
@@ -145,7 +146,7 @@ module _ (d img : List ℕ) (q : ElementName) (es : List Placed) where
   unfolding fitting
   octets-at n p l h = allowed-holds (λ w. FitsAt img n (fitting (λ k. n =? k) w)) (λ r. tt) d img es (tableAround d (q .item)) p l (go (n =? l) refl)
     where
-      go : (b : Bool) → (n =? l) ≡ b → FitsAt img n (if b then Place.At (record { 0 = p }) l else Place.Refused Refusal.WrongSize)
+      go : (b : Bool) → (n =? l) ≡ b → FitsAt img n (if b then Place.At (record { 0 = p }) l else Place.Refused wrongSize)
       go true e = omega (arith, eqb-true n l e)
       go false e = tt
 
@@ -153,22 +154,22 @@ module _ (d img : List ℕ) (q : ElementName) (es : List Placed) where
   unfolding fitting
   number-at x p l h = allowed-holds (λ w. Inside img (fitting (λ k. x <? 256 ^ k) w)) (λ r. tt) d img es (tableAround d (q .item)) p l (go (x <? 256 ^ l))
     where
-      go : (b : Bool) → Inside img (if b then Place.At (record { 0 = p }) l else Place.Refused Refusal.WrongSize)
+      go : (b : Bool) → Inside img (if b then Place.At (record { 0 = p }) l else Place.Refused wrongSize)
       go true = h
       go false = tt
 
 pub octets-fits : (d img : List ℕ) (q : ElementName) (n : ℕ) (v : Place) → v ≡ octetsPlaceIn d img q n (openImage d img) → FitsAt img n v
-unfolding whereReply fitting allowedAt
-octets-fits d img q n v e = subst (FitsAt img n) (sym (e ∙ sym (octets-told d img q n (openImage d img)))) (go (whereReply d img q) refl)
+unfolding elementPlaceReply fitting allowedAt
+octets-fits d img q n v e = subst (FitsAt img n) (sym (e ∙ sym (octets-told d img q n (openImage d img)))) (go (elementPlaceReply d img q) refl)
   where
-    go : (w : Place) → whereReply d img q ≡ w → FitsAt img n (fitting (λ k. n =? k) (allowedAt d img q (elementsIn (openImage d img)) w))
+    go : (w : Place) → elementPlaceReply d img q ≡ w → FitsAt img n (fitting (λ k. n =? k) (allowedAt d img q (elementsIn (openImage d img)) w))
     go (Place.At p l) h = octets-at d img q (elementsIn (openImage d img)) n (p .0) l (stands d img q (p .0) l h .inside)
     go (Place.Refused r) h = tt
 
 pub number-fits : (d img : List ℕ) (q : ElementName) (x : ℕ) (v : Place) → v ≡ numberPlaceIn d img q x (openImage d img) → Inside img v
-unfolding whereReply fitting allowedAt
-number-fits d img q x v e = subst (Inside img) (sym (e ∙ sym (number-told d img q x (openImage d img)))) (go (integerPlace d (q .item) (whereReply d img q)) refl)
+unfolding elementPlaceReply fitting allowedAt
+number-fits d img q x v e = subst (Inside img) (sym (e ∙ sym (number-told d img q x (openImage d img)))) (go (integerPlace d (q .item) (elementPlaceReply d img q)) refl)
   where
-    go : (w : Place) → integerPlace d (q .item) (whereReply d img q) ≡ w → Inside img (fitting (λ k. x <? 256 ^ k) (allowedAt d img q (elementsIn (openImage d img)) w))
-    go (Place.At p l) h = number-at d img q (elementsIn (openImage d img)) x (p .0) l (stands d img q (p .0) l (integer-only d (q .item) (whereReply d img q) (p .0) l h .0) .inside)
+    go : (w : Place) → integerPlace d (q .item) (elementPlaceReply d img q) ≡ w → Inside img (fitting (λ k. x <? 256 ^ k) (allowedAt d img q (elementsIn (openImage d img)) w))
+    go (Place.At p l) h = number-at d img q (elementsIn (openImage d img)) x (p .0) l (stands d img q (p .0) l (integer-only d (q .item) (elementPlaceReply d img q) (p .0) l h .0) .inside)
     go (Place.Refused r) h = tt

@@ -17,11 +17,12 @@ use Rattle.meaning.specs.declared.Refusal.{Refusal}
 use Rattle.meaning.specs.declared.Verdict.{Verdict}
 use Rattle.meaning.specs.declared.Fields.{Fields}
 use Rattle.meaning.specs.declared.Place.{Place}
-use Rattle.meaning.specs.declared.Number.{Number}
+use Rattle.meaning.specs.declared.Reply.{Reply}
 use Rattle.meaning.specs.Description.{fieldsAt, isTable, isUint}
 use Rattle.meaning.specs.Layout.{Placed, Seat, tableNamed, dataOrder, numberAt}
-use Rattle.meaning.specs.Refusals.{Opened, opened, refused, openImage, whereIn, whereReply, integerPlace, placeNumber, numberReply, placeVerdict, imageWith, imageWithNumber, tableAround, writable, holdsDimension, allowed, allowedAt, fitting, rangeOf, rangeIn, rangePlace, octetsPlaceIn, numberPlaceIn}
+use Rattle.meaning.specs.Refusals.{Opened, opened, refused, openImage, elementPlaceIn, elementPlaceReply, integerPlace, placeNumber, elementNumberReply, placeVerdict, imageWith, imageWithNumber, tableAround, writable, anyDimension, allowed, allowedAt, fitting, rangeOf, rangeIn, rangePlace, octetsPlaceIn, numberPlaceIn}
 use Rattle.meaning.proofs.Octets.{octets-long}
+use Rattle.meaning.specs.Numbers.{noTable, noElement, outsideTable, notWritable, holdsDimension, wrongSize}
 use Rattle.octets.specs.Octets.{put}
 use Rattle.places.specs.declared.Asked.{Asked}
 use Rattle.places.specs.declared.Answer.{Answer}
@@ -57,29 +58,29 @@ around-before d (suc j) h e = let z : suc j - 1 ≡ j = omega arith in let f = r
 
 -- 13, THEN 14
 module _ (d img : List ℕ) (es : List Placed) (t p n : ℕ) where
-  pub not-writable : writable d img t ≡ false → Place.Refused Refusal.NotWritable ≡ allowed d img es t p n
+  pub not-writable : writable d img t ≡ false → Place.Refused notWritable ≡ allowed d img es t p n
   unfolding allowed
   not-writable e = rw e
 
-  pub holds-one : writable d img t ≡ true → holdsDimension es p n ≡ true → Place.Refused Refusal.HoldsDimension ≡ allowed d img es t p n
+  pub holds-one : writable d img t ≡ true → anyDimension es p n ≡ true → Place.Refused holdsDimension ≡ allowed d img es t p n
   unfolding allowed
   holds-one e h = rw (e, h)
 
-  pub may-write : writable d img t ≡ true → holdsDimension es p n ≡ false → Place.At (record { 0 = p }) n ≡ allowed d img es t p n
+  pub may-write : writable d img t ≡ true → anyDimension es p n ≡ false → Place.At (record { 0 = p }) n ≡ allowed d img es t p n
   unfolding allowed
   may-write e h = rw (e, h)
 
 -- what a walk tells of the octets asked about
-pub held-told : (q : Asked) (o : Opened) → answerTo q o .held ≡ holdsDimension (elementsIn o) (q .from .0) (q .octets)
-unfolding answerTo holdsDimension
+pub held-told : (q : Asked) (o : Opened) → answerTo q o .held ≡ anyDimension (elementsIn o) (q .from .0) (q .octets)
+unfolding answerTo anyDimension
 held-told q (opened ts es s n) = refl
 held-told q (refused r) = refl
 
 -- A RANGE OF A TABLE, by what a walk tells of the table
 abbrev pub rangeBy : (description image : List ℕ) → TableOffset → (n : ℕ) → List Placed → Verdict → TableFound → Place
 rangeBy d img o n es (Verdict.Refused r) t = Place.Refused r
-rangeBy d img o n es Verdict.Passed No = Place.Refused Refusal.NoTable
-rangeBy d img o n es Verdict.Passed (Yes i s l) = if l <? o .0 + n then Place.Refused Refusal.OutsideTable else allowed d img es i (s .0 + o .0) n
+rangeBy d img o n es Verdict.Passed No = Place.Refused noTable
+rangeBy d img o n es Verdict.Passed (Yes i s l) = if l <? o .0 + n then Place.Refused outsideTable else allowed d img es i (s .0 + o .0) n
 
 pub range-told : (d img : List ℕ) (q : Asked) (f : TableOffset) (n : ℕ) (o : Opened)
     → rangeBy d img f n (elementsIn o) (answerTo q o .verdict) (answerTo q o .table) ≡ rangeIn d img (q .manufacturer) (q .number) f n o
@@ -93,7 +94,7 @@ range-told d img q f n (opened ts es s total) = go (tableNamed (q .manufacturer)
 
 -- 12, or else 13 and 14
 module _ (d img : List ℕ) (f : TableOffset) (n : ℕ) (es : List Placed) (i : ℕ) (s : TableStart) (l : ℕ) where
-  range-outside : l < f .0 + n → rangeBy d img f n es Verdict.Passed (Yes i s l) ≡ Place.Refused Refusal.OutsideTable
+  range-outside : l < f .0 + n → rangeBy d img f n es Verdict.Passed (Yes i s l) ≡ Place.Refused outsideTable
   range-outside h = rw (lt-ltb l (f .0 + n) h)
 
   range-within : f .0 + n ≤ l → rangeBy d img f n es Verdict.Passed (Yes i s l) ≡ allowed d img es i (s .0 + f .0) n
@@ -112,14 +113,14 @@ module _ (d img : List ℕ) (q : Asked) (r : Answer) (a : r ≡ answerTo q (open
   pub range-refused : (x : Refusal) → r .verdict ≡ Verdict.Refused x → Place.Refused x ≡ rangePlace d img (q .manufacturer) (q .number) f n
   range-refused x e = ap (λ (v : Verdict). rangeBy d img f n (elementsIn (openImage d img)) v (r .table)) (sym e) ∙ range-is
 
-  pub range-none : r .verdict ≡ Verdict.Passed → r .table ≡ No → Place.Refused Refusal.NoTable ≡ rangePlace d img (q .manufacturer) (q .number) f n
+  pub range-none : r .verdict ≡ Verdict.Passed → r .table ≡ No → Place.Refused noTable ≡ rangePlace d img (q .manufacturer) (q .number) f n
   range-none e t = ap₂ (λ (v : Verdict) (w : TableFound). rangeBy d img f n (elementsIn (openImage d img)) v w) (sym e) (sym t) ∙ range-is
 
   module _ (i : ℕ) (s : TableStart) (l : ℕ) (e : r .verdict ≡ Verdict.Passed) (t : r .table ≡ Yes i s l) (b : Bool) (within : b ≡ (f .0 + n ≤? l)) where
     range-found : rangeBy d img f n (elementsIn (openImage d img)) Verdict.Passed (Yes i s l) ≡ rangePlace d img (q .manufacturer) (q .number) f n
     range-found = ap₂ (λ (v : Verdict) (w : TableFound). rangeBy d img f n (elementsIn (openImage d img)) v w) (sym e) (sym t) ∙ range-is
 
-    pub range-past : b ≡ false → Place.Refused Refusal.OutsideTable ≡ rangePlace d img (q .manufacturer) (q .number) f n
+    pub range-past : b ≡ false → Place.Refused outsideTable ≡ rangePlace d img (q .manufacturer) (q .number) f n
     range-past h = sym (range-outside d img f n _ i s l (leb-false _ _ (sym within ∙ h))) ∙ range-found
 
     pub range-there : b ≡ true → (p : ℕ) → p ≡ s .0 + f .0 → allowed d img (elementsIn (openImage d img)) i p n ≡ rangePlace d img (q .manufacturer) (q .number) f n
@@ -131,7 +132,7 @@ pub is-integer : (d : List ℕ) (i : ℕ) (v : Place) (p n : ℕ) → v ≡ Plac
 unfolding integerPlace
 is-integer d i v p n e h = e ∙ rw (e, h)
 
-pub no-integer : (d : List ℕ) (i : ℕ) (v : Place) (p n : ℕ) → v ≡ Place.At (record { 0 = p }) n → isUint (fieldsAt d i) ≡ false → Place.Refused Refusal.NoElement ≡ integerPlace d i v
+pub no-integer : (d : List ℕ) (i : ℕ) (v : Place) (p n : ℕ) → v ≡ Place.At (record { 0 = p }) n → isUint (fieldsAt d i) ≡ false → Place.Refused noElement ≡ integerPlace d i v
 unfolding integerPlace
 no-integer d i v p n e h = rw (e, h)
 
@@ -140,26 +141,26 @@ unfolding integerPlace
 integer-refused d i v r e = e ∙ rw e
 
 -- an element's octets and its number, by where it is
-pub octets-told : (d img : List ℕ) (q : ElementName) (n : ℕ) (o : Opened) → fitting (λ l. n =? l) (allowedAt d img q (elementsIn o) (whereIn q o)) ≡ octetsPlaceIn d img q n o
-unfolding octetsPlaceIn whereIn allowedAt fitting
+pub octets-told : (d img : List ℕ) (q : ElementName) (n : ℕ) (o : Opened) → fitting (λ l. n =? l) (allowedAt d img q (elementsIn o) (elementPlaceIn q o)) ≡ octetsPlaceIn d img q n o
+unfolding octetsPlaceIn elementPlaceIn allowedAt fitting
 octets-told d img q n (opened ts es s total) = refl
 octets-told d img q n (refused r) = refl
 
 pub number-told : (d img : List ℕ) (q : ElementName) (x : ℕ) (o : Opened)
-    → fitting (λ l. x <? 256 ^ l) (allowedAt d img q (elementsIn o) (integerPlace d (q .item) (whereIn q o))) ≡ numberPlaceIn d img q x o
-unfolding numberPlaceIn whereIn integerPlace allowedAt fitting
+    → fitting (λ l. x <? 256 ^ l) (allowedAt d img q (elementsIn o) (integerPlace d (q .item) (elementPlaceIn q o))) ≡ numberPlaceIn d img q x o
+unfolding numberPlaceIn elementPlaceIn integerPlace allowedAt fitting
 number-told d img q x (opened ts es s total) = refl
 number-told d img q x (refused r) = refl
 
 -- by what 13 and 14 leave of it
-pub octets-is : (d img : List ℕ) (q : ElementName) (n : ℕ) (found v : Place) → found ≡ whereReply d img q → v ≡ allowedAt d img q (elementsIn (openImage d img)) found
+pub octets-is : (d img : List ℕ) (q : ElementName) (n : ℕ) (found v : Place) → found ≡ elementPlaceReply d img q → v ≡ allowedAt d img q (elementsIn (openImage d img)) found
     → fitting (λ l. n =? l) v ≡ octetsPlaceIn d img q n (openImage d img)
-unfolding whereReply
+unfolding elementPlaceReply
 octets-is d img q n found v f e = ap (fitting (λ l. n =? l)) (e ∙ ap (allowedAt d img q (elementsIn (openImage d img))) f) ∙ octets-told d img q n (openImage d img)
 
-pub number-place-is : (d img : List ℕ) (q : ElementName) (x : ℕ) (found v : Place) → found ≡ integerPlace d (q .item) (whereReply d img q)
+pub number-place-is : (d img : List ℕ) (q : ElementName) (x : ℕ) (found v : Place) → found ≡ integerPlace d (q .item) (elementPlaceReply d img q)
     → v ≡ allowedAt d img q (elementsIn (openImage d img)) found → fitting (λ l. x <? 256 ^ l) v ≡ numberPlaceIn d img q x (openImage d img)
-unfolding whereReply
+unfolding elementPlaceReply
 number-place-is d img q x found v f e =
     ap (fitting (λ l. x <? 256 ^ l)) (e ∙ ap (allowedAt d img q (elementsIn (openImage d img))) f) ∙ number-told d img q x (openImage d img)
 
@@ -169,7 +170,7 @@ module _ (fits : ℕ → Bool) (v : Place) where
   unfolding fitting
   fits-there p n e h = rw (e, h)
 
-  pub fits-not : (p n : ℕ) → v ≡ Place.At (record { 0 = p }) n → fits n ≡ false → Place.Refused Refusal.WrongSize ≡ fitting fits v
+  pub fits-not : (p n : ℕ) → v ≡ Place.At (record { 0 = p }) n → fits n ≡ false → Place.Refused wrongSize ≡ fitting fits v
   unfolding fitting
   fits-not p n e h = rw (e, h)
 
@@ -220,12 +221,12 @@ fits-fewer x n = rw (eight-bits n) (go (x <? 256 ^ n) refl)
 
 -- AN ELEMENT'S NUMBER, by its place
 module _ (d img : List ℕ) (q : ElementName) (v : Place) where
-  pub number-refused : (r : Refusal) → v ≡ integerPlace d (q .item) (whereReply d img q) → v ≡ Place.Refused r → Number.Refused r ≡ numberReply d img q
-  unfolding numberReply placeNumber
+  pub number-refused : (r : Refusal) → v ≡ integerPlace d (q .item) (elementPlaceReply d img q) → v ≡ Place.Refused r → Reply.Refused r ≡ elementNumberReply d img q
+  unfolding elementNumberReply placeNumber
   number-refused r e h = rw (← e, h)
 
-  pub number-is : (p n x : ℕ) → v ≡ integerPlace d (q .item) (whereReply d img q) → v ≡ Place.At (record { 0 = p }) n → x ≡ numberAt img p n → Number.Is x ≡ numberReply d img q
-  unfolding numberReply placeNumber
+  pub number-is : (p n x : ℕ) → v ≡ integerPlace d (q .item) (elementPlaceReply d img q) → v ≡ Place.At (record { 0 = p }) n → x ≡ numberAt img p n → Reply.Number x ≡ elementNumberReply d img q
+  unfolding elementNumberReply placeNumber
   number-is p n x e h g = rw (← e, h, g)
 
 -- WHAT IS WRITTEN

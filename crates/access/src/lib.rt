@@ -8,9 +8,9 @@ use basics::ends_within;
 use items::Cursor;
 use meaning::ElementName;
 use meaning::Fields;
-use meaning::Number;
 use meaning::Place;
 use meaning::Refusal;
+use meaning::Reply;
 use meaning::Verdict;
 use offsets::ImageOffset;
 use offsets::TableOffset;
@@ -22,7 +22,7 @@ ghost use Prim.Native.Nat.{_+_, _^_};
 ghost use lib.ListN.{length};
 ghost use Rattle.meaning.specs.Basics.{_<?_, _≤?_, _=?_};
 ghost use Rattle.meaning.specs.Description.{fieldsAt};
-ghost use Rattle.meaning.specs.Refusals.{openImage, whereReply, placePart, tableOctets, elementOctets, integerPlace, numberReply, placeVerdict, imageWith, tableAround, writable, allowed, allowedAt, fitting, rangePlace, octetsPlaceIn, numberPlaceIn, imageWithNumber, writeRangeReply, writeRangeImage, writeOctetsReply, writeOctetsImage, writeNumberReply, writeNumberImage};
+ghost use Rattle.meaning.specs.Refusals.{openImage, elementPlaceReply, placePart, tablePartReply, elementPartReply, integerPlace, elementNumberReply, placeVerdict, imageWith, tableAround, writable, allowed, allowedAt, fitting, rangePlace, octetsPlaceIn, numberPlaceIn, imageWithNumber, writeRangeReply, writeRangeImage, writeOctetsReply, writeOctetsImage, writeNumberReply, writeNumberImage};
 ghost use Rattle.access.specs.Access.{Whole, WholeAt, elementsIn, FitsAt};
 
 // The kinds of items that are asked for.
@@ -79,7 +79,7 @@ fn allowed_at(
     ensures { λ r. ⌜ r ≡ allowed (now (description .entry)) (now (image .entry)) (elementsIn (openImage (now (description .entry)) (now (image .entry)))) table (start .0) octets ⌝ }
 {
     if !is_writable(description, image, table) {
-        return Place::Refused(Refusal::NotWritable);
+        return Place::Refused(Refusal::NOT_WRITABLE);
     }
     let nothing = places::nothing_asked();
     let name = nothing.name;
@@ -92,7 +92,7 @@ fn allowed_at(
     };
     let answer = places::open_image(description, image, asked);
     if answer.held {
-        return Place::Refused(Refusal::HoldsDimension);
+        return Place::Refused(Refusal::HOLDS_DIMENSION);
     }
     Place::At {
         start,
@@ -128,7 +128,7 @@ fn range_place(
     match verdict {
         Verdict::Refused(r) => Place::Refused(r),
         Verdict::Passed => match table {
-            TableFound::No => Place::Refused(Refusal::NoTable),
+            TableFound::No => Place::Refused(Refusal::NO_TABLE),
             TableFound::Yes {
                 item,
                 start,
@@ -137,7 +137,7 @@ fn range_place(
                 if ends_within(offset.octets(), octets, length) {
                     return allowed_at(description, image, item, start.in_image(offset), octets);
                 }
-                Place::Refused(Refusal::OutsideTable)
+                Place::Refused(Refusal::OUTSIDE_TABLE)
             }
         },
     }
@@ -145,7 +145,7 @@ fn range_place(
 
 // Where an element is, if it is an integer: 11 too where a number is asked of a BLOCK or SET.
 fn integer_place(description: &[u8], image: &[u8], name: ElementName) -> Place
-    ensures { λ r. ⌜ r ≡ integerPlace (now (description .entry)) (name .item) (whereReply (now (description .entry)) (now (image .entry)) name) ⌝ }
+    ensures { λ r. ⌜ r ≡ integerPlace (now (description .entry)) (name .item) (elementPlaceReply (now (description .entry)) (now (image .entry)) name) ⌝ }
 {
     let place = places::element_place(description, image, name);
     match place {
@@ -158,7 +158,7 @@ fn integer_place(description: &[u8], image: &[u8], name: ElementName) -> Place
             if fields.kind == UINT {
                 return place;
             }
-            Place::Refused(Refusal::NoElement)
+            Place::Refused(Refusal::NO_ELEMENT)
         }
     }
 }
@@ -189,7 +189,7 @@ fn octets_place(description: &[u8], image: &[u8], name: ElementName, octets: usi
             if octets == length {
                 return place;
             }
-            Place::Refused(Refusal::WrongSize)
+            Place::Refused(Refusal::WRONG_SIZE)
         }
     }
 }
@@ -215,7 +215,7 @@ fn number_place(description: &[u8], image: &[u8], name: ElementName, value: u64)
             if fits_in(value, length) {
                 return place;
             }
-            Place::Refused(Refusal::WrongSize)
+            Place::Refused(Refusal::WRONG_SIZE)
         }
     }
 }
@@ -253,7 +253,7 @@ pub fn table_part<'a>(
     manufacturer: u32,
     number: u32,
 ) -> &'a [u8]
-    ensures { λ r. ⌜ now r ≡ tableOctets (now (description .entry)) (now (image .entry)) manufacturer number ⌝ }
+    ensures { λ r. ⌜ now r ≡ tablePartReply (now (description .entry)) (now (image .entry)) manufacturer number ⌝ }
 {
     part_at(
         image,
@@ -263,19 +263,19 @@ pub fn table_part<'a>(
 
 // An element's octets, as a part of the image; empty on refusal.
 pub fn element_part<'a>(description: &[u8], image: &'a [u8], name: ElementName) -> &'a [u8]
-    ensures { λ r. ⌜ now r ≡ elementOctets (now (description .entry)) (now (image .entry)) name ⌝ }
+    ensures { λ r. ⌜ now r ≡ elementPartReply (now (description .entry)) (now (image .entry)) name ⌝ }
 {
     part_at(image, places::element_place(description, image, name))
 }
 
 // An element's number.
-pub fn element_number(description: &[u8], image: &[u8], name: ElementName) -> Number
-    ensures { λ r. ⌜ r ≡ numberReply (now (description .entry)) (now (image .entry)) name ⌝ }
+pub fn element_number(description: &[u8], image: &[u8], name: ElementName) -> Reply
+    ensures { λ r. ⌜ r ≡ elementNumberReply (now (description .entry)) (now (image .entry)) name ⌝ }
 {
     let place = integer_place(description, image, name);
     match place {
-        Place::Refused(r) => Number::Refused(r),
-        Place::At { start, length } => Number::Is(octets::number_at(image, start, length)),
+        Place::Refused(r) => Reply::Refused(r),
+        Place::At { start, length } => Reply::Number(octets::number_at(image, start, length)),
     }
 }
 

@@ -17,6 +17,7 @@ use Rattle.meaning.specs.declared.Verdict.{Verdict}
 use Rattle.meaning.specs.Layout.{Seat}
 use Rattle.meaning.specs.Refusals.{Opened, opened, refused, openImage}
 use Rattle.meaning.specs.Calendar.{controlsOf, matrixAt, dayColumns, rowWidth, table54Size, cellAt, Found, found, missing, sized, seatsFound, calendarIn, calendar, matrixCell, matrixOf, matrixIn, matrixReply, matrixVerdictIn, matrixVerdict}
+use Rattle.meaning.specs.Numbers.{notACalendar}
 use Rattle.almanac.specs.Matrix.{cell, Fifteen, Shown, MatrixSays}
 use Rattle.almanac.proofs.Tests.{lt-or-ge, both-true}
 use Rattle.almanac.proofs.Build.{build-long, build-at}
@@ -77,7 +78,7 @@ unfolding sized table54Size
 sized-sized o a b = go (eqb (length a) 9 && eqb (length b) (table54Size (controlsOf o a))) refl
   where
     go : (x : Bool) → (eqb (length a) 9 && eqb (length b) (table54Size (controlsOf o a))) ≡ x
-        → AllSized (cond x (found o (controlsOf o a) b) (missing Refusal.NotACalendar))
+        → AllSized (cond x (found o (controlsOf o a) b) (missing notACalendar))
     go true e =
         record {
           rows = controls-rows o a;

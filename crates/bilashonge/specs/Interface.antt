@@ -5,27 +5,24 @@ use lib.ListN.{length, getD}
 use Rattle.meaning.specs.declared.ElementName.{ElementName}
 use Rattle.meaning.specs.declared.Moment.{Moment}
 use Rattle.meaning.specs.declared.Verdict.{Verdict}
-use Rattle.bilashonge.specs.declared.Refusal.{Refusal}
+use Rattle.meaning.specs.declared.Told.{Told}
 use Rattle.bilashonge.specs.declared.Total.{Total}
 use Rattle.bilashonge.specs.declared.Place.{Place}
 use Rattle.bilashonge.specs.declared.Number.{Number}
 use Rattle.bilashonge.specs.declared.Tier.{Tier}
 
--- WHAT AN ANSWER IS IN C: its numbers (crate meaning, specs/Refusals: `verdictValues` and its like), field by field
-unfoldable pub inRefusal : (values : List ℕ) → Refusal
-inRefusal v = record { number = getD v 0 0; item = getD v 1 0; octet = getD v 2 0 }
+-- WHAT AN ANSWER IS IN C: what its reply tells in numbers (`Told`, crate meaning), field by field. A refusal is a struct of that crate
+abbrev pub inTotal : Told → Total
+inTotal t = record { refusal = t .refusal; total = t .first }
 
-unfoldable pub inTotal : (values : List ℕ) → Total
-inTotal v = record { refusal = inRefusal v; total = getD v 3 0 }
+abbrev pub inPlace : Told → Place
+inPlace t = record { refusal = t .refusal; start = t .first; length = t .second }
 
-unfoldable pub inPlace : (values : List ℕ) → Place
-inPlace v = record { refusal = inRefusal v; start = getD v 3 0; length = getD v 4 0 }
+abbrev pub inNumber : Told → Number
+inNumber t = record { refusal = t .refusal; number = t .first }
 
-unfoldable pub inNumber : (values : List ℕ) → Number
-inNumber v = record { refusal = inRefusal v; number = getD v 3 0 }
-
-unfoldable pub inTier : (values : List ℕ) → Tier
-inTier v = record { refusal = inRefusal v; none = getD v 3 0; tier = getD v 4 0 }
+abbrev pub inTier : Told → Tier
+inTier t = record { refusal = t .refusal; none = t .first; tier = t .second }
 
 -- WHAT IS ASKED FROM C
 -- an element: its item and the subscripts lent. Four places; with more subscripts the count says so, and names no element

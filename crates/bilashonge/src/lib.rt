@@ -1,29 +1,23 @@
-// The C interface. include/bilashonge.h is its manual. Each function calls one of the layers below
-// and hands its answer on as the paper's numbers, in a struct that C knows.
+// The C interface. include/bilashonge.h is its manual. Each function asks one question of the layers
+// below and hands on what its reply tells, in a struct that C knows. A refusal is the struct of the
+// layers themselves.
 //
 // Nothing is kept. Memory is lent to be read, but for an image that is to be written and the cells of
 // the matrix: what those hold afterwards is stated too, for answers and refusals.
 use meaning::ElementName;
 use meaning::Moment;
+use meaning::Refusal;
 use meaning::Verdict;
 use offsets::TableOffset;
 ghost use mathlib.Core.Path.{_≡_};
+ghost use mathlib.Core.List.{[]};
 ghost use lib.ListN.{getD};
-ghost use Rattle.meaning.specs.Description.{soundness};
-ghost use Rattle.meaning.specs.Refusals.{verdictValues, placeValues};
+ghost use Rattle.meaning.specs.Refusals.{toldBy, verdictReply, placeReply};
 ghost use Rattle.meaning.specs.Calendar.{matrixReply, matrixVerdict};
-ghost use Rattle.meaning.specs.Questions.{numbersTo, imageAfter, layOut, whereTable, whereElement, numberOf, writeRange, writeOctets, writeNumber, tierAt, matrixRefusal};
+ghost use Rattle.meaning.specs.Questions as ask;
+ghost use Rattle.meaning.specs.Questions.{toldTo, imageAfter};
 ghost use Rattle.replies.specs.Asked.{quantityOf};
-ghost use Rattle.bilashonge.specs.Interface.{inRefusal, inTotal, inPlace, inNumber, inTier, elementNamed, momentOf, cellsAfter};
-
-// Why a question is refused: the paper's number, the item and the octet that it reports, 0 where it
-// reports none. All three are 0 where the question is answered.
-#[repr(C)]
-pub struct Refusal {
-    pub number: u64,
-    pub item: u64,
-    pub octet: u64,
-}
+ghost use Rattle.bilashonge.specs.Interface.{inTotal, inPlace, inNumber, inTier, elementNamed, momentOf, cellsAfter};
 
 // The total of octets used, 0 on refusal.
 #[repr(C)]
@@ -81,41 +75,31 @@ fn element_named(item: usize, subscripts: &[usize]) -> ElementName
     }
 }
 
-// A refusal by its numbers, in the order in which an answer has them.
-fn told(number: u64, item: u64, octet: u64) -> Refusal
-    ensures { λ r. ⌜ r ≡ record { number = number; item = item; octet = octet } ⌝ }
-{
-    Refusal {
-        number: number,
-        item: item,
-        octet: octet,
-    }
-}
-
 // A verdict, as C has it.
 fn refusal_of(verdict: Verdict) -> Refusal
-    ensures { λ r. ⌜ r ≡ inRefusal (verdictValues verdict) ⌝ }
+    ensures { λ r. ⌜ r ≡ toldBy (verdictReply verdict) .refusal ⌝ }
 {
-    let v = replies::verdict_values(verdict);
-    told(v[0], v[1], v[2])
+    let told = replies::verdict_told(verdict);
+    told.refusal
 }
 
 // A place, as C has it.
 fn place_of(place: meaning::Place) -> Place
-    ensures { λ r. ⌜ r ≡ inPlace (placeValues place) ⌝ }
+    ensures { λ r. ⌜ r ≡ inPlace (toldBy (placeReply place)) ⌝ }
 {
-    let v = replies::place_values(place);
+    let told = replies::place_told(place);
+    let refusal = told.refusal;
     Place {
-        refusal: told(v[0], v[1], v[2]),
-        start: v[3],
-        length: v[4],
+        refusal,
+        start: told.first,
+        length: told.second,
     }
 }
 
 // Is this description sound.
 #[no_mangle]
 pub extern "C" fn bilashonge_check(description: &[u8]) -> Refusal
-    ensures { λ r. ⌜ r ≡ inRefusal (verdictValues (soundness (now (description .entry)))) ⌝ }
+    ensures { λ r. ⌜ r ≡ toldTo ask.check (now (description .entry)) [] .refusal ⌝ }
 {
     refusal_of(sound::check(description))
 }
@@ -123,12 +107,13 @@ pub extern "C" fn bilashonge_check(description: &[u8]) -> Refusal
 // Lay the image out: the total of octets used.
 #[no_mangle]
 pub extern "C" fn bilashonge_layout(description: &[u8], image: &[u8]) -> Total
-    ensures { λ r. ⌜ r ≡ inTotal (numbersTo layOut (now (description .entry)) (now (image .entry))) ⌝ }
+    ensures { λ r. ⌜ r ≡ inTotal (toldTo ask.layout (now (description .entry)) (now (image .entry))) ⌝ }
 {
-    let v = replies::total_values(places::total(description, image));
+    let told = replies::told(places::layout(description, image));
+    let refusal = told.refusal;
     Total {
-        refusal: told(v[0], v[1], v[2]),
-        total: v[3],
+        refusal,
+        total: told.first,
     }
 }
 
@@ -140,7 +125,7 @@ pub extern "C" fn bilashonge_table_place(
     manufacturer: u32,
     number: u32,
 ) -> Place
-    ensures { λ r. ⌜ r ≡ inPlace (numbersTo (whereTable manufacturer number) (now (description .entry)) (now (image .entry))) ⌝ }
+    ensures { λ r. ⌜ r ≡ inPlace (toldTo (ask.tablePlace manufacturer number) (now (description .entry)) (now (image .entry))) ⌝ }
 {
     place_of(places::table_place(description, image, manufacturer, number))
 }
@@ -153,7 +138,7 @@ pub extern "C" fn bilashonge_element_place(
     item: usize,
     subscripts: &[usize],
 ) -> Place
-    ensures { λ r. ⌜ r ≡ inPlace (numbersTo (whereElement (elementNamed item (now (subscripts .entry)))) (now (description .entry)) (now (image .entry))) ⌝ }
+    ensures { λ r. ⌜ r ≡ inPlace (toldTo (ask.elementPlace (elementNamed item (now (subscripts .entry)))) (now (description .entry)) (now (image .entry))) ⌝ }
 {
     place_of(places::element_place(description, image, element_named(item, subscripts)))
 }
@@ -166,16 +151,17 @@ pub extern "C" fn bilashonge_element_number(
     item: usize,
     subscripts: &[usize],
 ) -> Number
-    ensures { λ r. ⌜ r ≡ inNumber (numbersTo (numberOf (elementNamed item (now (subscripts .entry)))) (now (description .entry)) (now (image .entry))) ⌝ }
+    ensures { λ r. ⌜ r ≡ inNumber (toldTo (ask.elementNumber (elementNamed item (now (subscripts .entry)))) (now (description .entry)) (now (image .entry))) ⌝ }
 {
-    let v = replies::number_values(access::element_number(
+    let told = replies::told(access::element_number(
         description,
         image,
         element_named(item, subscripts),
     ));
+    let refusal = told.refusal;
     Number {
-        refusal: told(v[0], v[1], v[2]),
-        number: v[3],
+        refusal,
+        number: told.first,
     }
 }
 
@@ -189,8 +175,8 @@ pub extern "C" fn bilashonge_write_range(
     offset: usize,
     new: &[u8],
 ) -> Refusal
-    ensures reply { λ r. ⌜ r ≡ inRefusal (numbersTo (writeRange manufacturer number (record { 0 = offset }) (now (new .entry))) (now (description .entry)) (now (image .entry))) ⌝ }
-    ensures image { λ _. ⌜ now (image .exit) ≡ imageAfter (writeRange manufacturer number (record { 0 = offset }) (now (new .entry))) (now (description .entry)) (now (image .entry)) ⌝ }
+    ensures reply { λ r. ⌜ r ≡ toldTo (ask.writeRange manufacturer number (record { 0 = offset }) (now (new .entry))) (now (description .entry)) (now (image .entry)) .refusal ⌝ }
+    ensures image { λ _. ⌜ now (image .exit) ≡ imageAfter (ask.writeRange manufacturer number (record { 0 = offset }) (now (new .entry))) (now (description .entry)) (now (image .entry)) ⌝ }
 {
     let at = TableOffset::new(offset);
     refusal_of(access::write_range(description, image, manufacturer, number, at, new))
@@ -205,8 +191,8 @@ pub extern "C" fn bilashonge_write_octets(
     subscripts: &[usize],
     new: &[u8],
 ) -> Refusal
-    ensures reply { λ r. ⌜ r ≡ inRefusal (numbersTo (writeOctets (elementNamed item (now (subscripts .entry))) (now (new .entry))) (now (description .entry)) (now (image .entry))) ⌝ }
-    ensures image { λ _. ⌜ now (image .exit) ≡ imageAfter (writeOctets (elementNamed item (now (subscripts .entry))) (now (new .entry))) (now (description .entry)) (now (image .entry)) ⌝ }
+    ensures reply { λ r. ⌜ r ≡ toldTo (ask.writeOctets (elementNamed item (now (subscripts .entry))) (now (new .entry))) (now (description .entry)) (now (image .entry)) .refusal ⌝ }
+    ensures image { λ _. ⌜ now (image .exit) ≡ imageAfter (ask.writeOctets (elementNamed item (now (subscripts .entry))) (now (new .entry))) (now (description .entry)) (now (image .entry)) ⌝ }
 {
     refusal_of(access::write_octets(description, image, element_named(item, subscripts), new))
 }
@@ -220,8 +206,8 @@ pub extern "C" fn bilashonge_write_number(
     subscripts: &[usize],
     value: u64,
 ) -> Refusal
-    ensures reply { λ r. ⌜ r ≡ inRefusal (numbersTo (writeNumber (elementNamed item (now (subscripts .entry))) value) (now (description .entry)) (now (image .entry))) ⌝ }
-    ensures image { λ _. ⌜ now (image .exit) ≡ imageAfter (writeNumber (elementNamed item (now (subscripts .entry))) value) (now (description .entry)) (now (image .entry)) ⌝ }
+    ensures reply { λ r. ⌜ r ≡ toldTo (ask.writeNumber (elementNamed item (now (subscripts .entry))) value) (now (description .entry)) (now (image .entry)) .refusal ⌝ }
+    ensures image { λ _. ⌜ now (image .exit) ≡ imageAfter (ask.writeNumber (elementNamed item (now (subscripts .entry))) value) (now (description .entry)) (now (image .entry)) ⌝ }
 {
     refusal_of(access::write_number(description, image, element_named(item, subscripts), value))
 }
@@ -238,7 +224,7 @@ pub extern "C" fn bilashonge_tier_at(
     minute: u32,
     quantity: u32,
 ) -> Tier
-    ensures { λ r. ⌜ r ≡ inTier (numbersTo (tierAt (momentOf year month day hour minute) (quantityOf quantity)) (now (description .entry)) (now (image .entry))) ⌝ }
+    ensures { λ r. ⌜ r ≡ inTier (toldTo (ask.tier (momentOf year month day hour minute) (quantityOf quantity)) (now (description .entry)) (now (image .entry))) ⌝ }
 {
     let moment = Moment {
         year: year,
@@ -247,16 +233,17 @@ pub extern "C" fn bilashonge_tier_at(
         hour: hour,
         minute: minute,
     };
-    let v = replies::tier_values(calendar::tier(
+    let told = replies::told(calendar::tier(
         description,
         image,
         moment,
         replies::quantity(quantity as u64),
     ));
+    let refusal = told.refusal;
     Tier {
-        refusal: told(v[0], v[1], v[2]),
-        none: v[3],
-        tier: v[4],
+        refusal,
+        none: told.first,
+        tier: told.second,
     }
 }
 
@@ -267,7 +254,7 @@ pub extern "C" fn bilashonge_matrix(
     image: &[u8],
     cells: &mut [[u8; 22]; 15],
 ) -> Refusal
-    ensures reply { λ r. ⌜ r ≡ inRefusal (numbersTo matrixRefusal (now (description .entry)) (now (image .entry))) ⌝ }
+    ensures reply { λ r. ⌜ r ≡ toldTo ask.matrix (now (description .entry)) (now (image .entry)) .refusal ⌝ }
     ensures cells { λ _. ⌜ now (cells .exit) ≡ cellsAfter (matrixVerdict (now (description .entry)) (now (image .entry))) (matrixReply (now (description .entry)) (now (image .entry))) (now (cells .entry)) ⌝ }
 {
     let verdict = calendar::matrix_verdict(description, image);

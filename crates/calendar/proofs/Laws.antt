@@ -12,7 +12,7 @@ use borrow.Author.Tests.{eq-eqb, ne-eqb, leb-true, leb-false}
 use Rattle.offsets.specs.declared.ImageOffset.{ImageOffset}
 use Rattle.meaning.specs.Basics.{_=?_, _≤?_, part, numberIn}
 use Rattle.meaning.specs.Layout.{Seat, dataOrder, tableNamed}
-use Rattle.meaning.specs.Refusals.{seatPlace, tableIn, tableReply}
+use Rattle.meaning.specs.Refusals.{seatPlace, tablePlaceIn, tablePlaceReply}
 use Rattle.meaning.specs.declared.Chosen.{Chosen}
 use Rattle.meaning.specs.declared.Chosen.the-variants.{Nothing, Entry}
 use Rattle.meaning.specs.declared.Controls.{Controls}
@@ -20,8 +20,9 @@ use Rattle.meaning.specs.declared.Moment.{Moment}
 use Rattle.meaning.specs.declared.Place.{Place}
 use Rattle.meaning.specs.declared.Quantity.{Quantity}
 use Rattle.meaning.specs.declared.Refusal.{Refusal}
-use Rattle.meaning.specs.declared.Tier.{Tier}
-use Rattle.meaning.specs.Calendar.{realTime, weekdayOf, controlsOf, datesAt, switchesAt, matrixAt, dayColumns, rowWidth, table54Size, latest, datesOf, seasonOn, specialOn, dayColumn, columnOn, missingSpecial, cellAt, switchesOf, tierFrom, tierAt, Found, found, missing, sized, seatsFound, calendarIn, calendar, tierOn, tierDay, tierIn}
+use Rattle.meaning.specs.declared.Reply.{Reply}
+use Rattle.meaning.specs.Calendar.{realTime, weekdayOf, controlsOf, datesAt, switchesAt, matrixAt, dayColumns, rowWidth, table54Size, latest, datesOf, seasonOn, specialOn, dayColumn, columnOn, missingSpecial, cellAt, switchesOf, tierFrom, tierBySchedule, Found, found, missing, sized, seatsFound, calendarIn, calendar, tierOn, tierDay, tierIn}
+use Rattle.meaning.specs.Numbers.{notADate, noSeason, seasonChangeArmed, noRowOrColumn, notACalendar}
 use Rattle.almanac.proofs.Tests.{both-true}
 use Rattle.almanac.proofs.Matrix.{row-inside, days-most}
 use Rattle.basics.proofs.Bits.{from-bit-0}
@@ -127,18 +128,18 @@ module _ (c : Controls) (s : Sections) (e : s ≡ sectionsOf c) where
 -- 20
 module _ (img a : List ℕ) (p : ImageOffset) (l : ℕ) where
   sized-not : (length a =? 9 && length (part img (p .0) l) =? table54Size (controlsOf (dataOrder img) a)) ≡ false
-      → missing Refusal.NotACalendar ≡ sized (dataOrder img) a (part img (p .0) l)
+      → missing notACalendar ≡ sized (dataOrder img) a (part img (p .0) l)
   unfolding sized
   sized-not h = rw h
 
-  pub not-nine : (length a ≡ 9 → ⊥) → missing Refusal.NotACalendar ≡ sized (dataOrder img) a (part img (p .0) l)
+  pub not-nine : (length a ≡ 9 → ⊥) → missing notACalendar ≡ sized (dataOrder img) a (part img (p .0) l)
   not-nine h = sized-not (rw (ne-eqb (length a) 9 h))
 
   module _ (nine : length a ≡ 9) (o : ℕ) (c : Controls) (s : Sections) (t : List ℕ) (oe : o ≡ dataOrder img) (ce : c ≡ controlsOf o a) (se : s ≡ sectionsOf c) (te : t ≡ part img (p .0) l) where
     size-told : s .size ≡ table54Size (controlsOf (dataOrder img) a)
     size-told = size-is c s se ∙ ap table54Size ce ∙ ap (λ (x : ℕ). table54Size (controlsOf x a)) oe
 
-    pub not-that-size : (length t ≡ s .size → ⊥) → missing Refusal.NotACalendar ≡ sized (dataOrder img) a (part img (p .0) l)
+    pub not-that-size : (length t ≡ s .size → ⊥) → missing notACalendar ≡ sized (dataOrder img) a (part img (p .0) l)
     not-that-size h = sized-not (rw (eq-eqb (length a) 9 nine, ne-eqb _ _ (λ z. h (ap length te ∙ z ∙ sym size-told))))
 
     pub that-size : length t ≡ s .size → found (dataOrder img) c (part img (p .0) l) ≡ sized (dataOrder img) a (part img (p .0) l)
@@ -160,14 +161,14 @@ seats-told img a none c = refl
 seats-told img a (some b) none = refl
 seats-told img a (some b) (some c) = refl
 
-calendar-told : (d img : List ℕ) → Came d img → calendarBy img (tableReply d img 0 51) (tableReply d img 0 54) ≡ calendar d img
-unfolding tableReply tableIn calendar calendarIn
+calendar-told : (d img : List ℕ) → Came d img → calendarBy img (tablePlaceReply d img 0 51) (tablePlaceReply d img 0 54) ≡ calendar d img
+unfolding tablePlaceReply tablePlaceIn calendar calendarIn
 calendar-told d img (refuses r e) = rw e
 calendar-told d img (opens ts es s n o) =
     let t = table-00 d img ts es s n (o .passes) (o .laid) in
     rw (opened-image o, t .found) (seats-told img (t .seat) (tableNamed 0 51 ts) (tableNamed 0 54 ts))
 
-module _ (d img : List ℕ) (a b : Place) (ea : a ≡ tableReply d img 0 51) (eb : b ≡ tableReply d img 0 54) where
+module _ (d img : List ℕ) (a b : Place) (ea : a ≡ tablePlaceReply d img 0 51) (eb : b ≡ tablePlaceReply d img 0 54) where
   by-places : calendarBy img a b ≡ calendar d img
   by-places = rw (ea, eb) (calendar-told d img (came d img))
 
@@ -241,22 +242,22 @@ module _ (o : ℕ) (c : Controls) (t : List ℕ) (z : Sized c t) (s : Sections) 
 
 -- THE TIER
 module _ (o : ℕ) (c : Controls) (t : List ℕ) (q : Quantity) (n m : ℕ) (x : Chosen) (e : x ≡ latest (broughtTo (Wanted.Switch (c .separate) q n m)) (switchesOf o c t)) where
-  pub none-yet : x ≡ Nothing → Tier.NoneYet ≡ tierAt o c t q n m
-  unfolding tierAt tierFrom broughtTo
+  pub none-yet : x ≡ Nothing → Reply.NoneYet ≡ tierBySchedule o c t q n m
+  unfolding tierBySchedule tierFrom broughtTo
   none-yet h = ap tierFrom (sym h ∙ e)
 
-  pub some-tier : (w k : ℕ) → x ≡ Entry w k → Tier.Is k ≡ tierAt o c t q n m
-  unfolding tierAt tierFrom broughtTo
+  pub some-tier : (w k : ℕ) → x ≡ Entry w k → Reply.Tier k ≡ tierBySchedule o c t q n m
+  unfolding tierBySchedule tierFrom broughtTo
   some-tier w k h = ap tierFrom (sym h ∙ e)
 
 -- 17, 19
 module _ (o : ℕ) (c : Controls) (t : List ℕ) (day m : ℕ) (q : Quantity) (x season : Chosen) where
-  pub no-season : season ≡ Nothing → Tier.Refused Refusal.NoSeason ≡ tierOn o c t day m q x season
+  pub no-season : season ≡ Nothing → Reply.Refused noSeason ≡ tierOn o c t day m q x season
   unfolding tierOn
   no-season e = rw e
 
   module _ (w s : ℕ) (e : season ≡ Entry w s) (a b : Bool) (ae : a ≡ missingSpecial c x) (be : b ≡ (c .seasons ≤? s || a)) where
-    pub no-row : b ≡ true → Tier.Refused Refusal.NoRowOrColumn ≡ tierOn o c t day m q x season
+    pub no-row : b ≡ true → Reply.Refused noRowOrColumn ≡ tierOn o c t day m q x season
     unfolding tierOn
     no-row h = rw (e, ← ae, ← be, h)
 
@@ -275,34 +276,34 @@ module _ (o : ℕ) (c : Controls) (t : List ℕ) (day m : ℕ) (q : Quantity) (x
           has-column = subst (λ (k : ℕ). k < rowWidth c) (sym ce) (column-inside c day x (sym ae ∙ has-both h .1));
         }
 
-    pub has-row : b ≡ false → (column schedule : ℕ) (r : Tier) → column ≡ columnOn c day x → schedule ≡ cellAt c t s column → r ≡ tierAt o c t q schedule m
+    pub has-row : b ≡ false → (column schedule : ℕ) (r : Reply) → column ≡ columnOn c day x → schedule ≡ cellAt c t s column → r ≡ tierBySchedule o c t q schedule m
         → r ≡ tierOn o c t day m q x season
     unfolding tierOn
     has-row h column schedule r ce se re = re ∙ rw (e, ← ae, ← be, h, ← ce, se)
 
 -- by the special schedule and the season on the day
-pub day-told : (o : ℕ) (c : Controls) (t : List ℕ) (day m : ℕ) (q : Quantity) (x season : Chosen) (r : Tier) → x ≡ latest (broughtTo (Wanted.Special day)) (datesOf o c t)
+pub day-told : (o : ℕ) (c : Controls) (t : List ℕ) (day m : ℕ) (q : Quantity) (x season : Chosen) (r : Reply) → x ≡ latest (broughtTo (Wanted.Special day)) (datesOf o c t)
     → season ≡ latest (broughtTo (Wanted.Season day)) (datesOf o c t) → r ≡ tierOn o c t day m q x season → r ≡ tierDay o c t day m q
 unfolding tierDay specialOn seasonOn broughtTo
 day-told o c t day m q x season r xe se re = re ∙ ap₂ (λ (y z : Chosen). tierOn o c t day m q y z) xe se
 
 -- 16, 18
 module _ (o : ℕ) (c : Controls) (t : List ℕ) (w : Moment) (q : Quantity) (time : Bool) (time-is : time ≡ realTime (w .hour) (w .minute)) where
-  pub no-time : time ≡ false → Tier.Refused Refusal.NotADate ≡ tierIn w q (found o c t)
+  pub no-time : time ≡ false → Reply.Refused notADate ≡ tierIn w q (found o c t)
   unfolding tierIn
   no-time h = rw (← time-is, h, and-false)
 
   module _ (day : Day) (day-is : day ≡ dayOf (w .year) (w .month) (w .day)) where
-    pub no-date : day ≡ Day.NotReal → Tier.Refused Refusal.NotADate ≡ tierIn w q (found o c t)
+    pub no-date : day ≡ Day.NotReal → Reply.Refused notADate ≡ tierIn w q (found o c t)
     unfolding tierIn
     no-date h = rw (told _ _ _ Day.NotReal (sym day-is ∙ h))
 
     module _ (n : ℕ) (e : day ≡ Day.Number n) (h : time ≡ true) where
-      pub armed-so : c .armed ≡ true → Tier.Refused Refusal.SeasonChangeArmed ≡ tierIn w q (found o c t)
+      pub armed-so : c .armed ≡ true → Reply.Refused seasonChangeArmed ≡ tierIn w q (found o c t)
       unfolding tierIn
       armed-so a = let d = told _ _ _ (Day.Number n) (sym day-is ∙ e) in rw (d .0, ← time-is, h, a)
 
-      pub on-day : c .armed ≡ false → (r : Tier) → r ≡ tierDay o c t n (60 * w .hour + w .minute) q → r ≡ tierIn w q (found o c t)
+      pub on-day : c .armed ≡ false → (r : Reply) → r ≡ tierDay o c t n (60 * w .hour + w .minute) q → r ≡ tierIn w q (found o c t)
       unfolding tierIn
       on-day a r f = let d = told _ _ _ (Day.Number n) (sym day-is ∙ e) in f ∙ rw (d .0, ← time-is, h, a, d .1)
 

@@ -13,7 +13,7 @@ use meaning::Moment;
 use meaning::Place;
 use meaning::Quantity;
 use meaning::Refusal;
-use meaning::Tier;
+use meaning::Reply;
 use meaning::Verdict;
 use offsets::ImageOffset;
 use records::Wanted;
@@ -21,7 +21,7 @@ ghost use mathlib.Core.Path.{_≡_};
 ghost use lib.ListN.{length};
 ghost use Rattle.meaning.specs.Basics.{part};
 ghost use Rattle.meaning.specs.Layout.{dataOrder};
-ghost use Rattle.meaning.specs.Calendar.{controlsOf, datesAt, dayColumns, sized, calendar, dayColumn, columnOn, missingSpecial, cellAt, tierAt, tierOn, tierDay, tierIn, found, tierReply, matrixOf, matrixReply, matrixVerdict};
+ghost use Rattle.meaning.specs.Calendar.{controlsOf, datesAt, dayColumns, sized, calendar, dayColumn, columnOn, missingSpecial, cellAt, tierBySchedule, tierOn, tierDay, tierIn, found, tierReply, matrixOf, matrixReply, matrixVerdict};
 ghost use Rattle.calendar.specs.Sections.{Small, sectionsOf, Sized, Stands, stood, HasCell, HasRow, rowOf};
 
 // The columns of days: Sunday to Saturday; or Saturday, Sunday, weekday.
@@ -112,13 +112,13 @@ fn sized(image: &[u8], table51: &[u8], start: ImageOffset, length: usize) -> Cal
     ensures sized { λ r. ⌜ Stands (now (image .entry)) r ⌝ }
 {
     if table51.len() != 9 {
-        return Calendar::Refused(Refusal::NotACalendar);
+        return Calendar::Refused(Refusal::NOT_A_CALENDAR);
     }
     let controls = controls_of(octets::data_order(image), table51);
     let sections = sections_of(controls);
     let table54 = octets::part(image, start, length);
     if table54.len() != sections.size {
-        return Calendar::Refused(Refusal::NotACalendar);
+        return Calendar::Refused(Refusal::NOT_A_CALENDAR);
     }
     Calendar::At {
         controls,
@@ -198,9 +198,9 @@ fn tier_at(
     quantity: Quantity,
     schedule: u32,
     minute: u32,
-) -> Tier
+) -> Reply
     requires { ⌜ Sized controls (now table) ⌝ }
-    ensures { λ r. ⌜ r ≡ tierAt order controls (now (table .entry)) quantity schedule minute ⌝ }
+    ensures { λ r. ⌜ r ≡ tierBySchedule order controls (now (table .entry)) quantity schedule minute ⌝ }
 {
     let sections = sections_of(controls);
     let wanted = Wanted::Switch {
@@ -213,8 +213,8 @@ fn tier_at(
     let end = sections.matrix;
     let switch = records::latest(order, &table[from..end], wanted);
     match switch {
-        Chosen::Nothing => Tier::NoneYet,
-        Chosen::Entry { when: _, brings } => Tier::Is(brings),
+        Chosen::Nothing => Reply::NoneYet,
+        Chosen::Entry { when: _, brings } => Reply::Tier(brings),
     }
 }
 
@@ -228,16 +228,16 @@ fn tier_on(
     quantity: Quantity,
     special: Chosen,
     season: Chosen,
-) -> Tier
+) -> Reply
     requires { ⌜ Sized controls (now table) ⌝ }
     ensures { λ r. ⌜ r ≡ tierOn order controls (now (table .entry)) day minute quantity special season ⌝ }
 {
     match season {
-        Chosen::Nothing => Tier::Refused(Refusal::NoSeason),
+        Chosen::Nothing => Reply::Refused(Refusal::NO_SEASON),
         Chosen::Entry { when: _, brings } => {
             let row = brings as usize;
             if either(controls.seasons <= row, missing_special(controls, special)) {
-                return Tier::Refused(Refusal::NoRowOrColumn);
+                return Reply::Refused(Refusal::NO_ROW_OR_COLUMN);
             }
             let column = column_on(controls, day, special);
             let schedule = cell_at(controls, table, row, column);
@@ -253,7 +253,7 @@ fn tier_day(
     day: u32,
     minute: u32,
     quantity: Quantity,
-) -> Tier
+) -> Reply
     requires { ⌜ Sized controls (now table) ⌝ }
     ensures { λ r. ⌜ r ≡ tierDay order controls (now (table .entry)) day minute quantity ⌝ }
 {
@@ -276,19 +276,25 @@ fn tier_day(
 }
 
 // 16, then 18.
-fn tier_in(order: u32, controls: Controls, table: &[u8], moment: Moment, quantity: Quantity) -> Tier
+fn tier_in(
+    order: u32,
+    controls: Controls,
+    table: &[u8],
+    moment: Moment,
+    quantity: Quantity,
+) -> Reply
     requires { ⌜ Sized controls (now table) ⌝ }
     ensures { λ r. ⌜ r ≡ tierIn moment quantity (found order controls (now (table .entry))) ⌝ }
 {
     if !dates::is_time(moment.hour, moment.minute) {
-        return Tier::Refused(Refusal::NotADate);
+        return Reply::Refused(Refusal::NOT_A_DATE);
     }
     let day = dates::day_of(moment.year, moment.month, moment.day);
     match day {
-        Day::NotReal => Tier::Refused(Refusal::NotADate),
+        Day::NotReal => Reply::Refused(Refusal::NOT_A_DATE),
         Day::Number(number) => {
             if controls.armed {
-                return Tier::Refused(Refusal::SeasonChangeArmed);
+                return Reply::Refused(Refusal::SEASON_CHANGE_ARMED);
             }
             let minute = 60 * moment.hour + moment.minute;
             tier_day(order, controls, table, number, minute, quantity)
@@ -331,12 +337,12 @@ fn rows_of(controls: Controls, table: &[u8]) -> [[u8; 22]; 15]
 
 // THE PUBLIC CALLS
 // The tier at a date and time, for summations or demands.
-pub fn tier(description: &[u8], image: &[u8], moment: Moment, quantity: Quantity) -> Tier
+pub fn tier(description: &[u8], image: &[u8], moment: Moment, quantity: Quantity) -> Reply
     ensures { λ r. ⌜ r ≡ tierReply (now (description .entry)) (now (image .entry)) moment quantity ⌝ }
 {
     let calendar = calendar_at(description, image);
     match calendar {
-        Calendar::Refused(r) => Tier::Refused(r),
+        Calendar::Refused(r) => Reply::Refused(r),
         Calendar::At {
             controls,
             start,

@@ -9,7 +9,8 @@ use Rattle.meaning.specs.declared.Refusal.{Refusal}
 use Rattle.meaning.specs.declared.Verdict.{Verdict}
 use Rattle.meaning.specs.declared.Place.{Place}
 use Rattle.meaning.specs.Layout.{Placed}
-use Rattle.meaning.specs.Refusals.{placeVerdict, writable, holdsDimension, allowed}
+use Rattle.meaning.specs.Refusals.{placeVerdict, writable, anyDimension, allowed}
+use Rattle.meaning.specs.Numbers.{notWritable, holdsDimension}
 use Rattle.demands.specs.Demand2.{octetsAt}
 
 -- a refusal isn't passed
@@ -20,7 +21,7 @@ refused-not r e = let z : _≡_ {A = ℕ} 0 1 = cc in omega arith
 -- the table is marked writable, and no dimension is found
 pub record Open (d img : List ℕ) (es : List Placed) (t p n : ℕ) : Type 0 where
   pub marked : writable d img t ≡ true
-  pub free : holdsDimension es p n ≡ false
+  pub free : anyDimension es p n ≡ false
 
 module _ (d img : List ℕ) (es : List Placed) (t p n : ℕ) where
   -- there the octets may be written
@@ -31,10 +32,10 @@ module _ (d img : List ℕ) (es : List Placed) (t p n : ℕ) where
   -- and nowhere else
   pub allowed-only : placeVerdict (allowed d img es t p n) ≡ Verdict.Passed → Open d img es t p n
   unfolding allowed
-  allowed-only = go (writable d img t) (holdsDimension es p n) refl refl
+  allowed-only = go (writable d img t) (anyDimension es p n) refl refl
     where
-      go : (a b : Bool) → writable d img t ≡ a → holdsDimension es p n ≡ b
-          → placeVerdict (if not a then Place.Refused Refusal.NotWritable else if b then Place.Refused Refusal.HoldsDimension else octetsAt p n) ≡ Verdict.Passed
+      go : (a b : Bool) → writable d img t ≡ a → anyDimension es p n ≡ b
+          → placeVerdict (if not a then Place.Refused notWritable else if b then Place.Refused holdsDimension else octetsAt p n) ≡ Verdict.Passed
           → Open d img es t p n
       go true false e f h = record { marked = e; free = f }
       go true true e f h = absurd (refused-not _ h)

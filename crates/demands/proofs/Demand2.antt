@@ -5,11 +5,11 @@ use mathlib.Core.Bool.{true}
 use mathlib.Core.List.{List}
 use Rattle.meaning.specs.Basics.{part}
 use Rattle.meaning.specs.declared.ElementName.{ElementName}
-use Rattle.meaning.specs.declared.Number.{Number}
+use Rattle.meaning.specs.declared.Reply.{Reply}
 use Rattle.meaning.specs.declared.Place.{Place}
 use Rattle.meaning.specs.Description.{fieldsAt, isUint}
 use Rattle.meaning.specs.Layout.{numberAt}
-use Rattle.meaning.specs.Refusals.{whereReply, placePart, tableOctets, elementOctets, integerPlace, placeNumber, numberReply}
+use Rattle.meaning.specs.Refusals.{elementPlaceReply, placePart, tablePartReply, elementPartReply, integerPlace, placeNumber, elementNumberReply}
 use Rattle.almanac.proofs.Choices.{season-says, special-says, switch-says}
 use Rattle.almanac.proofs.Matrix.{matrix-says}
 use Rattle.almanac.proofs.NextDay.{days}
@@ -21,13 +21,13 @@ part-told : (img : List ℕ) (x : Place) (p n : ℕ) → x ≡ octetsAt p n → 
 unfolding placePart
 part-told img x p n e = rw e
 
-number-told : (d img : List ℕ) (q : ElementName) (p n : ℕ) → whereReply d img q ≡ octetsAt p n → isUint (fieldsAt d (q .item)) ≡ true
-    → numberReply d img q ≡ Number.Is (numberAt img p n)
-unfolding numberReply integerPlace placeNumber
+number-told : (d img : List ℕ) (q : ElementName) (p n : ℕ) → elementPlaceReply d img q ≡ octetsAt p n → isUint (fieldsAt d (q .item)) ≡ true
+    → elementNumberReply d img q ≡ Reply.Number (numberAt img p n)
+unfolding elementNumberReply integerPlace placeNumber
 number-told d img q p n e u = rw (e, u)
 
 reads : (d img : List ℕ) → Reads d img
-unfolding tableOctets elementOctets
+unfolding tablePartReply elementPartReply
 reads d img = record { table = λ m k p n e. part-told img _ p n e; element = λ q p n e. part-told img _ p n e; number = number-told d img }
 
 calendar : (d img : List ℕ) → Calendar d img

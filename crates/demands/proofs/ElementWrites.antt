@@ -11,7 +11,7 @@ use Rattle.meaning.specs.declared.ElementName.{ElementName}
 use Rattle.meaning.specs.declared.Refusal.{Refusal}
 use Rattle.meaning.specs.declared.Verdict.{Verdict}
 use Rattle.meaning.specs.declared.Place.{Place}
-use Rattle.meaning.specs.declared.Number.{Number}
+use Rattle.meaning.specs.declared.Reply.{Reply}
 use Rattle.meaning.specs.Description.{fieldsAt, isUint}
 use Rattle.meaning.specs.Layout.{Placed, Seat, Slots, dataOrder, numberAt}
 use Rattle.meaning.specs.Passed.{Exactly}
@@ -20,12 +20,12 @@ use Rattle.meaning.specs.Refusals.{
   refused,
   openImage,
   elementIn,
-  elementPlace,
+  placedPlace,
   placePart,
-  elementOctets,
+  elementPartReply,
   integerPlace,
   placeNumber,
-  numberReply,
+  elementNumberReply,
   placeVerdict,
   tableAround,
   fitting,
@@ -39,6 +39,7 @@ use Rattle.meaning.specs.Refusals.{
 }
 use Rattle.meaning.proofs.Octets.{octets-long, octets-back}
 use Rattle.meaning.proofs.Passed.{passed-laws}
+use Rattle.meaning.specs.Numbers.{noElement, wrongSize}
 use Rattle.demands.specs.Demand2.{octetsAt, ElementGood, NumberGood, OctetsWrites, NumberWrites}
 use Rattle.demands.specs.Demand3.{StaysPut}
 use Rattle.laying.proofs.Opened.{Came, opens, refuses, came, opened-image, where-laid, where-opens, placeStart, placeLength}
@@ -57,7 +58,7 @@ record Write (d img : List ℕ) (q : ElementName) (w : Place) (Fits : ℕ → Ty
   sorted : Place → Place
   sorted-exactly : (v : Place) (p n : ℕ) → Exactly (sorted v ≡ octetsAt p n) (Sort × (v ≡ octetsAt p n))
   of-opened : (ts : List Seat) (es : List Placed) (s : Slots) (total : ℕ) → openImage d img ≡ opened ts es s total
-      → w ≡ fitting fits (allowedAt d img q es (sorted (elementPlace (elementIn q es))))
+      → w ≡ fitting fits (allowedAt d img q es (sorted (placedPlace (elementIn q es))))
   of-refused : (r : Refusal) → openImage d img ≡ refused r → w ≡ Place.Refused r
 
 -- what fits a place is accepted only where the place is
@@ -71,7 +72,7 @@ fits-only : (fits : ℕ → Bool) (p n : ℕ) → placeVerdict (fitting fits (oc
 unfolding fitting
 fits-only fits p n = go (fits n) refl
   where
-    go : (b : Bool) → fits n ≡ b → placeVerdict (if b then octetsAt p n else Place.Refused Refusal.WrongSize) ≡ Verdict.Passed → fits n ≡ true
+    go : (b : Bool) → fits n ≡ b → placeVerdict (if b then octetsAt p n else Place.Refused wrongSize) ≡ Verdict.Passed → fits n ≡ true
     go true e h = e
     go false e h = absurd (refused-not _ h)
 
@@ -106,8 +107,8 @@ module _ {d img : List ℕ} {q : ElementName} {w : Place} {Fits : ℕ → Type 0
     where
       go : Came d img → Sort × ElementGood d img q Fits
       go (opens ts es s total h) =
-          let r = admits-only d img q es (k .fits) (k .sorted (elementPlace (elementIn q es))) (rw (k .of-opened ts es s total (opened-image h)) at v) in
-          let c = k .sorted-exactly (elementPlace (elementIn q es)) (r .start) (r .size) .0 (r .is) in
+          let r = admits-only d img q es (k .fits) (k .sorted (placedPlace (elementIn q es))) (rw (k .of-opened ts es s total (opened-image h)) at v) in
+          let c = k .sorted-exactly (placedPlace (elementIn q es)) (r .start) (r .size) .0 (r .is) in
           let there = where-laid h q ∙ c .1 in (
             c .0,
             record {
@@ -126,7 +127,7 @@ module _ {d img : List ℕ} {q : ElementName} {w : Place} {Fits : ℕ → Type 0
   element-taken data′ sort g long =
       let a = where-opens d img q (g .start) (g .size) (g .exists) in
       let h = a .opens in
-      let v = elementPlace (elementIn q (a .elements)) in
+      let v = placedPlace (elementIn q (a .elements)) in
       let there = k .sorted-exactly v (g .start) (g .size) .1 (sort, sym (where-laid h q) ∙ g .exists) in
       let free = none-found h (g .start) (g .size) (g .free) in
       let marked = round-writable (passed-laws d (h .passes)) img (element-own a) (g .allowed) in
@@ -176,7 +177,7 @@ module _ (d img : List ℕ) (q : ElementName) (new : List ℕ) where
 
   -- every clause
   pub octets-writes : OctetsWrites d img q new
-  unfolding writeOctetsReply writeOctetsImage elementOctets placePart
+  unfolding writeOctetsReply writeOctetsImage elementPartReply placePart
   octets-writes =
       record {
         accepted = (λ v. element-good octets-write v .1, λ g. taken-passed (octets-taken g));
@@ -206,7 +207,7 @@ module _ (d img : List ℕ) (q : ElementName) (x : ℕ) where
   unfolding integerPlace
   integer-exactly (Place.At s l) p n = (go (isUint (fieldsAt d (q .item))) refl, λ c. rw (c .0) (c .1))
     where
-      go : (b : Bool) → isUint (fieldsAt d (q .item)) ≡ b → (if b then Place.At s l else Place.Refused Refusal.NoElement) ≡ octetsAt p n
+      go : (b : Bool) → isUint (fieldsAt d (q .item)) ≡ b → (if b then Place.At s l else Place.Refused noElement) ≡ octetsAt p n
           → Integer × (Place.At s l ≡ octetsAt p n)
       go true e h = (e, h)
       go false e h = let z : _≡_ {A = ℕ} 0 1 = cc in absurd (omega arith)
@@ -241,12 +242,12 @@ module _ (d img : List ℕ) (q : ElementName) (x : ℕ) where
       (λ v. let g = element-good number-write v in (g .1 .start, g .1 .size, number-taken g)))
 
   -- its octets make the number again
-  number-back : (g : NumberGood d img q x) → numberReply d (after (number-taken g)) q ≡ Number.Is x
-  unfolding numberReply integerPlace placeNumber numberAt
+  number-back : (g : NumberGood d img q x) → elementNumberReply d (after (number-taken g)) q ≡ Reply.Number x
+  unfolding elementNumberReply integerPlace placeNumber numberAt
   number-back g =
       let t = number-taken g in
       rw (taken-stays t .elements q, g .1 .exists, g .0, taken-order t, taken-there t)
-      (ap Number.Is (octets-back (dataOrder img) (g .1 .size) x (g .1 .fits)))
+      (ap Reply.Number (octets-back (dataOrder img) (g .1 .size) x (g .1 .fits)))
 
   -- every clause
   pub number-writes : NumberWrites d img q x

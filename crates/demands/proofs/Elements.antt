@@ -8,10 +8,10 @@ use borrow.Author.Tests.{le-leb}
 use native.Mathlib.Decide.{decLt}
 use native.Mathlib.Omega.{arith}
 use Rattle.meaning.specs.declared.ElementName.{ElementName}
-use Rattle.meaning.specs.declared.Total.{Total}
+use Rattle.meaning.specs.declared.Reply.{Reply}
 use Rattle.meaning.specs.declared.Place.{Place}
 use Rattle.meaning.specs.Layout.{Placed, Seat, Slots}
-use Rattle.meaning.specs.Refusals.{totalReply, elementIn, elementPlace, whereReply}
+use Rattle.meaning.specs.Refusals.{layoutReply, elementIn, placedPlace, elementPlaceReply}
 use Rattle.laying.specs.Cover.{hits}
 use Rattle.laying.proofs.Cover.{exactly-one as octets-once, held-inside}
 use Rattle.laying.proofs.Names.{names-found, subscripts-few}
@@ -64,8 +64,8 @@ module _ {d img : List ℕ} {ts : List Seat} {es : List Placed} {s : Slots} {tot
       }
 
   -- an element is found by its name
-  pub told : (e : Placed) → Among e es → whereReply d img (nameOf e) ≡ Place.At (record { 0 = e .start }) (e .size)
-  unfolding elementIn elementPlace
+  pub told : (e : Placed) → Among e es → elementPlaceReply d img (nameOf e) ≡ Place.At (record { 0 = e .start }) (e .size)
+  unfolding elementIn placedPlace
   told e m =
       let few = every-among _ e es (subscripts-few d img ts es s total (o .laid)) m in
       let found = every-among _ e es (names-found d img ts es s total (o .laid)) m in
@@ -98,7 +98,7 @@ module _ {d img : List ℕ} {ts : List Seat} {es : List Placed} {s : Slots} {tot
       omega (arith, hits-among x (f .element) es (f .among) (f .hit), hit-once x .1 l)
 
 -- laid out, every octet below the total lies in exactly one element
-pub exactly-one : (d img : List ℕ) (total : ℕ) → totalReply d img ≡ Total.Octets total → ExactlyOne d img total
+pub exactly-one : (d img : List ℕ) (total : ℕ) → layoutReply d img ≡ Reply.Total total → ExactlyOne d img total
 exactly-one d img total e =
     let o = total-opens d img total e .opens in
     record { below = λ x l. one-element o x (hit-once o x .0 l); past = none-past o }

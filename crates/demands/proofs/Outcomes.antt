@@ -5,11 +5,11 @@ use mathlib.Core.Path.{_≡_, refl, _∙_, ap, sym, subst}
 use mathlib.Core.Logic.{inl, inr}
 use mathlib.Core.List.{List, [], _∷_}
 use native.Mathlib.Omega.{arith}
-use Rattle.meaning.specs.declared.Refusal.{Refusal}
-use Rattle.meaning.specs.declared.Total.{Total}
-use Rattle.meaning.specs.Layout.{Placed, Seat, Slots, unreadDimension, bitOutside, unequalElements, short, noItem, Layout, laidOut, stoppedAt, layout}
-use Rattle.meaning.specs.Refusals.{reported, totalValues, stopRefusal, openLaid, totalIn, totalReply}
-use Rattle.meaning.proofs.Passed.{soundness-says}
+use Rattle.meaning.specs.declared.Reply.{Reply}
+use Rattle.meaning.specs.Layout.{Placed, Seat, Slots, unreadDimension, bitOutside, unequalElements, short, noItem, Layout, laidOut, stoppedAt, layOut}
+use Rattle.meaning.specs.Refusals.{toldBy, stopRefusal, openLaid, layoutIn, layoutReply}
+use Rattle.meaning.proofs.Passed.{check-says}
+use Rattle.meaning.specs.Numbers.{imageShort}
 use Rattle.laying.specs.Outcomes.{Lays}
 use Rattle.laying.proofs.Lays.{passed-lays, short-runs-past}
 use Rattle.laying.proofs.Cover.{stopped-covers}
@@ -19,7 +19,7 @@ use Rattle.laying.proofs.Opened.{open-laid, total-opens}
 
 -- a description is passed exactly when it meets the rules
 pub passed-exactly : (d : List ℕ) → PassedExactly d
-passed-exactly d = soundness-says d .passed
+passed-exactly d = check-says d .passed
 
 -- a passed description never meets what it must not meet
 pub none-met : (d img : List ℕ) → Passed d img → NoneMet d img
@@ -34,15 +34,15 @@ none-met d img p =
 
 -- laying out of a passed description ends in one of two ways
 data Ends (d img : List ℕ) : Type 0 where
-  whole : (ts : List Seat) (es : List Placed) (s : Slots) (n : ℕ) → layout d img ≡ laidOut ts es s n → Ends d img
-  cut : (es : List Placed) (i p : ℕ) → layout d img ≡ stoppedAt es (short i p) → Ends d img
+  whole : (ts : List Seat) (es : List Placed) (s : Slots) (n : ℕ) → layOut d img ≡ laidOut ts es s n → Ends d img
+  cut : (es : List Placed) (i p : ℕ) → layOut d img ≡ stoppedAt es (short i p) → Ends d img
 
 -- and in no other
 ends : (d img : List ℕ) → Passed d img → Ends d img
 unfolding Lays
-ends d img p = go (layout d img) refl (passed-lays d img (p .passes))
+ends d img p = go (layOut d img) refl (passed-lays d img (p .passes))
   where
-    go : (o : Layout) → layout d img ≡ o → Lays o → Ends d img
+    go : (o : Layout) → layOut d img ≡ o → Lays o → Ends d img
     go (laidOut ts es s n) e h = whole ts es s n e
     go (stoppedAt es (unreadDimension i)) e h = absurd h
     go (stoppedAt es (bitOutside i)) e h = absurd h
@@ -53,14 +53,14 @@ ends d img p = go (layout d img) refl (passed-lays d img (p .passes))
 -- EACH HAS ITS REPLY
 module _ (d img : List ℕ) (p : Passed d img) where
   -- laid out, the total
-  laid-total : (ts : List Seat) (es : List Placed) (s : Slots) (n : ℕ) → layout d img ≡ laidOut ts es s n → totalReply d img ≡ Total.Octets n
-  unfolding totalReply totalIn openLaid
+  laid-total : (ts : List Seat) (es : List Placed) (s : Slots) (n : ℕ) → layOut d img ≡ laidOut ts es s n → layoutReply d img ≡ Reply.Total n
+  unfolding layoutReply layoutIn openLaid
   laid-total ts es s n e = rw (open-laid d img (p .passes) (p .allowed), e)
 
   -- short, the item and its octet
-  short-total : (es : List Placed) (i q : ℕ) → layout d img ≡ stoppedAt es (short i q)
-      → totalReply d img ≡ Total.Refused (Refusal.ImageShort i (record { 0 = q }))
-  unfolding totalReply totalIn openLaid stopRefusal
+  short-total : (es : List Placed) (i q : ℕ) → layOut d img ≡ stoppedAt es (short i q)
+      → layoutReply d img ≡ Reply.Refused (imageShort i q)
+  unfolding layoutReply layoutIn openLaid stopRefusal
   short-total es i q e = rw (open-laid d img (p .passes) (p .allowed), e)
 
 -- it lays out, or is refused as short
@@ -72,22 +72,20 @@ lays-or-short d img p = go (ends d img p)
     go (cut es i q e) = inr (record { item = i; octet = q; reply = short-total d img p es i q e })
 
 -- a short reply tells its item and octet
-short-told : (i j p q : ℕ) → Total.Refused (Refusal.ImageShort i (record { 0 = p })) ≡ Total.Refused (Refusal.ImageShort j (record { 0 = q })) → (i ≡ j) × (p ≡ q)
-unfolding totalValues reported
-short-told i j p q e =
-    let v : 9 ∷ i ∷ p ∷ 0 ∷ [] ≡ 9 ∷ j ∷ q ∷ 0 ∷ [] = ap totalValues e in
-    (cc, cc)
+short-told : (i j p q : ℕ) → Reply.Refused (imageShort i p) ≡ Reply.Refused (imageShort j q) → (i ≡ j) × (p ≡ q)
+unfolding toldBy
+short-told i j p q e = (ap (λ r. toldBy r .refusal .item) e, ap (λ r. toldBy r .refusal .octet) e)
 
 -- short exactly where the walk first runs past the end
 pub short-exactly : (d img : List ℕ) → Passed d img → ShortExactly d img
 short-exactly d img p i q = ((λ e. go e (ends d img p)), λ f. short-total d img p (f .before) i q (f .walked))
   where
-    first : (es : List Placed) (j r : ℕ) → layout d img ≡ stoppedAt es (short j r) → FirstPast d img j r
+    first : (es : List Placed) (j r : ℕ) → layOut d img ≡ stoppedAt es (short j r) → FirstPast d img j r
     first es j r e =
         let c = stopped-covers d img es j r e in
         record { before = es; walked = e; inside = c .0; filled = c .1; past = short-runs-past d img (p .passes) es j r e }
 
-    go : totalReply d img ≡ Total.Refused (Refusal.ImageShort i (record { 0 = q })) → Ends d img → FirstPast d img i q
+    go : layoutReply d img ≡ Reply.Refused (imageShort i q) → Ends d img → FirstPast d img i q
     go e (whole ts es s n h) =
         let g = laid-total d img p ts es s n h in
         let z : _≡_ {A = ℕ} 0 1 = cc in absurd (omega arith)

@@ -9,13 +9,13 @@ use borrow.Author.Tests.{ltb-false, le-ltb}
 use native.Mathlib.Omega.{arith}
 use Rattle.offsets.specs.declared.TableOffset.{TableOffset}
 use Rattle.meaning.specs.Basics.{if_then_else_, _<?_}
-use Rattle.meaning.specs.declared.Refusal.{Refusal}
 use Rattle.meaning.specs.declared.Verdict.{Verdict}
 use Rattle.meaning.specs.declared.Place.{Place}
 use Rattle.meaning.specs.Layout.{Placed, Seat, Slots, tableNamed}
-use Rattle.meaning.specs.Refusals.{seatPlace, placePart, tableOctets, placeVerdict, allowed, rangeOf, rangeIn, rangePlace, writeRangeReply, writeRangeImage}
+use Rattle.meaning.specs.Refusals.{seatPlace, placePart, tablePartReply, placeVerdict, allowed, rangeOf, rangeIn, rangePlace, writeRangeReply, writeRangeImage}
 use Rattle.meaning.proofs.Passed.{passed-laws}
 use Rattle.meaning.proofs.Splices.{part-part}
+use Rattle.meaning.specs.Numbers.{outsideTable}
 use Rattle.demands.specs.Demand2.{RangeGood, RangeWrites}
 use Rattle.demands.specs.Demand3.{StaysPut}
 use Rattle.laying.proofs.Opened.{Opens, Came, opens, refuses, came, opened-image, table-laid, table-opens, placeStart}
@@ -41,7 +41,7 @@ module _ (d img : List ℕ) (m k : ℕ) (o : TableOffset) (n : ℕ) where
     seat-good t e = go (t .size <? o .0 + n) refl
       where
         go : (b : Bool) → (t .size <? o .0 + n) ≡ b
-            → placeVerdict (if b then Place.Refused Refusal.OutsideTable else allowed d img es (t .item) (t .start + o .0) n) ≡ Verdict.Passed
+            → placeVerdict (if b then Place.Refused outsideTable else allowed d img es (t .item) (t .start + o .0) n) ≡ Verdict.Passed
             → RangeGood d img m k (o .0) n
         go true g v = absurd (refused-not _ v)
         go false g v =
@@ -112,7 +112,7 @@ module _ (d img : List ℕ) (m k : ℕ) (o : TableOffset) (new : List ℕ) where
 
   -- every clause
   pub range-writes : RangeWrites d img m k o new
-  unfolding writeRangeReply writeRangeImage tableOctets placePart
+  unfolding writeRangeReply writeRangeImage tablePartReply placePart
   range-writes =
       record {
         accepted = (range-good d img m k o (length new), λ g. taken-passed (taken g));

@@ -8,7 +8,7 @@ use borrow.Author.Tests.{eqb-true, eq-eqb}
 use native.Mathlib.Decide.{decLt}
 use native.Mathlib.Omega.{arith}
 use Rattle.meaning.specs.Basics.{if_then_else_, _=?_}
-use Rattle.meaning.specs.declared.Total.{Total}
+use Rattle.meaning.specs.declared.Reply.{Reply}
 use Rattle.meaning.specs.Description.{itemCount, itemAt, fieldsAt, isTable, inside, round}
 use Rattle.meaning.specs.Layout.{
   bodyAt,
@@ -27,12 +27,12 @@ use Rattle.meaning.specs.Layout.{
   before,
   seated,
   layTables,
-  layout,
+  layOut,
   layBody,
   tableNamed,
 }
 use Rattle.meaning.specs.Passed.{PassedLaws, endOf}
-use Rattle.meaning.specs.Refusals.{totalReply, seatPlace}
+use Rattle.meaning.specs.Refusals.{layoutReply, seatPlace}
 use Rattle.meaning.proofs.Rules.{beyond, in-first, in-second}
 use Rattle.meaning.proofs.Nesting.{upward}
 use Rattle.meaning.proofs.Passed.{passed-laws}
@@ -186,7 +186,7 @@ module _ {d img : List ℕ} {ts : List Seat} {es : List Placed} {s : Slots} {tot
 
   -- the tables are the TABLEs of the description
   seats : (itemsOf ts ≡ tablesFrom d (itemCount d) 0) × Every (SeatIn d 0) ts × Order ts
-  unfolding Seats layout treeOf
+  unfolding Seats layOut treeOf
   seats =
       subst (Seats d 0 (tablesFrom d (itemCount d) 0)) (o .laid)
       (s-tables laws (itemCount d + 1) 0 (itemCount d) (omega arith) (omega arith) (whole-run d) img _ 0)
@@ -203,7 +203,7 @@ module _ {d img : List ℕ} {ts : List Seat} {es : List Placed} {s : Slots} {tot
       (λ t h e. record { reply = table-laid o _ _ ∙ ap seatPlace (rw (h .manufacturer, h .number) at e) }) ts (seats .1) (found laws 0 ts (seats .1) (seats .2))
 
 -- laid out, the tables follow one another up to the total
-pub tables-follow : (d img : List ℕ) (total : ℕ) → totalReply d img ≡ Total.Octets total → TablesFollow d img total
+pub tables-follow : (d img : List ℕ) (total : ℕ) → layoutReply d img ≡ Reply.Total total → TablesFollow d img total
 tables-follow d img total e =
     let t = total-opens d img total e in
     let o = t .opens in

@@ -11,11 +11,11 @@ use native.Mathlib.Omega.{arith}
 use Rattle.meaning.specs.Basics.{part, splice, bits, octetsIn}
 use Rattle.meaning.specs.declared.Verdict.{Verdict}
 use Rattle.meaning.specs.declared.Place.{Place}
-use Rattle.meaning.specs.Layout.{Placed, Seat, Slots, layout, dataOrder, numberAt}
-use Rattle.meaning.specs.Refusals.{holdsDimension, placeVerdict, imageWith, imageWithNumber}
+use Rattle.meaning.specs.Layout.{Placed, Seat, Slots, layOut, dataOrder, numberAt}
+use Rattle.meaning.specs.Refusals.{anyDimension, placeVerdict, imageWith, imageWithNumber}
 use Rattle.meaning.proofs.Splices.{part-same, splice-long, splice-there, splice-others}
 use Rattle.laying.specs.Every.{Every}
-use Rattle.laying.specs.Kept.{SameNumber, Undisturbed, elementsOf}
+use Rattle.laying.specs.Kept.{SameNumber, Undisturbed, elementsReached}
 use Rattle.laying.proofs.Every.{every-map}
 use Rattle.laying.proofs.Cover.{total-inside}
 use Rattle.laying.proofs.First.{Ordered, first-ordered}
@@ -62,7 +62,7 @@ pub record Taken (d img : List ℕ) (w : Place) (data′ : ℕ → List ℕ) (p 
   pub is : w ≡ octetsAt p n
   pub long : length (data′ n) ≡ n
   pub inside : p + n ≤ total
-  pub free : holdsDimension elements p n ≡ false
+  pub free : anyDimension elements p n ≡ false
 
 -- the image afterwards: data that the place's length decides, in that place
 unfoldable pub writtenWith : (image : List ℕ) → (ℕ → List ℕ) → Place → List ℕ
@@ -121,10 +121,10 @@ module _ {d img : List ℕ} {w : Place} {data′ : ℕ → List ℕ} {p n : ℕ}
   taken-order = order-same taken-others (t .elements) ordered each-free
 
   -- and the image is laid out as before
-  laid-after : layout d after ≡ layout d img
+  laid-after : layOut d after ≡ layOut d img
   laid-after =
       layout-kept d img after (t .opens .passes) (taken-others .long)
-      (subst (λ o. Undisturbed img after (elementsOf o)) (sym (t .opens .laid)) (undisturbed taken-others (t .elements) ordered each-free))
+      (subst (λ o. Undisturbed img after (elementsReached o)) (sym (t .opens .laid)) (undisturbed taken-others (t .elements) ordered each-free))
 
   -- to the same tables and elements
   opens-after : Opens d after (t .seats) (t .elements) (t .slots) (t .total)

@@ -4,13 +4,13 @@ use mathlib.Core.Path.{_≡_, refl, sym, _∙_, ap}
 use mathlib.Core.List.{[], _∷_, _++_}
 use native.Mathlib.Omega.{arith}
 use Rattle.meaning.specs.declared.ElementName.{ElementName}
-use Rattle.meaning.specs.declared.Refusal.{Refusal}
 use Rattle.meaning.specs.declared.Verdict.{Verdict}
-use Rattle.meaning.specs.declared.Total.{Total}
+use Rattle.meaning.specs.declared.Reply.{Reply}
 use Rattle.meaning.specs.Examples.{D, D-writable, first, second, plain, at, offset}
-use Rattle.meaning.specs.Refusals.{totalReply, tableReply, whereReply, writeRangeReply, writeRangeImage, writeOctetsReply, writeOctetsImage}
+use Rattle.meaning.specs.Refusals.{layoutReply, tablePlaceReply, elementPlaceReply, writeRangeReply, writeRangeImage, writeOctetsReply, writeOctetsImage}
 use Rattle.meaning.specs.Refusals.{writeNumberReply, writeNumberImage}
 use Rattle.meaning.proofs.Computing.{computing}
+use Rattle.meaning.specs.Numbers.{holdsDimension}
 use Rattle.demands.specs.Demand2.{octetsAt}
 use Rattle.demands.specs.Demand3.{Holds, SameName}
 use Rattle.demands.specs.Wrong.{WrongPrograms}
@@ -18,41 +18,41 @@ use Rattle.laying.proofs.Opened.{placeStart, placeLength}
 use Rattle.demands.proofs.Elements.{exactly-one}
 
 -- THE REPLIES, COMPUTED
-first-total : totalReply D first ≡ Total.Octets 8
+first-total : layoutReply D first ≡ Reply.Total 8
 unfolding computing
 first-total = refl
 
-second-total : totalReply D second ≡ Total.Octets 6
+second-total : layoutReply D second ≡ Reply.Total 6
 unfolding computing
 second-total = refl
 
-first-table : tableReply D first 0 5 ≡ octetsAt 2 6
+first-table : tablePlaceReply D first 0 5 ≡ octetsAt 2 6
 unfolding computing
 first-table = refl
 
-second-table : tableReply D second 0 5 ≡ octetsAt 2 4
+second-table : tablePlaceReply D second 0 5 ≡ octetsAt 2 4
 unfolding computing
 second-table = refl
 
-block-there : whereReply D first (plain 5) ≡ octetsAt 2 2
+block-there : elementPlaceReply D first (plain 5) ≡ octetsAt 2 2
 unfolding computing
 block-there = refl
 
-number0-there : whereReply D first (at 7 0) ≡ octetsAt 4 2
+number0-there : elementPlaceReply D first (at 7 0) ≡ octetsAt 4 2
 unfolding computing
 number0-there = refl
 
-number1-there : whereReply D first (at 7 1) ≡ octetsAt 6 2
+number1-there : elementPlaceReply D first (at 7 1) ≡ octetsAt 6 2
 unfolding computing
 number1-there = refl
 
 -- one octet more
-longer-total : (x : ℕ) → totalReply D (first ++ x ∷ []) ≡ Total.Octets 8
+longer-total : (x : ℕ) → layoutReply D (first ++ x ∷ []) ≡ Reply.Total 8
 unfolding computing
 longer-total x = refl
 
 -- six octets of zero, of which only the first two are a table's
-zeros-total : totalReply D (0 ∷ 0 ∷ 0 ∷ 0 ∷ 0 ∷ 0 ∷ []) ≡ Total.Octets 2
+zeros-total : layoutReply D (0 ∷ 0 ∷ 0 ∷ 0 ∷ 0 ∷ 0 ∷ []) ≡ Reply.Total 2
 unfolding computing
 zeros-total = refl
 
@@ -71,15 +71,15 @@ unfolding computing
 number-written = refl
 
 -- a dimension of a writable table
-range-dimension : (x : ℕ) → writeRangeReply D-writable first 0 0 (offset 1) (x ∷ []) ≡ Verdict.Refused Refusal.HoldsDimension
+range-dimension : (x : ℕ) → writeRangeReply D-writable first 0 0 (offset 1) (x ∷ []) ≡ Verdict.Refused holdsDimension
 unfolding computing
 range-dimension x = refl
 
-octets-dimension : (x : ℕ) → writeOctetsReply D-writable first (plain 2) (x ∷ []) ≡ Verdict.Refused Refusal.HoldsDimension
+octets-dimension : (x : ℕ) → writeOctetsReply D-writable first (plain 2) (x ∷ []) ≡ Verdict.Refused holdsDimension
 unfolding computing
 octets-dimension x = refl
 
-number-dimension : (x : ℕ) → writeNumberReply D-writable first (plain 2) x ≡ Verdict.Refused Refusal.HoldsDimension
+number-dimension : (x : ℕ) → writeNumberReply D-writable first (plain 2) x ≡ Verdict.Refused holdsDimension
 unfolding computing
 number-dimension x = refl
 
@@ -101,7 +101,7 @@ between q x y z a b h g =
     record { start = h .start; size = h .size; reply = h .reply; from = omega arith; to = omega arith }
 
 -- the element of that name holds octet x, by its place
-holds : (q : ElementName) (p n x : ℕ) → whereReply D first q ≡ octetsAt p n → p ≤ x → x < p + n → Holds D first q x
+holds : (q : ElementName) (p n x : ℕ) → elementPlaceReply D first q ≡ octetsAt p n → p ≤ x → x < p + n → Holds D first q x
 holds q p n x e a b = record { start = p; size = n; reply = e; from = a; to = b }
 
 -- octets 3 and 4 lie in different elements, as do 5 and 6

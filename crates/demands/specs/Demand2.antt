@@ -2,7 +2,7 @@
 -- exactly when its table or element exists, its range, length or number fits, the table is writable and no dimension octet is touched. Afterwards reading that
 -- place gives what was written, and every other octet is the same."
 -- Each clause is one named statement over the replies: `writeRangeReply`, `writeOctetsReply` and `writeNumberReply` are the replies of the three writes,
--- `write..Image` the image afterwards, `tableReply` and `whereReply` say where a table or an element is, `tableOctets`, `elementOctets` and `numberReply` what
+-- `write..Image` the image afterwards, `tablePlaceReply` and `elementPlaceReply` say where a table or an element is, `tablePartReply`, `elementPartReply` and `elementNumberReply` what
 -- is read there (crate meaning, specs/Refusals). The public calls are proved to give these, for every input. A table or an element exists only over a passed
 -- description and an image that lays out, so the statements need not assume them. proofs/Demand2.antt proves every statement here, for every description and image.
 use Prim.Native.Nat.{ℕ, _+_, _^_, _<_, _≤_}
@@ -19,11 +19,11 @@ use Rattle.meaning.specs.declared.Refusal.{Refusal}
 use Rattle.meaning.specs.declared.Triple.{Triple}
 use Rattle.meaning.specs.declared.Verdict.{Verdict}
 use Rattle.meaning.specs.declared.Place.{Place}
-use Rattle.meaning.specs.declared.Number.{Number}
+use Rattle.meaning.specs.declared.Reply.{Reply}
 use Rattle.meaning.specs.Description.{itemCount, fieldsAt, isTable, isUint, isDimension, isTableNamed}
 use Rattle.meaning.specs.Passed.{Exactly}
 use Rattle.meaning.specs.Layout.{numberAt}
-use Rattle.meaning.specs.Refusals.{tableReply, whereReply, tableOctets, elementOctets, numberReply, writable, writeRangeReply, writeRangeImage, writeOctetsReply, writeOctetsImage, writeNumberReply, writeNumberImage}
+use Rattle.meaning.specs.Refusals.{tablePlaceReply, elementPlaceReply, tablePartReply, elementPartReply, elementNumberReply, writable, writeRangeReply, writeRangeImage, writeOctetsReply, writeOctetsImage, writeNumberReply, writeNumberImage}
 use Rattle.almanac.specs.Choices.{SeasonSays, SpecialSays, SwitchSays}
 use Rattle.almanac.specs.Days.{Days}
 use Rattle.almanac.specs.Matrix.{MatrixSays}
@@ -56,7 +56,7 @@ pub record RoundWritable (d img : List ℕ) (j : ℕ) : Type 0 where
 pub record RangeGood (d img : List ℕ) (m k o n : ℕ) : Type 0 where
   pub start : ℕ
   pub size : ℕ
-  pub exists : tableReply d img m k ≡ octetsAt start size
+  pub exists : tablePlaceReply d img m k ≡ octetsAt start size
   pub fits : o + n ≤ size
   pub allowed : TableWritable d img m k
   pub free : NoDimension d img (start + o) n
@@ -65,7 +65,7 @@ pub record RangeGood (d img : List ℕ) (m k o n : ℕ) : Type 0 where
 pub record ElementGood (d img : List ℕ) (q : ElementName) (Fits : ℕ → Type 0) : Type 0 where
   pub start : ℕ
   pub size : ℕ
-  pub exists : whereReply d img q ≡ octetsAt start size
+  pub exists : elementPlaceReply d img q ≡ octetsAt start size
   pub fits : Fits size
   pub allowed : RoundWritable d img (q .item)
   pub free : NoDimension d img start size
@@ -90,29 +90,29 @@ Unchanged v img later = (r : Refusal) → v ≡ Verdict.Refused r → later ≡ 
 -- WRITE A RANGE OF A TABLE
 pub record RangeWrites (d img : List ℕ) (m k : ℕ) (o : TableOffset) (new : List ℕ) : Type 0 where
   pub accepted : Exactly (writeRangeReply d img m k o new ≡ Verdict.Passed) (RangeGood d img m k (o .0) (length new))
-  pub readBack : writeRangeReply d img m k o new ≡ Verdict.Passed → part (tableOctets d (writeRangeImage d img m k o new) m k) (o .0) (length new) ≡ new
-  pub others : (p n : ℕ) → writeRangeReply d img m k o new ≡ Verdict.Passed → tableReply d img m k ≡ octetsAt p n → OthersSame img (writeRangeImage d img m k o new) (p + o .0) (length new)
+  pub readBack : writeRangeReply d img m k o new ≡ Verdict.Passed → part (tablePartReply d (writeRangeImage d img m k o new) m k) (o .0) (length new) ≡ new
+  pub others : (p n : ℕ) → writeRangeReply d img m k o new ≡ Verdict.Passed → tablePlaceReply d img m k ≡ octetsAt p n → OthersSame img (writeRangeImage d img m k o new) (p + o .0) (length new)
   pub unchanged : Unchanged (writeRangeReply d img m k o new) img (writeRangeImage d img m k o new)
 
 -- WRITE AN ELEMENT'S OCTETS
 pub record OctetsWrites (d img : List ℕ) (q : ElementName) (new : List ℕ) : Type 0 where
   pub accepted : Exactly (writeOctetsReply d img q new ≡ Verdict.Passed) (OctetsGood d img q (length new))
-  pub readBack : writeOctetsReply d img q new ≡ Verdict.Passed → elementOctets d (writeOctetsImage d img q new) q ≡ new
-  pub others : (p n : ℕ) → writeOctetsReply d img q new ≡ Verdict.Passed → whereReply d img q ≡ octetsAt p n → OthersSame img (writeOctetsImage d img q new) p n
+  pub readBack : writeOctetsReply d img q new ≡ Verdict.Passed → elementPartReply d (writeOctetsImage d img q new) q ≡ new
+  pub others : (p n : ℕ) → writeOctetsReply d img q new ≡ Verdict.Passed → elementPlaceReply d img q ≡ octetsAt p n → OthersSame img (writeOctetsImage d img q new) p n
   pub unchanged : Unchanged (writeOctetsReply d img q new) img (writeOctetsImage d img q new)
 
 -- WRITE AN ELEMENT'S NUMBER
 pub record NumberWrites (d img : List ℕ) (q : ElementName) (x : ℕ) : Type 0 where
   pub accepted : Exactly (writeNumberReply d img q x ≡ Verdict.Passed) (NumberGood d img q x)
-  pub readBack : writeNumberReply d img q x ≡ Verdict.Passed → numberReply d (writeNumberImage d img q x) q ≡ Number.Is x
-  pub others : (p n : ℕ) → writeNumberReply d img q x ≡ Verdict.Passed → whereReply d img q ≡ octetsAt p n → OthersSame img (writeNumberImage d img q x) p n
+  pub readBack : writeNumberReply d img q x ≡ Verdict.Passed → elementNumberReply d (writeNumberImage d img q x) q ≡ Reply.Number x
+  pub others : (p n : ℕ) → writeNumberReply d img q x ≡ Verdict.Passed → elementPlaceReply d img q ≡ octetsAt p n → OthersSame img (writeNumberImage d img q x) p n
   pub unchanged : Unchanged (writeNumberReply d img q x) img (writeNumberImage d img q x)
 
 -- READS: the octets of the place that is told, and of an integer the number that they make in the image's DATA_ORDER. On refusal see specs/Demand1
 pub record Reads (d img : List ℕ) : Type 0 where
-  pub table : (m k p n : ℕ) → tableReply d img m k ≡ octetsAt p n → tableOctets d img m k ≡ part img p n
-  pub element : (q : ElementName) (p n : ℕ) → whereReply d img q ≡ octetsAt p n → elementOctets d img q ≡ part img p n
-  pub number : (q : ElementName) (p n : ℕ) → whereReply d img q ≡ octetsAt p n → isUint (fieldsAt d (q .item)) ≡ true → numberReply d img q ≡ Number.Is (numberAt img p n)
+  pub table : (m k p n : ℕ) → tablePlaceReply d img m k ≡ octetsAt p n → tablePartReply d img m k ≡ part img p n
+  pub element : (q : ElementName) (p n : ℕ) → elementPlaceReply d img q ≡ octetsAt p n → elementPartReply d img q ≡ part img p n
+  pub number : (q : ElementName) (p n : ℕ) → elementPlaceReply d img q ≡ octetsAt p n → isUint (fieldsAt d (q .item)) ≡ true → elementNumberReply d img q ≡ Reply.Number (numberAt img p n)
 
 -- THE CALENDAR: days and weekdays; which record chooses season, special schedule and tier, each exactly; the matrix cell by cell (crate almanac, specs/)
 pub record Calendar (d img : List ℕ) : Type 0 where

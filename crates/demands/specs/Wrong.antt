@@ -6,35 +6,35 @@ use mathlib.Core.List.{List, [], _∷_, _++_}
 use lib.ListN.{length}
 use Rattle.offsets.specs.declared.TableOffset.{TableOffset}
 use Rattle.meaning.specs.declared.ElementName.{ElementName}
-use Rattle.meaning.specs.declared.Refusal.{Refusal}
 use Rattle.meaning.specs.declared.Verdict.{Verdict}
-use Rattle.meaning.specs.declared.Total.{Total}
+use Rattle.meaning.specs.declared.Reply.{Reply}
 use Rattle.meaning.specs.declared.Place.{Place}
 use Rattle.meaning.specs.Examples.{D, D-writable, first, plain, at, offset}
-use Rattle.meaning.specs.Refusals.{totalReply, tableReply, whereReply, writeRangeReply, writeRangeImage, writeOctetsReply, writeOctetsImage}
+use Rattle.meaning.specs.Refusals.{layoutReply, tablePlaceReply, elementPlaceReply, writeRangeReply, writeRangeImage, writeOctetsReply, writeOctetsImage}
 use Rattle.meaning.specs.Refusals.{writeNumberReply, writeNumberImage}
+use Rattle.meaning.specs.Numbers.{holdsDimension}
 use Rattle.demands.specs.Demand2.{octetsAt}
 use Rattle.demands.specs.Demand3.{Holds}
 
 -- ONE LAYOUT FOR ALL IMAGES: two images of D have totals 8 and 6, and Table 5 another size in each
 pub record ByDescription : Type 0 where
-  pub total : (r : Total) → ((img : List ℕ) → totalReply D img ≡ r) → ⊥
-  pub table : (r : Place) → ((img : List ℕ) → tableReply D img 0 5 ≡ r) → ⊥
+  pub total : (r : Reply) → ((img : List ℕ) → layoutReply D img ≡ r) → ⊥
+  pub table : (r : Place) → ((img : List ℕ) → tablePlaceReply D img 0 5 ≡ r) → ⊥
 
 -- THE FIRST TABLE LAID AND THE REST PADDED: with D's first image the octets of Table 5, 2 to 7, lie in three elements of two octets each, and no element, by
 -- whatever name, holds octets of two of them: none holds an octet before octet 4 or 6 and one from there on
 pub record Padded : Type 0 where
-  pub table : tableReply D first 0 5 ≡ octetsAt 2 6
-  pub block : whereReply D first (plain 5) ≡ octetsAt 2 2
-  pub number0 : whereReply D first (at 7 0) ≡ octetsAt 4 2
-  pub number1 : whereReply D first (at 7 1) ≡ octetsAt 6 2
+  pub table : tablePlaceReply D first 0 5 ≡ octetsAt 2 6
+  pub block : elementPlaceReply D first (plain 5) ≡ octetsAt 2 2
+  pub number0 : elementPlaceReply D first (at 7 0) ≡ octetsAt 4 2
+  pub number1 : elementPlaceReply D first (at 7 1) ≡ octetsAt 6 2
   pub across4 : (q : ElementName) (x y : ℕ) → x < 4 → 4 ≤ y → Holds D first q x → Holds D first q y → ⊥
   pub across6 : (q : ElementName) (x y : ℕ) → x < 6 → 6 ≤ y → Holds D first q x → Holds D first q y → ⊥
 
 -- A TOTAL NOT WALKED: an octet past the last table isn't counted, and images of one length have different totals
 pub record ByLength : Type 0 where
-  pub longer : (x : ℕ) → totalReply D (first ++ x ∷ []) ≡ Total.Octets 8
-  pub lengths : (f : ℕ → Total) → ((img : List ℕ) → totalReply D img ≡ f (length img)) → ⊥
+  pub longer : (x : ℕ) → layoutReply D (first ++ x ∷ []) ≡ Reply.Total 8
+  pub lengths : (f : ℕ → Reply) → ((img : List ℕ) → layoutReply D img ≡ f (length img)) → ⊥
 
 -- A WRITE THAT NEVER WRITES: with D's first image each of the three writes changes octets of Table 5, which is writable
 pub record NeverWrites : Type 0 where
@@ -44,9 +44,9 @@ pub record NeverWrites : Type 0 where
 
 -- A WRITE THAT ASKS ONLY WHETHER THE TABLE IS WRITABLE: with Table 00 writable, each of the three writes is refused at octet 1, the dimension of item 2
 pub record WritesDimensions : Type 0 where
-  pub range : (x : ℕ) → writeRangeReply D-writable first 0 0 (offset 1) (x ∷ []) ≡ Verdict.Refused Refusal.HoldsDimension
-  pub octets : (x : ℕ) → writeOctetsReply D-writable first (plain 2) (x ∷ []) ≡ Verdict.Refused Refusal.HoldsDimension
-  pub number : (x : ℕ) → writeNumberReply D-writable first (plain 2) x ≡ Verdict.Refused Refusal.HoldsDimension
+  pub range : (x : ℕ) → writeRangeReply D-writable first 0 0 (offset 1) (x ∷ []) ≡ Verdict.Refused holdsDimension
+  pub octets : (x : ℕ) → writeOctetsReply D-writable first (plain 2) (x ∷ []) ≡ Verdict.Refused holdsDimension
+  pub number : (x : ℕ) → writeNumberReply D-writable first (plain 2) x ≡ Verdict.Refused holdsDimension
 
 -- ALL FIVE
 pub record WrongPrograms : Type 0 where

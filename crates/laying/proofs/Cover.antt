@@ -12,7 +12,7 @@ use Rattle.meaning.specs.declared.Reference.{Reference}
 use Rattle.meaning.specs.Layout.{Node, Body, Tables, uint, block, set, array, choice, stray, done, more, noMore, table, strayTable, treeOf}
 use Rattle.meaning.specs.Layout.{Slot, Slots, unread, holds, setSlot, bitRange, setOctets, numberAt, Placed, Stop, short, bitOutside}
 use Rattle.meaning.specs.Layout.{unequalElements, Laid, laid, stopped, also, andThen, reading, inImage, placed, ofSize, repeated}
-use Rattle.meaning.specs.Layout.{layBody, layNode, Seat, Layout, laidOut, stoppedAt, before, seated, layTables, layout}
+use Rattle.meaning.specs.Layout.{layBody, layNode, Seat, Layout, laidOut, stoppedAt, before, seated, layTables, layOut}
 use Rattle.laying.specs.Cover.{held, hits, Follow}
 use Rattle.laying.specs.Every.{Every}
 use Rattle.laying.proofs.Either.{tested}
@@ -217,11 +217,11 @@ c-tables (table i m k body rest) img s p = c-seated (length img) i m k p _ _ (c-
 c-tables (strayTable i) img s p = λ j y e. absurd (never (cc))
 
 -- a description laid over an image
-c-layout : (d img : List ℕ) → CoversAll (length img) 0 (layout d img)
-unfolding layout
+c-layout : (d img : List ℕ) → CoversAll (length img) 0 (layOut d img)
+unfolding layOut
 c-layout d img = c-tables (treeOf d) img _ 0
 
-module _ (d img : List ℕ) (ts : List Seat) (es : List Placed) (s : Slots) (total : ℕ) (e : layout d img ≡ laidOut ts es s total) where
+module _ (d img : List ℕ) (ts : List Seat) (es : List Placed) (s : Slots) (total : ℕ) (e : layOut d img ≡ laidOut ts es s total) where
   whole : Whole (length img) 0 ts es total
   whole = subst (CoversAll (length img) 0) e (c-layout d img)
 
@@ -242,7 +242,7 @@ module _ (d img : List ℕ) (ts : List Seat) (es : List Placed) (s : Slots) (tot
   total-inside = omega (arith, whole .inside)
 
 -- where item i is short at octet p, p is no further than the image's end, and the elements placed before hold each octet below p once, and no other
-pub stopped-covers : (d img : List ℕ) (es : List Placed) (i p : ℕ) → layout d img ≡ stoppedAt es (short i p)
+pub stopped-covers : (d img : List ℕ) (es : List Placed) (i p : ℕ) → layOut d img ≡ stoppedAt es (short i p)
     → (p ≤ length img) × ((x : ℕ) → (x < p → hits x es ≡ 1) × (p ≤ x → hits x es ≡ 0))
 stopped-covers d img es i p e =
     let h : Short false (length img) 0 es p = subst (CoversAll (length img) 0) e (c-layout d img) i p refl in

@@ -4,21 +4,21 @@ use mathlib.Core.Path.{_≡_, refl, _∙_, ap, sym}
 use mathlib.Core.Bool.{Bool, false, _||_, or-assoc, or-false}
 use mathlib.Core.List.{List, [], _∷_, _++_}
 use Rattle.meaning.specs.Layout.{Placed}
-use Rattle.meaning.specs.Refusals.{holdsDimension}
+use Rattle.meaning.specs.Refusals.{anyDimension}
 use Rattle.laying.specs.Dimensions.{dimensionAt}
 
 module _ (p n : ℕ) where
-  pub holds-none : holdsDimension [] p n ≡ false
-  unfolding holdsDimension
+  pub holds-none : anyDimension [] p n ≡ false
+  unfolding anyDimension
   holds-none = refl
 
-  pub holds-append : (ps qs : List Placed) → holdsDimension (ps ++ qs) p n ≡ (holdsDimension ps p n || holdsDimension qs p n)
-  unfolding holdsDimension dimensionAt
+  pub holds-append : (ps qs : List Placed) → anyDimension (ps ++ qs) p n ≡ (anyDimension ps p n || anyDimension qs p n)
+  unfolding anyDimension dimensionAt
   holds-append [] qs = refl
   holds-append (e ∷ es) qs =
       let b : Bool = dimensionAt (e .slot) (e .start) (e .size) p n in
-      ap (λ (x : Bool). b || x) (holds-append es qs) ∙ sym (or-assoc b (holdsDimension es p n) (holdsDimension qs p n))
+      ap (λ (x : Bool). b || x) (holds-append es qs) ∙ sym (or-assoc b (anyDimension es p n) (anyDimension qs p n))
 
-  pub holds-one : (e : Placed) → holdsDimension (e ∷ []) p n ≡ dimensionAt (e .slot) (e .start) (e .size) p n
-  unfolding holdsDimension dimensionAt
+  pub holds-one : (e : Placed) → anyDimension (e ∷ []) p n ≡ dimensionAt (e .slot) (e .start) (e .size) p n
+  unfolding anyDimension dimensionAt
   holds-one e = or-false (dimensionAt (e .slot) (e .start) (e .size) p n)

@@ -14,7 +14,7 @@ use Rattle.meaning.specs.declared.Item.the-variants.{Table, Uint, Block, Set, A
 use Rattle.meaning.specs.Description.{itemCount, itemAt, fieldsOf, fieldsAt, isTable, isTableNamed, isTable00, isDataOrder}
 use Rattle.meaning.specs.Layout.{Node, Body, Tables, uint, more, table, nodeOf, bodyAt, tabled, tablesOf, treeOf}
 use Rattle.meaning.specs.Layout.{Slots, Placed, short, Laid, laid, stopped, also, andThen, inImage, placed, layBody, layNode}
-use Rattle.meaning.specs.Layout.{Seat, Layout, laidOut, stoppedAt, before, seated, layTables, layout, tableNamed}
+use Rattle.meaning.specs.Layout.{Seat, Layout, laidOut, stoppedAt, before, seated, layTables, layOut, tableNamed}
 use Rattle.meaning.specs.Passed.{Passes, PassedLaws}
 use Rattle.meaning.proofs.Passed.{passed-laws}
 use Rattle.laying.specs.Tree.{innerAt, nodeAt}
@@ -150,9 +150,9 @@ unfolding layTables
 f-tables t img s h = rw (h .is) (f-seated (h .item) (h .manufacturer) (h .number) 0 _ _ (h .standard) (h .zeroth) (f-body (h .first) (h .rest) img s (h .order)))
 
 -- of a passed description laid out
-module _ (d img : List ℕ) (ts : List Seat) (es : List Placed) (s : Slots) (total : ℕ) (h : Passes d) (e : layout d img ≡ laidOut ts es s total) where
+module _ (d img : List ℕ) (ts : List Seat) (es : List Placed) (s : Slots) (total : ℕ) (h : Passes d) (e : layOut d img ≡ laidOut ts es s total) where
   first-all : HasTable00 ts × Ordered es
-  unfolding layout
+  unfolding layOut
   first-all = subst OrderedAll e (f-tables (treeOf d) img _ (begins (passed-laws d h)))
 
   -- table 00 is there

@@ -8,11 +8,11 @@ use native.Mathlib.Omega.{arith}
 use Rattle.meaning.specs.declared.ElementName.{ElementName}
 use Rattle.meaning.specs.Passed.{Passes}
 use Rattle.meaning.specs.Layout.{Placed, Seat, Slots}
-use Rattle.meaning.proofs.Passed.{soundness-says}
+use Rattle.meaning.proofs.Passed.{check-says}
 use Rattle.meaning.proofs.Rules.{length-allowed}
 use Rattle.laying.specs.Cover.{Follow}
 use Rattle.laying.specs.Every.{Every}
-use Rattle.laying.specs.Kept.{elementsOf}
+use Rattle.laying.specs.Kept.{elementsReached}
 use Rattle.laying.specs.Own.{OfItem}
 use Rattle.laying.proofs.Among.{Among, every-among, ElementOf, named-among, SeatOf, seat-among}
 use Rattle.laying.proofs.Cover.{EndsBy, elements-end, tables-follow}
@@ -21,11 +21,11 @@ use Rattle.laying.proofs.Own.{elements-own}
 
 -- a passed description has whole items
 pub whole-items : (d : List ℕ) → Passes d → length d % 4 ≡ 0
-whole-items d p = length-allowed d (soundness-says d .passed .0 p .allowed) .whole
+whole-items d p = length-allowed d (check-says d .passed .0 p .allowed) .whole
 
 -- each element laid out is of its item
 pub own : {d img : List ℕ} {ts : List Seat} {es : List Placed} {s : Slots} {total : ℕ} → Opens d img ts es s total → (e : Placed) → Among e es → OfItem d (e .item) (e .slot) (e .size)
-own {d} {img} {es = es} o e m = every-among _ e es (subst (λ l. Every (λ e. OfItem d (e .item) (e .slot) (e .size)) (elementsOf l)) (o .laid) (elements-own d img)) m
+own {d} {img} {es = es} o e m = every-among _ e es (subst (λ l. Every (λ e. OfItem d (e .item) (e .slot) (e .size)) (elementsReached l)) (o .laid) (elements-own d img)) m
 
 -- AN ELEMENT WHOSE PLACE IS REPLIED
 module _ {d img : List ℕ} {q : ElementName} {p n : ℕ} (a : ElementAt d img q p n) where

@@ -9,7 +9,7 @@ use native.Mathlib.Nat.{suc-mul}
 use native.Mathlib.Omega.{arith}
 use Rattle.meaning.specs.declared.Reference.{Reference}
 use Rattle.meaning.specs.Layout.{Node, Body, uint, block, set, array, choice, stray, done, more, Slot, Slots, unread, holds, setSlot, bitRange, setOctets, Placed, Stop, unreadDimension, bitOutside, unequalElements, short, noItem, Laid, laid, stopped, also, andThen, reading, inImage, placed, ofSize, repeated, layBody, layNode}
-use Rattle.meaning.specs.Refusals.{holdsDimension}
+use Rattle.meaning.specs.Refusals.{anyDimension}
 use Rattle.laying.specs.declared.Spot.{Spot}
 use Rattle.laying.specs.declared.Spot.the-variants.{Nowhere}
 use Rattle.laying.specs.Sizes.{Numbers, value, bodySize, itemSize, orElse, further, leafSpot, arraySpot, bodySpot, itemSpot, seen, past}
@@ -34,7 +34,7 @@ NotShort (noItem i) = Unit {0}
 -- o goes n octets from p on, leaves the slots as they are, its elements stand where f says, and of dimensions it holds what one of slot k would that took all of it;
 -- or it is stopped, but not as short
 abbrev pub Goes : (k p n : ℕ) → Slots → Spots → Laid → Type 0
-Goes k p n s f (laid ps t q) = (t ≡ s) × (q ≡ p + n) × ((i : ℕ) (xs : List ℕ) → seen i xs ps ≡ further p (f i xs)) × ((a m : ℕ) → holdsDimension ps a m ≡ dimensionAt k p n a m)
+Goes k p n s f (laid ps t q) = (t ≡ s) × (q ≡ p + n) × ((i : ℕ) (xs : List ℕ) → seen i xs ps ≡ further p (f i xs)) × ((a m : ℕ) → anyDimension ps a m ≡ dimensionAt k p n a m)
 Goes k p n s f (stopped ps x) = NotShort x
 
 -- the same by another name for the octets and the spots
@@ -57,7 +57,7 @@ seen-joined p n f g ps qs i xs a b =
     seen-append i xs ps qs ∙ ap₂ orElse a (b ∙ sym (further-twice p n (g i xs))) ∙ sym (further-or p (f i xs) (further n (g i xs)))
 
 g-also : (p n m : ℕ) (s : Slots) (f g : Spots) (ps : List Placed) (o : Laid) → ((i : ℕ) (xs : List ℕ) → seen i xs ps ≡ further p (f i xs))
-    → ((a l : ℕ) → holdsDimension ps a l ≡ dimensionAt 0 p n a l) → Goes 0 (p + n) m s g o → Goes 0 p (n + m) s (joined n f g) (also ps o)
+    → ((a l : ℕ) → anyDimension ps a l ≡ dimensionAt 0 p n a l) → Goes 0 (p + n) m s g o → Goes 0 p (n + m) s (joined n f g) (also ps o)
 unfolding dimensionAt
 g-also p n m s f g ps (laid qs t q) h j k = (
   k .0,

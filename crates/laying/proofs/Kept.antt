@@ -12,10 +12,10 @@ use Rattle.meaning.specs.declared.Reference.{Reference}
 use Rattle.meaning.specs.Layout.{Node, Body, Tables, uint, block, set, array, choice, stray, done, more, noMore, table, strayTable, treeOf}
 use Rattle.meaning.specs.Layout.{Slot, Slots, unread, holds, setSlot, bitRange, numberAt, Placed, short, bitOutside}
 use Rattle.meaning.specs.Layout.{Laid, laid, stopped, also, andThen, reading, inImage, placed, sizeFrom, repeated, layBody, layNode}
-use Rattle.meaning.specs.Layout.{Seat, Layout, laidOut, stoppedAt, before, seated, layTables, layout}
+use Rattle.meaning.specs.Layout.{Seat, Layout, laidOut, stoppedAt, before, seated, layTables, layOut}
 use Rattle.meaning.specs.Passed.{Passes}
 use Rattle.laying.specs.Every.{Every}
-use Rattle.laying.specs.Kept.{Undisturbed, elementsOf}
+use Rattle.laying.specs.Kept.{Undisturbed, elementsReached}
 use Rattle.laying.specs.Sound.{FitBody, FitNode, FitTables, noneKnown}
 use Rattle.laying.proofs.Every.{every-split}
 use Rattle.laying.proofs.Fit.{sound-fit}
@@ -101,10 +101,10 @@ module _ (img later : List ℕ) (long : length later ≡ length img) where
   -- THE WHOLE IMAGE
   -- what o comes to, o′ does, where no dimension reached has changed
   abbrev KeptAll : (o o′ : Layout) → Type 0
-  KeptAll o o′ = Undisturbed img later (elementsOf o) → o′ ≡ o
+  KeptAll o o′ = Undisturbed img later (elementsReached o) → o′ ≡ o
 
   -- a table before others
-  k-before : (t : Seat) (ps : List Placed) (o o′ : Layout) → KeptAll o o′ → Undisturbed img later (elementsOf (before t ps o))
+  k-before : (t : Seat) (ps : List Placed) (o o′ : Layout) → KeptAll o o′ → Undisturbed img later (elementsReached (before t ps o))
       → Undisturbed img later ps × (before t ps o′ ≡ before t ps o)
   k-before t ps (laidOut ts qs s n) o′ g u = let r = every-split _ ps qs u in (r .0, ap (before t ps) (g (r .1)))
   k-before t ps (stoppedAt qs x) o′ g u = let r = every-split _ ps qs u in (r .0, ap (before t ps) (g (r .1)))
@@ -126,6 +126,6 @@ module _ (img later : List ℕ) (long : length later ≡ length img) where
   k-tables (strayTable i) s p h = λ u. refl
 
 -- a passed description laid over two images
-pub layout-kept : (d img later : List ℕ) → Passes d → length later ≡ length img → Undisturbed img later (elementsOf (layout d img)) → layout d later ≡ layout d img
-unfolding layout
+pub layout-kept : (d img later : List ℕ) → Passes d → length later ≡ length img → Undisturbed img later (elementsReached (layOut d img)) → layOut d later ≡ layOut d img
+unfolding layOut
 layout-kept d img later h e = k-tables img later e (treeOf d) (λ k. unread) 0 (sound-fit noneKnown (treeOf d) (passed-sound d h))

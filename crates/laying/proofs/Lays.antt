@@ -5,8 +5,9 @@ use mathlib.Core.Path.{_≡_, refl, subst}
 use mathlib.Core.Logic.{_⊎_, inl, inr}
 use mathlib.Core.Bool.{false}
 use mathlib.Core.List.{List, []}
-use Rattle.meaning.specs.Layout.{Node, Tables, noMore, table, strayTable, treeOf, Slots, unread, Placed, unreadDimension, bitOutside, unequalElements, short, noItem, Laid, laid, stopped, layBody, Seat, Layout, laidOut, stoppedAt, before, seated, layTables, layout}
+use Rattle.meaning.specs.Layout.{Node, Tables, noMore, table, strayTable, treeOf, Slots, unread, Placed, unreadDimension, bitOutside, unequalElements, short, noItem, Laid, laid, stopped, layBody, Seat, Layout, laidOut, stoppedAt, before, seated, layTables, layOut}
 use Rattle.meaning.specs.Passed.{Passes}
+use Rattle.meaning.specs.Numbers.{numbered}
 use Rattle.laying.specs.Sizes.{Numbers}
 use Rattle.laying.specs.Sound.{Known, noneKnown, SoundTables, afterBody}
 use Rattle.laying.specs.Slots.{numberOf, octetsOf}
@@ -59,14 +60,14 @@ unfolding numberOf octetsOf
 ready-none = record { numbered = record { numbers = λ k. refl }; matches = record { octets = λ k. refl } }
 
 -- what laying out a passed description comes to
-passed-ends : (d img : List ℕ) → Passes d → Ends img (Outside (treeOf d)) (λ k. 0) (layout d img)
-unfolding layout
+passed-ends : (d img : List ℕ) → Passes d → Ends img (Outside (treeOf d)) (λ k. 0) (layOut d img)
+unfolding layOut
 passed-ends d img h = e-tables img (treeOf d) (λ k. unread) (λ k. 0) noneKnown 0 ready-none (passed-sound d h)
 
 -- it is laid out, or the image is short
-pub passed-lays : (d img : List ℕ) → Passes d → Lays (layout d img)
-passed-lays d img h = ends-lays img (Outside (treeOf d)) (λ k. 0) (layout d img) (passed-ends d img h)
+pub passed-lays : (d img : List ℕ) → Passes d → Lays (layOut d img)
+passed-lays d img h = ends-lays img (Outside (treeOf d)) (λ k. 0) (layOut d img) (passed-ends d img h)
 
 -- and where it is short, the item reported doesn't end inside the image
-pub short-runs-past : (d img : List ℕ) → Passes d → (es : List Placed) (i p : ℕ) → layout d img ≡ stoppedAt es (short i p) → ShortAt d img es i p
+pub short-runs-past : (d img : List ℕ) → Passes d → (es : List Placed) (i p : ℕ) → layOut d img ≡ stoppedAt es (short i p) → ShortAt d img es i p
 short-runs-past d img h es i p e = subst (λ (o : Layout). Ends img (Outside (treeOf d)) (λ k. 0) o) e (passed-ends d img h)

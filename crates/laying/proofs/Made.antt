@@ -10,7 +10,7 @@ use native.Mathlib.Omega.{arith}
 use Rattle.meaning.specs.Basics.{_≤?_, _<?_}
 use Rattle.meaning.specs.Description.{fieldsAt}
 use Rattle.meaning.specs.Layout.{Tables, noMore, table, strayTable, treeOf, Slots, Placed, Laid, laid, stopped, layBody}
-use Rattle.meaning.specs.Layout.{Seat, Layout, laidOut, stoppedAt, before, seated, layTables, layout}
+use Rattle.meaning.specs.Layout.{Seat, Layout, laidOut, stoppedAt, before, seated, layTables, layOut}
 use Rattle.laying.specs.Cover.{held, hits, hitsOf, MadeUp}
 use Rattle.laying.specs.Every.{Every}
 use Rattle.laying.proofs.Every.{every-map}
@@ -125,8 +125,8 @@ m-tables d (table i m k body rest) lo h img s p =
 m-tables d (strayTable i) lo h img s p = tt
 
 -- of a layout: the elements of each table's items make up the table
-pub tables-made : (d img : List ℕ) (ts : List Seat) (es : List Placed) (s : Slots) (total : ℕ) → layout d img ≡ laidOut ts es s total → Every (MadeUp d es) ts
-unfolding layout MadeAll
+pub tables-made : (d img : List ℕ) (ts : List Seat) (es : List Placed) (s : Slots) (total : ℕ) → layOut d img ≡ laidOut ts es s total → Every (MadeUp d es) ts
+unfolding layOut MadeAll
 tables-made d img ts es s total e =
     every-map (Made d 0 es) (MadeUp d es) (λ t g. g .1) ts (subst (MadeAll d 0) e (m-tables d (treeOf d) 0 (rises-tree d) img _ 0))
 

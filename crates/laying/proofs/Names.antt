@@ -12,7 +12,7 @@ use Rattle.meaning.specs.Description.{fieldsAt}
 use Rattle.meaning.specs.Layout.{Node, Body, Tables, uint, block, set, array, choice, stray, done, more, noMore, table, strayTable, treeOf}
 use Rattle.meaning.specs.Layout.{Slot, Slots, unread, holds, setSlot, bitRange, setOctets, numberAt, Placed, Stop, short, bitOutside, unequalElements, noItem}
 use Rattle.meaning.specs.Layout.{Laid, laid, stopped, also, andThen, reading, inImage, placed, ofSize, repeated, layBody, layNode}
-use Rattle.meaning.specs.Layout.{Seat, Layout, laidOut, stoppedAt, before, seated, layTables, layout}
+use Rattle.meaning.specs.Layout.{Seat, Layout, laidOut, stoppedAt, before, seated, layTables, layOut}
 use Rattle.laying.specs.Every.{Every}
 use Rattle.laying.specs.Names.{Differ, Apart, Found, FewSubscripts}
 use Rattle.laying.proofs.Either.{tested}
@@ -231,11 +231,11 @@ n-tables d (table i m k body rest) lo h img s p =
 n-tables d (strayTable i) lo h img s p = tt
 
 -- a description laid over an image
-n-layout : (d img : List ℕ) → NamesAll 0 (layout d img)
-unfolding layout
+n-layout : (d img : List ℕ) → NamesAll 0 (layOut d img)
+unfolding layOut
 n-layout d img = n-tables d (treeOf d) 0 (rises-tree d) img _ 0
 
-module _ (d img : List ℕ) (ts : List Seat) (es : List Placed) (s : Slots) (total : ℕ) (e : layout d img ≡ laidOut ts es s total) where
+module _ (d img : List ℕ) (ts : List Seat) (es : List Placed) (s : Slots) (total : ℕ) (e : layOut d img ≡ laidOut ts es s total) where
   all-named : Every (Above 0) es × Apart es
   all-named = subst (NamesAll 0) e (n-layout d img)
 

@@ -12,11 +12,11 @@ use Rattle.meaning.specs.Basics.{if_then_else_, _<?_, _≤?_}
 use Rattle.meaning.specs.declared.ElementName.{ElementName}
 use Rattle.meaning.specs.declared.Refusal.{Refusal}
 use Rattle.meaning.specs.declared.Verdict.{Verdict}
-use Rattle.meaning.specs.declared.Total.{Total}
+use Rattle.meaning.specs.declared.Reply.{Reply}
 use Rattle.meaning.specs.declared.Place.{Place}
-use Rattle.meaning.specs.Description.{soundness}
+use Rattle.meaning.specs.Description.{checkReply}
 use Rattle.meaning.specs.Passed.{Passes}
-use Rattle.meaning.specs.Layout.{Placed, Seat, Slots, Layout, laidOut, stoppedAt, layout, elementNamed, tableNamed}
+use Rattle.meaning.specs.Layout.{Placed, Seat, Slots, Layout, laidOut, stoppedAt, layOut, elementNamed, tableNamed}
 use Rattle.meaning.specs.Refusals.{
   stopRefusal,
   opened,
@@ -24,23 +24,24 @@ use Rattle.meaning.specs.Refusals.{
   openLaid,
   openSound,
   openImage,
-  totalIn,
-  totalReply,
+  layoutIn,
+  layoutReply,
   seatPlace,
-  tableIn,
-  tableReply,
+  tablePlaceIn,
+  tablePlaceReply,
   elementIn,
-  elementPlace,
-  whereIn,
-  whereReply,
+  placedPlace,
+  elementPlaceIn,
+  elementPlaceReply,
 }
+use Rattle.meaning.specs.Numbers.{imageTooLong}
 
 -- THE IMAGE OPENED
 -- a passed description, an image of at most 65,535 octets, and the tables, elements, slots and total that laying out comes to
 pub record Opens (d img : List ℕ) (ts : List Seat) (es : List Placed) (s : Slots) (n : ℕ) : Type 0 where
   pub passes : Passes d
   pub allowed : length img ≤ 65535
-  pub laid : layout d img ≡ laidOut ts es s n
+  pub laid : layOut d img ≡ laidOut ts es s n
 
 -- opened, or refused whatever is asked
 pub data Came (d img : List ℕ) : Type 0 where
@@ -48,18 +49,18 @@ pub data Came (d img : List ℕ) : Type 0 where
   refuses : (r : Refusal) → openImage d img ≡ refused r → Came d img
 
 -- of a passed description and an allowed image, laying out decides
-pub open-laid : (d img : List ℕ) → Passes d → length img ≤ 65535 → openImage d img ≡ openLaid (layout d img)
+pub open-laid : (d img : List ℕ) → Passes d → length img ≤ 65535 → openImage d img ≡ openLaid (layOut d img)
 unfolding openImage openSound
 open-laid d img p h = rw (p, le-ltb 65535 (length img) h)
 
 -- what openImage comes to
 pub came : (d img : List ℕ) → Came d img
 unfolding openImage openSound openLaid
-came d img = by-verdict (soundness d) refl (65535 <? length img) refl (layout d img) refl
+came d img = by-verdict (checkReply d) refl (65535 <? length img) refl (layOut d img) refl
   where
-    by-verdict : (v : Verdict) → soundness d ≡ v → (b : Bool) → (65535 <? length img) ≡ b → (o : Layout) → layout d img ≡ o → Came d img
+    by-verdict : (v : Verdict) → checkReply d ≡ v → (b : Bool) → (65535 <? length img) ≡ b → (o : Layout) → layOut d img ≡ o → Came d img
     by-verdict (Verdict.Refused r) e b g o h = refuses r (rw e)
-    by-verdict Verdict.Passed e true g o h = refuses Refusal.ImageTooLong (rw (e, g))
+    by-verdict Verdict.Passed e true g o h = refuses imageTooLong (rw (e, g))
     by-verdict Verdict.Passed e false g (laidOut ts es s n) h =
         opens ts es s n (record { passes = e; allowed = ltb-false 65535 (length img) g; laid = h })
     by-verdict Verdict.Passed e false g (stoppedAt es x) h = refuses (stopRefusal x) (rw (e, g, h))
@@ -72,18 +73,18 @@ module _ {d img : List ℕ} {ts : List Seat} {es : List Placed} {s : Slots} {n :
   opened-image = open-laid d img (o .passes) (o .allowed) ∙ rw (o .laid)
 
   -- the total
-  pub total-laid : totalReply d img ≡ Total.Octets n
-  unfolding totalReply totalIn
+  pub total-laid : layoutReply d img ≡ Reply.Total n
+  unfolding layoutReply layoutIn
   total-laid = rw opened-image
 
   -- where a table is
-  pub table-laid : (m k : ℕ) → tableReply d img m k ≡ seatPlace (tableNamed m k ts)
-  unfolding tableReply tableIn
+  pub table-laid : (m k : ℕ) → tablePlaceReply d img m k ≡ seatPlace (tableNamed m k ts)
+  unfolding tablePlaceReply tablePlaceIn
   table-laid m k = rw opened-image
 
   -- where an element is
-  pub where-laid : (q : ElementName) → whereReply d img q ≡ elementPlace (elementIn q es)
-  unfolding whereReply whereIn
+  pub where-laid : (q : ElementName) → elementPlaceReply d img q ≡ placedPlace (elementIn q es)
+  unfolding elementPlaceReply elementPlaceIn
   where-laid q = rw opened-image
 
 -- THE REPLIES, READ BACK
@@ -95,15 +96,15 @@ pub record TotalOf (d img : List ℕ) (n : ℕ) : Type 0 where
   pub opens : Opens d img seats elements slots n
 
 -- a total is replied only where the image is opened
-pub total-opens : (d img : List ℕ) (n : ℕ) → totalReply d img ≡ Total.Octets n → TotalOf d img n
-unfolding totalReply totalIn
+pub total-opens : (d img : List ℕ) (n : ℕ) → layoutReply d img ≡ Reply.Total n → TotalOf d img n
+unfolding layoutReply layoutIn
 total-opens d img n e = go (came d img)
   where
     go : Came d img → TotalOf d img n
     go (opens ts es s m o) =
         let h : m ≡ n = cc (total-laid o) in
         subst (TotalOf d img) h (record { seats = ts; elements = es; slots = s; opens = o })
-    go (refuses r h) = let z : _≡_ {A = ℕ} 0 1 = cc (ap totalIn h) in absurd (omega arith)
+    go (refuses r h) = let z : _≡_ {A = ℕ} 0 1 = cc (ap layoutIn h) in absurd (omega arith)
 
 -- a place's octet
 abbrev pub placeStart : Place → ℕ
@@ -123,8 +124,8 @@ pub record FoundAt (o : Option Placed) (p n : ℕ) : Type 0 where
   pub size : element .size ≡ n
 
 -- where a place is replied, one was
-found-at : (o : Option Placed) (p n : ℕ) → elementPlace o ≡ Place.At (record { 0 = p }) n → FoundAt o p n
-unfolding elementPlace
+found-at : (o : Option Placed) (p n : ℕ) → placedPlace o ≡ Place.At (record { 0 = p }) n → FoundAt o p n
+unfolding placedPlace
 found-at none p n e = let z : _≡_ {A = ℕ} 0 1 = cc in absurd (omega arith)
 found-at (some x) p n e = record { element = x; found = refl; start = ap placeStart e; size = ap placeLength e }
 
@@ -143,11 +144,11 @@ seat-at (some t) p n e = record { seat = t; found = refl; start = ap placeStart 
 
 -- of an opened image: the element whose place is replied, by its item and subscripts
 pub where-found : {d img : List ℕ} {ts : List Seat} {es : List Placed} {s : Slots} {total : ℕ} → Opens d img ts es s total → (q : ElementName) (p n : ℕ)
-    → whereReply d img q ≡ Place.At (record { 0 = p }) n → FoundAt (elementNamed (q .item) (take (q .count) (q .subscripts)) es) p n
-unfolding elementIn elementPlace
+    → elementPlaceReply d img q ≡ Place.At (record { 0 = p }) n → FoundAt (elementNamed (q .item) (take (q .count) (q .subscripts)) es) p n
+unfolding elementIn placedPlace
 where-found {es = es} o q p n e = go (q .count ≤? 4) (sym (where-laid o q) ∙ e)
   where
-    go : (b : Bool) → elementPlace (if b then elementNamed (q .item) (take (q .count) (q .subscripts)) es else none) ≡ Place.At (record { 0 = p }) n
+    go : (b : Bool) → placedPlace (if b then elementNamed (q .item) (take (q .count) (q .subscripts)) es else none) ≡ Place.At (record { 0 = p }) n
         → FoundAt (elementNamed (q .item) (take (q .count) (q .subscripts)) es) p n
     go true h = found-at _ p n h
     go false h = let z : _≡_ {A = ℕ} 0 1 = cc in absurd (omega arith)
@@ -162,13 +163,13 @@ pub record TableOf (d img : List ℕ) (m k p n : ℕ) : Type 0 where
   pub at : SeatAt (tableNamed m k seats) p n
 
 -- a table's place is replied only where the image is opened and the table found
-pub table-opens : (d img : List ℕ) (m k p n : ℕ) → tableReply d img m k ≡ Place.At (record { 0 = p }) n → TableOf d img m k p n
-unfolding tableReply tableIn
+pub table-opens : (d img : List ℕ) (m k p n : ℕ) → tablePlaceReply d img m k ≡ Place.At (record { 0 = p }) n → TableOf d img m k p n
+unfolding tablePlaceReply tablePlaceIn
 table-opens d img m k p n e = go (came d img)
   where
     go : Came d img → TableOf d img m k p n
     go (opens ts es s l o) = record { seats = ts; elements = es; slots = s; total = l; opens = o; at = seat-at _ p n (sym (table-laid o m k) ∙ e) }
-    go (refuses r h) = let z : _≡_ {A = ℕ} 0 1 = cc (ap (tableIn m k) h) in absurd (omega arith)
+    go (refuses r h) = let z : _≡_ {A = ℕ} 0 1 = cc (ap (tablePlaceIn m k) h) in absurd (omega arith)
 
 -- the image opened, and that element found
 pub record ElementAt (d img : List ℕ) (q : ElementName) (p n : ℕ) : Type 0 where
@@ -180,10 +181,10 @@ pub record ElementAt (d img : List ℕ) (q : ElementName) (p n : ℕ) : Type 0 w
   pub at : FoundAt (elementNamed (q .item) (take (q .count) (q .subscripts)) elements) p n
 
 -- an element's place is replied only where the image is opened and the element found
-pub where-opens : (d img : List ℕ) (q : ElementName) (p n : ℕ) → whereReply d img q ≡ Place.At (record { 0 = p }) n → ElementAt d img q p n
-unfolding whereReply whereIn
+pub where-opens : (d img : List ℕ) (q : ElementName) (p n : ℕ) → elementPlaceReply d img q ≡ Place.At (record { 0 = p }) n → ElementAt d img q p n
+unfolding elementPlaceReply elementPlaceIn
 where-opens d img q p n e = go (came d img)
   where
     go : Came d img → ElementAt d img q p n
     go (opens ts es s l o) = record { seats = ts; elements = es; slots = s; total = l; opens = o; at = where-found o q p n e }
-    go (refuses r h) = let z : _≡_ {A = ℕ} 0 1 = cc (ap (whereIn q) h) in absurd (omega arith)
+    go (refuses r h) = let z : _≡_ {A = ℕ} 0 1 = cc (ap (elementPlaceIn q) h) in absurd (omega arith)

@@ -15,9 +15,9 @@ use Rattle.meaning.specs.Layout.{Node, Body, Tables, uint, block, set, array, c
 use Rattle.meaning.specs.Layout.{nested, nodeOf, bodyOf, bodyAt, tableAt, tabled, tablesOf}
 use Rattle.meaning.specs.Layout.{Slot, Slots, unread, holds, bitRange, Placed, short, bitOutside, unequalElements}
 use Rattle.meaning.specs.Layout.{Laid, laid, stopped, also, andThen, reading, inImage, placed, ofSize, repeated, layBody, layNode}
-use Rattle.meaning.specs.Layout.{Seat, Layout, laidOut, stoppedAt, before, seated, layTables, layout}
+use Rattle.meaning.specs.Layout.{Seat, Layout, laidOut, stoppedAt, before, seated, layTables, layOut}
 use Rattle.laying.specs.Every.{Every}
-use Rattle.laying.specs.Kept.{elementsOf}
+use Rattle.laying.specs.Kept.{elementsReached}
 use Rattle.laying.specs.Own.{OfItem}
 use Rattle.laying.proofs.Either.{tested}
 use Rattle.laying.proofs.Every.{every-append}
@@ -170,7 +170,7 @@ module _ (d : List ℕ) where
   -- THE WHOLE IMAGE
   -- each element is of its item
   abbrev OwnsAll : Layout → Type 0
-  OwnsAll o = Every Own (elementsOf o)
+  OwnsAll o = Every Own (elementsReached o)
 
   -- a table before others
   o-before : (t : Seat) (ps : List Placed) (o : Layout) → Every Own ps → OwnsAll o → OwnsAll (before t ps o)
@@ -191,6 +191,6 @@ module _ (d : List ℕ) where
   o-tables (strayTable i) img s p h = tt
 
   -- each element laid out, or placed before it stopped, is of its item
-  pub elements-own : (img : List ℕ) → Every (λ e. OfItem d (e .item) (e .slot) (e .size)) (elementsOf (layout d img))
-  unfolding layout treeOf
+  pub elements-own : (img : List ℕ) → Every (λ e. OfItem d (e .item) (e .slot) (e .size)) (elementsReached (layOut d img))
+  unfolding layOut treeOf
   elements-own img = o-tables (treeOf d) img (λ k. unread) 0 (own-tables (itemCount d) 0 0 (omega arith))

@@ -10,6 +10,7 @@ use native.Mathlib.Nat.{suc-mul}
 use native.Mathlib.Omega.{arith}
 use Rattle.meaning.specs.declared.Reference.{Reference}
 use Rattle.meaning.specs.Layout.{Node, Body, uint, block, set, array, choice, stray, done, more, Slot, Slots, unread, holds, setSlot, bitRange, setOctets, numberAt, Placed, Laid, laid, stopped, also, andThen, reading, inImage, placed, sizeFrom, ofSize, repeated, layBody, layNode}
+use Rattle.meaning.specs.Numbers.{numbered}
 use Rattle.laying.specs.Sizes.{Numbers, value, bodySize, itemSize}
 use Rattle.laying.specs.Sound.{Known, setKnown, GoodReference, SoundBody, SoundNode}
 use Rattle.laying.specs.Slots.{numberOf, octetsOf, Numbered, Matches}

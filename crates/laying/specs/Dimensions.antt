@@ -1,4 +1,4 @@
--- OCTETS OF DIMENSIONS: the test of `holdsDimension` for what stands in one place. Assumes nothing.
+-- OCTETS OF DIMENSIONS: the test of `anyDimension` for what stands in one place. Assumes nothing.
 use Prim.Native.Nat.{ℕ, _+_, min, max}
 use mathlib.Core.Bool.{Bool, _&&_}
 use Rattle.meaning.specs.Basics.{_<?_}

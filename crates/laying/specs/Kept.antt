@@ -14,6 +14,6 @@ abbrev pub Undisturbed : (image later : List ℕ) → List Placed → Type 0
 Undisturbed img later es = Every (SameNumber img later) es
 
 -- the elements laid out, or placed before it stopped
-abbrev pub elementsOf : Layout → List Placed
-elementsOf (laidOut ts es s n) = es
-elementsOf (stoppedAt es x) = es
+abbrev pub elementsReached : Layout → List Placed
+elementsReached (laidOut ts es s n) = es
+elementsReached (stoppedAt es x) = es

@@ -1,28 +1,24 @@
 -- What answering leans on: a word of the line, and which reply is due in each case. Assumes nothing.
 use mathlib.Core.Path.{_≡_, refl, sym, ap, _∙_}
-use mathlib.Core.List.{List, []}
-use mathlib.Core.Bool.{Bool, true, false, cond, _&&_}
-use Prim.Native.Nat.{ℕ, _-_, _≤_, _<_, zero-le}
+use mathlib.Core.List.{List, [], _∷_}
+use mathlib.Core.Bool.{Bool, true, false, cond, not, _&&_, _||_, and-eq-true-iff}
+use Prim.Native.Nat.{ℕ, zero, suc, _+_, _-_, _≤_, _<_, zero-le}
+use native.Mathlib.Nat.{not-suc-le-zero, le-of-suc-le-suc, add-zero, zero-add}
 use native.Mathlib.Omega.{arith}
-use borrow.Author.Tests.{lt-ltb, le-ltb}
-use lib.Dec.{leb}
+use borrow.Author.Tests.{lt-ltb, le-ltb, leb-true, eqb-true, ne-eqb, not-true}
+use lib.Dec.{leb, eqb}
 use lib.ListN.{length, getD, take, drop, length-take, length-drop}
 use lib.Seq.{length-take-le}
 use Rattle.meaning.specs.Basics.{if_then_else_, _=?_, part}
-use Rattle.meaning.specs.declared.ElementName.{ElementName}
-use Rattle.meaning.specs.declared.Place.{Place}
-use Rattle.offsets.specs.declared.TableOffset.{TableOffset}
-use Rattle.meaning.specs.Refusals.{placePart, tableOctets, elementOctets}
 use Rattle.words.specs.declared.types.Words.{Words}
 use Rattle.words.specs.declared.types.Octets.{Octets}
 use Rattle.words.specs.declared.types.Octets.the-variants.{Are, Not}
 use Rattle.words.specs.Hex.{areOctets, OctetsRead}
-use Rattle.words.specs.Line.{lineWords, splitOf, partOf, wordIn, isName}
-use Rattle.words.proofs.LineLaws.{count-of, word-of, same-is}
-use Rattle.lines.specs.declared.kind.Kind.{Kind}
-use Rattle.lines.specs.declared.kind.Form.{Form}
+use Rattle.words.specs.Line.{lineWords, splitOf, partOf, wordIn}
+use Rattle.words.proofs.LineLaws.{count-of, word-of}
+use Rattle.lines.specs.declared.rows.Form.{Form}
 use Rattle.lines.specs.declared.read.Asked.{Asked}
-use Rattle.lines.specs.Answer.{noForm, nth, seven, kindOf, formOf, limits, Within, replyText, answerAs, answerWords, answerText, roomFor, Replied}
+use Rattle.lines.specs.Answer.{noForm, nth, Row, rows, noRow, rowAt, kindOf, formOf, Within, replyText, answerAs, answerWords, answerText, roomFor, Replied}
 use Rattle.lines.specs.Read.{OfSeven, AskedRead}
 use Rattle.lines.proofs.OctetLaws.{OctetsAre, octets-are, octets-not}
 use Rattle.lines.proofs.ReadLaws.{read-within}
@@ -71,28 +67,6 @@ module _ (line : List ℕ) (split : Words) (is-split : split ≡ splitOf line) w
   pub counted : (k : ℕ) → (split .count =? k) ≡ (length (lineWords line) =? k)
   counted k = ap (λ (n : ℕ). n =? k) (count-of line split is-split)
 
--- what `check::same` answers of a word and a name
-pub name-is : {word name : List ℕ} {r : Bool} → (r ≡ true → word ≡ name) × (word ≡ name → r ≡ true) → isName word name ≡ r
-name-is h = sym (same-is _ _ _ h)
-
--- a part of the image is no longer than the image
-part-short : (m : List ℕ) (p : Place) → length (placePart m p) ≤ length m
-unfolding placePart part
-part-short m (Place.At p n) = omega (arith, length-take n (drop (p .0) m), length-drop (p .0) m)
-part-short m (Place.Refused r) = zero-le
-
-pub table-short : (d m : List ℕ) (mfr num : ℕ) (octets : List ℕ) → octets ≡ tableOctets d m mfr num → length octets ≤ length m
-unfolding tableOctets
-table-short d m mfr num octets e = rw e (part-short m _)
-
-pub element-short : (d m : List ℕ) (element : ElementName) (octets : List ℕ) → octets ≡ elementOctets d m element → length octets ≤ length m
-unfolding elementOctets
-element-short d m element octets e = rw e (part-short m _)
-
--- an offset in a table is its number
-pub offset-is : (offset : TableOffset) (n : ℕ) → offset .0 ≡ n → offset ≡ record { 0 = n }
-offset-is offset n e = ap (λ (x : ℕ). record { 0 = x }) e
-
 pub too-long : (line : List ℕ) → 300000 < length line → noForm ≡ answerText line
 unfolding answerText
 too-long line h = rw (lt-ltb 300000 (length line) h)
@@ -101,35 +75,56 @@ pub taken : (line : List ℕ) → length line ≤ 300000 → answerWords (lineWo
 unfolding answerText
 taken line h = rw (le-ltb 300000 (length line) h)
 
--- THE FORMS
--- no form has more than seven numbers, and each has room for seven
-pub form-few : (kind : Kind) → OfSeven (formOf kind .numbers) (formOf kind .most)
-unfolding formOf seven
-form-few Kind.Check = record { few = omega arith; long = refl }
-form-few Kind.Layout = record { few = omega arith; long = refl }
-form-few Kind.Table = record { few = omega arith; long = refl }
-form-few Kind.TablePart = record { few = omega arith; long = refl }
-form-few Kind.Where = record { few = omega arith; long = refl }
-form-few Kind.Octets = record { few = omega arith; long = refl }
-form-few Kind.Number = record { few = omega arith; long = refl }
-form-few Kind.WriteRange = record { few = omega arith; long = refl }
-form-few Kind.WriteOctets = record { few = omega arith; long = refl }
-form-few Kind.WriteNumber = record { few = omega arith; long = refl }
-form-few Kind.Tier = record { few = omega arith; long = refl }
-form-few Kind.Matrix = record { few = omega arith; long = refl }
-form-few Kind.Unknown = record { few = omega arith; long = refl }
+-- THE TABLE: a rule that holds of every row, computed once for all
+allFrom : (f : ℕ → Row → Bool) → (from : ℕ) → List Row → Bool
+allFrom f from [] = true
+allFrom f from (r ∷ rs) = f from r && allFrom f (from + 1) rs
 
--- numbers within a kind's limits
-pub within : {kind : Kind} {numbers : List ℕ} (other : Kind) → Within kind numbers → kind ≡ other → (i : ℕ)
-    → getD numbers i 0 ≤ getD (limits (formOf other)) i 0
-within other w e = rw e at (w .each)
+all-at : (f : ℕ → Row → Bool) (from : ℕ) (rs : List Row) → allFrom f from rs ≡ true → (k : ℕ) → k < length rs → f (from + k) (getD rs k noRow) ≡ true
+unfolding allFrom
+all-at f from [] h k l = absurd (not-suc-le-zero l)
+all-at f from (r ∷ rs) h zero l = rw (add-zero from) (and-eq-true-iff (f from r) _ .0 h .0)
+all-at f from (r ∷ rs) h (suc k) l =
+    let e : from + suc k ≡ from + 1 + k = omega arith in
+    rw e (all-at f (from + 1) rs (and-eq-true-iff (f from r) _ .0 h .1) k (le-of-suc-le-suc l))
+
+-- at most seven numbers, with room for seven limits; at most five numbers told; octets told by the rows that `put_part` knows
+knows : (kind : ℕ) → Bool
+knows k = eqb k 3 || (eqb k 5 || eqb k 11)
+
+fits : ℕ → Row → Bool
+fits k r = leb (r .form .numbers) 7 && (eqb (length (r .form .most)) 7 && (leb (r .form .told) 5 && (knows k || not (r .form .part))))
+
+pub record RowFits (kind : ℕ) : Type 0 where
+  pub numbers : OfSeven (formOf kind .numbers) (formOf kind .most)
+  pub told : formOf kind .told ≤ 5
+  pub part : (kind ≡ 3 → ⊥) → (kind ≡ 5 → ⊥) → (kind ≡ 11 → ⊥) → formOf kind .part ≡ false
+
+pub row-fits : (kind : ℕ) → kind < length rows → RowFits kind
+unfolding rows rowAt formOf knows fits allFrom
+row-fits kind h =
+    let f : Form = formOf kind in
+    let all = and-eq-true-iff (leb (f .numbers) 7) _ .0 (rw (zero-add kind) at (all-at fits 0 rows refl kind h)) in
+    let rest = and-eq-true-iff (eqb (length (f .most)) 7) _ .0 (all .1) in
+    let last = and-eq-true-iff (leb (f .told) 5) _ .0 (rest .1) in
+    record {
+      numbers = record { few = leb-true _ _ (all .0); long = eqb-true _ _ (rest .0) };
+      told = leb-true _ _ (last .0);
+      part = λ a b c. not-true (f .part) (rw (ne-eqb kind 3 a, ne-eqb kind 5 b, ne-eqb kind 11 c) at (last .1));
+    }
+
+-- no row has that name
+pub unknown : (kind : ℕ) (line : List ℕ) {word : List ℕ} → kind ≡ kindOf word → word ≡ nth (lineWords line) 0 → length rows ≤ kind → length line ≤ 300000
+    → noForm ≡ answerText line
+unfolding answerWords
+unknown kind line is-kind is-word h short = rw (← is-word, ← is-kind, le-ltb kind (length rows) h) refl ∙ taken line short
 
 -- THE REPLIES
-module _ (kind : Kind) {f : Form} (line : List ℕ) {word description image given : List ℕ} {r : Asked} (is-kind : kind ≡ kindOf word) (is-form : f ≡ formOf kind)
-    (is-word : word ≡ nth (lineWords line) 0) (s : AskedRead f (lineWords line) description image given r) where
+module _ (kind : ℕ) {f : Form} (line : List ℕ) {word description image given : List ℕ} {r : Asked} (is-kind : kind ≡ kindOf word) (is-form : f ≡ formOf kind)
+    (is-word : word ≡ nth (lineWords line) 0) (inside : kind < length rows) (s : AskedRead f (lineWords line) description image given r) where
   answer-as : answerAs kind f (lineWords line) ≡ answerWords (lineWords line)
   unfolding answerWords
-  answer-as = rw (is-form, is-kind, is-word)
+  answer-as = rw (is-form, ← is-word, ← is-kind, lt-ltb kind (length rows) inside)
 
   pub asked-reply : r .is ≡ true → length line ≤ 300000
       → replyText kind (take (r .d) description) (take (r .m) image) (r .numbers) (take (r .given) given) ≡ answerText line

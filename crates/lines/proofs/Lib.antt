@@ -1,5 +1,6 @@
-pub mod InputLaws
-pub mod PutLaws
-pub mod OctetLaws
-pub mod ReadLaws
 pub mod AnswerLaws
+pub mod AskLaws
+pub mod InputLaws
+pub mod OctetLaws
+pub mod PutLaws
+pub mod ReadLaws

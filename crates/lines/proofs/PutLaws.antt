@@ -1,147 +1,194 @@
--- What putting numbers leans on: `Spaced` says what is known when the first i numbers stand in `out`, each behind a space. Assumes nothing.
-use mathlib.Core.Path.{_≡_, refl, sym, _∙_}
-use mathlib.Core.List.{List, [], _∷_, _++_, append-assoc, append-nil}
-use Prim.Native.Nat.{ℕ, _+_, _-_, _*_, _≤_, _<_}
-use native.Mathlib.Nat.{not-suc-le-zero, add-zero}
+-- What putting a reply together leans on: words added to a text one by one, and the room that they take. Assumes nothing.
+use mathlib.Core.Path.{_≡_, refl, sym, ap, _∙_}
+use mathlib.Core.List.{List, [], _∷_, _++_, map, append-assoc, append-nil, map-append}
+use mathlib.Core.Bool.{Bool, true, false, cond}
+use Prim.Native.Nat.{ℕ, _+_, _*_, _≤_, _<_, zero-le}
+use native.Mathlib.Nat.{add-zero, zero-add}
 use native.Mathlib.Numerals.{add-one}
 use native.Mathlib.Omega.{arith}
-use lib.ListN.{length, getD, take, drop, length-append, length-drop, take-append-drop}
-use lib.Seq.{take-suc, take-all, length-take-le}
+use borrow.Author.Tests.{eq-eqb, ne-eqb}
+use lib.Dec.{eqb}
+use lib.ListN.{length, getD, take, length-append, length-take, take-append-drop}
+use lib.Seq.{take-suc, length-take-le}
 use Rattle.words.specs.Put.{laid, IsPut}
 use Rattle.words.specs.Number.{decimalText}
 use Rattle.words.proofs.NumberLaws.{text-short}
 use Rattle.words.specs.Hex.{hexText}
 use Rattle.words.proofs.HexLaws.{text-short as hex-short}
-use Rattle.words.proofs.PutLaws.{put, put-next, put-then}
-use Rattle.meaning.specs.declared.Verdict.{Verdict}
-use Rattle.meaning.specs.Refusals.{verdictValues}
-use Rattle.replies.proofs.Laws.{verdict-three}
-use Rattle.lines.specs.Answer.{spacedText, numbersText, numbersLine, octetsLine, verdictLine, noForm, Replied}
+use Rattle.words.proofs.PutLaws.{put, put-next, put-long, put-then}
+use Rattle.lines.specs.Answer.{spaceAt, behind, addWords, lineOf, hexIf, hexBehind, noForm, roomFor, Replied}
 
--- one number more at the end
-spaced-more : (xs : List ℕ) (n : ℕ) → spacedText (xs ++ (n ∷ [])) ≡ spacedText xs ++ (32 ∷ decimalText n)
-unfolding spacedText
-spaced-more [] n = rw append-nil
-spaced-more (x ∷ xs) n = rw (spaced-more xs n, append-assoc)
+-- nothing is put
+pub put-nothing : (out : List ℕ) (at : ℕ) → at ≤ length out → IsPut out at [] out at
+unfolding laid
+put-nothing out at h = put (omega arith) (rw (append-nil, add-zero) (sym (take-append-drop at out))) (sym (add-zero at))
 
--- 21 octets for each number suffice
-spaced-short : (xs : List ℕ) → length (spacedText xs) ≤ 21 * length xs
-unfolding spacedText
-spaced-short [] = omega arith
-spaced-short (x ∷ xs) = omega (arith, length-append (decimalText x) (spacedText xs), text-short x, spaced-short xs)
-
-pub numbers-short : (xs : List ℕ) → length (numbersText xs) ≤ 21 * length xs
-unfolding numbersText
-numbers-short [] = omega arith
-numbers-short (x ∷ xs) = omega (arith, length-append (decimalText x) (spacedText xs), text-short x, spaced-short xs)
-
--- the first i numbers, each behind a space, stand in `now` from `at` on, which is `out` otherwise; the next place is `to`
-pub record Spaced (out : List ℕ) (at : ℕ) (numbers now : List ℕ) (to i : ℕ) : Type 0 where
-  pub within : i ≤ length numbers
-  pub room : at + 21 * length numbers ≤ length out
-  pub long : length now ≡ length out
-  pub is : IsPut out at (spacedText (take i numbers)) now to
-
-pub spaced-none : (out : List ℕ) (at : ℕ) (numbers : List ℕ) → at + 21 * length numbers ≤ length out → Spaced out at numbers out at 0
-unfolding spacedText laid
-spaced-none out at numbers h =
-    record { within = omega arith; room = h; long = refl; is = put (omega arith) (rw (append-nil, add-zero) (sym (take-append-drop at out))) (omega arith) }
-
-module _ {out : List ℕ} {at : ℕ} {numbers now : List ℕ} {to i : ℕ} (s : Spaced out at numbers now to i) (h : i < length numbers) where
-  so-far : length (spacedText (take i numbers)) ≤ 21 * i
-  so-far = omega (arith, spaced-short (take i numbers), length-take-le i numbers (omega arith))
-
-  pub spaced-room : to + 21 ≤ length now
-  spaced-room = omega (arith, put-next (s .is) (omega (arith, so-far)), so-far)
-
-  pub spaced-next : {later : List ℕ} {next : ℕ} → length later ≡ length now → IsPut now to (32 ∷ decimalText (getD numbers i 0)) later next
-      → Spaced out at numbers later next (i + 1)
-  spaced-next {later} {next} l p =
-      let t : take (i + 1) numbers ≡ take i numbers ++ (getD numbers i 0 ∷ []) = rw add-one (take-suc numbers i 0 h) in
-      let e : spacedText (take i numbers) ++ (32 ∷ decimalText (getD numbers i 0)) ≡ spacedText (take (i + 1) numbers) =
-      rw t (sym (spaced-more (take i numbers) (getD numbers i 0))) in
-      record {
-        within = omega arith;
-        room = s .room;
-        long = l ∙ s .long;
-        is = rw e at (put-then (s .is) p (omega (arith, so-far, text-short (getD numbers i 0))));
-      }
-
-pub spaced-all : {out : List ℕ} {at : ℕ} {numbers now : List ℕ} {to i : ℕ} → Spaced out at numbers now to i → length numbers ≤ i
-    → IsPut out at (spacedText numbers) now to
-spaced-all {numbers = numbers} {i = i} s h = rw (take-all i numbers h) at (s .is)
-
--- THE REPLIES
--- a line of no form
-pub no-form-put : {out later : List ℕ} {r : ℕ} → 2 ≤ length out → IsPut out 0 noForm later r → Replied out noForm later r
+pub no-form-put : {out later : List ℕ} {next : ℕ} → 2 ≤ length out → IsPut out 0 (63 ∷ 10 ∷ []) later next → Replied out noForm later next
 unfolding noForm
 no-form-put h p = record { room = omega arith; put = p }
 
-first : (numbers : List ℕ) → 1 ≤ length numbers → decimalText (getD numbers 0 0) ++ spacedText (drop 1 numbers) ≡ numbersText numbers
-unfolding numbersText
-first [] h = absurd (not-suc-le-zero h)
-first (n ∷ numbers) h = refl
+-- A WORD, AND THE SPACE BEFORE IT
+pub no-space : (out : List ℕ) (at : ℕ) → at + 1 ≤ length out → at ≡ 0 → IsPut out at (spaceAt at) out at
+unfolding spaceAt
+no-space out at h e = rw (eq-eqb at 0 e) (put-nothing out at (omega arith))
 
--- the numbers after the first, as a part of the slice
-rest-is : (numbers : List ℕ) → take (length numbers - 1) (drop 1 numbers) ≡ drop 1 numbers
-rest-is numbers = take-all (length numbers - 1) (drop 1 numbers) (omega (arith, length-drop 1 numbers))
+pub a-space : {out later : List ℕ} (at : ℕ) {next : ℕ} → (at ≡ 0 → ⊥) → IsPut out at (32 ∷ []) later next → IsPut out at (spaceAt at) later next
+unfolding spaceAt
+a-space at e p = rw (ne-eqb at 0 e) p
 
-module _ {out now : List ℕ} {at : ℕ} (numbers : List ℕ) (some : 1 ≤ length numbers) (room : 21 * length numbers ≤ length out)
-    (p : IsPut out 0 (decimalText (getD numbers 0 0)) now at) where
-  pub rest-room : length now ≡ length out → at + 21 * length (take (length numbers - 1) (drop 1 numbers)) ≤ length now
-  rest-room l =
-      let t : length (decimalText (getD numbers 0 0)) ≤ 20 = text-short (getD numbers 0 0) in
-      rw (rest-is numbers) (omega (arith, put-next p (omega arith), length-drop 1 numbers))
+space-short : (at : ℕ) → length (spaceAt at) ≤ 1
+unfolding spaceAt
+space-short at = go (eqb at 0)
+  where
+    go : (b : Bool) → length {A = ℕ} (cond b [] (32 ∷ [])) ≤ 1
+    go true = zero-le
+    go false = omega arith
 
-  pub numbers-put : {later : List ℕ} {next : ℕ} → IsPut now at (spacedText (take (length numbers - 1) (drop 1 numbers))) later next
-      → IsPut out 0 (numbersText numbers) later next
-  numbers-put q =
-      rw (first numbers some) at
-      (put-then p (rw (rest-is numbers) at q)
-      (omega (arith, text-short (getD numbers 0 0), spaced-short (drop 1 numbers), length-drop 1 numbers)))
+behind-short : (at : ℕ) (word : List ℕ) → length (behind at word) ≤ 1 + length word
+unfolding behind
+behind-short at word = omega (arith, length-append (spaceAt at) word, space-short at)
 
--- and the line feed
-pub line-put : {out now later : List ℕ} {at next : ℕ} (numbers : List ℕ) → 21 * length numbers + 1 ≤ length out
-    → IsPut out 0 (numbersText numbers) now at → IsPut now at (10 ∷ []) later next → Replied out (numbersLine numbers) later next
-unfolding numbersLine
-line-put numbers h p q =
-    record {
-      room = omega (arith, length-append (numbersText numbers) (10 ∷ []), numbers-short numbers);
-      put = put-then p q (omega (arith, numbers-short numbers));
-    }
+pub word-put : {out mid later : List ℕ} {at to next : ℕ} (word : List ℕ) → at + 1 + length word ≤ length out → IsPut out at (spaceAt at) mid to
+    → IsPut mid to word later next → IsPut out at (behind at word) later next
+unfolding behind
+word-put {at = at} word h p q = put-then p q (omega (arith, space-short at))
 
--- octets in hex, and the line feed
-octets-short : (octets : List ℕ) → length (octetsLine octets) ≤ 2 * length octets + 2
-unfolding octetsLine
-octets-short octets = omega (arith, length-append (hexText octets) (10 ∷ []), hex-short octets)
+pub number-put : {out mid later : List ℕ} {at to next : ℕ} (n : ℕ) → at + 21 ≤ length out → IsPut out at (spaceAt at) mid to
+    → IsPut mid to (decimalText n) later next → IsPut out at (behind at (decimalText n)) later next
+number-put n h p q = word-put (decimalText n) (omega (arith, text-short n)) p q
 
-pub hex-put : {out now later : List ℕ} {at behind next : ℕ} (octets : List ℕ) → at + 2 * length octets + 2 ≤ length out
-    → IsPut out at (hexText octets) now behind → IsPut now behind (10 ∷ []) later next → IsPut out at (octetsLine octets) later next
-unfolding octetsLine
-hex-put octets h p q = put-then p q (omega (arith, hex-short octets))
+pub octets-put : {out mid later : List ℕ} {at to next : ℕ} (octets : List ℕ) → at + 2 * length octets + 2 ≤ length out → IsPut out at (spaceAt at) mid to
+    → IsPut mid to (hexText octets) later next → IsPut out at (behind at (hexText octets)) later next
+octets-put octets h p q = word-put (hexText octets) (omega (arith, hex-short octets)) p q
 
-pub part-put : {out later : List ℕ} {next : ℕ} (octets : List ℕ) → 2 * length octets + 2 ≤ length out → IsPut out 0 (octetsLine octets) later next
-    → Replied out (octetsLine octets) later next
-part-put octets h p = record { room = omega (arith, octets-short octets); put = p }
+-- where the reply has it
+module _ (at : ℕ) {there : Bool} (octets : List ℕ) where
+  pub hex-there : {out later : List ℕ} {next : ℕ} → there ≡ true → IsPut out at (behind at (hexText octets)) later next → IsPut out at (hexBehind at there octets) later next
+  unfolding hexBehind
+  hex-there e p = rw e p
 
--- a verdict's three numbers are put, then a space: there is room for the octets
-verdict-short : (v : Verdict) → length (numbersText (verdictValues v)) ≤ 63
-verdict-short v = omega (arith, numbers-short (verdictValues v), verdict-three v)
+  pub hex-none : (out : List ℕ) → at ≤ length out → there ≡ false → IsPut out at (hexBehind at there octets) out at
+  unfolding hexBehind
+  hex-none out h e = rw e (put-nothing out at h)
 
-module _ {out now : List ℕ} {at : ℕ} (v : Verdict) (octets : List ℕ) (room : 2 * length octets + 66 ≤ length out)
-    (p : IsPut out 0 (numbersText (verdictValues v)) now at) {spaced : List ℕ} {behind : ℕ} (q : IsPut now at (32 ∷ []) spaced behind) where
-  pub octets-room : length now ≡ length out → length spaced ≡ length now → behind + 2 * length octets + 2 ≤ length spaced
-  octets-room l k =
-      let s : length (numbersText (verdictValues v)) ≤ 63 = verdict-short v in
-      let e : at ≡ 0 + length (numbersText (verdictValues v)) = put-next p (omega arith) in
-      omega (arith, put-next q (omega arith))
+hex-room : (at : ℕ) (there : Bool) (octets : List ℕ) (n : ℕ) → (there ≡ true → length octets ≤ n) → length (hexBehind at there octets) ≤ 2 * n + 2
+unfolding hexBehind
+hex-room at true octets n h = omega (arith, behind-short at (hexText octets), hex-short octets, h refl)
+hex-room at false octets n h = zero-le
 
-  pub verdict-put : {later : List ℕ} {next : ℕ} → IsPut spaced behind (octetsLine octets) later next → Replied out (verdictLine v octets) later next
-  unfolding verdictLine
-  verdict-put r =
-      let s : length (numbersText (verdictValues v)) ≤ 63 = verdict-short v in
-      let o : length (octetsLine octets) ≤ 2 * length octets + 2 = octets-short octets in
+-- WORDS ONE AFTER ANOTHER
+add-append : (text : List ℕ) (ws vs : List (List ℕ)) → addWords text (ws ++ vs) ≡ addWords (addWords text ws) vs
+unfolding addWords
+add-append text [] vs = refl
+add-append text (w ∷ ws) vs = add-append (text ++ behind (length text) w) ws vs
+
+add-hex : (text : List ℕ) (there : Bool) (octets : List ℕ) → addWords text (hexIf there octets) ≡ text ++ hexBehind (length text) there octets
+unfolding addWords hexIf hexBehind
+add-hex text true octets = refl
+add-hex text false octets = sym (append-nil text)
+
+numbers-long : (text xs : List ℕ) → length (addWords text (map decimalText xs)) ≤ length text + 21 * length xs
+unfolding addWords
+numbers-long text [] = omega arith
+numbers-long text (x ∷ xs) =
+    let w : List ℕ = behind (length text) (decimalText x) in
+    omega (arith, numbers-long (text ++ w) xs, length-append text w, behind-short (length text) (decimalText x), text-short x)
+
+-- the first i of five numbers stand at the start of `now`, which is `out` otherwise; the next place is `at`
+abbrev first : (numbers : List ℕ) → (i : ℕ) → List ℕ
+first numbers i = addWords [] (map decimalText (take i numbers))
+
+pub record Counted (out numbers : List ℕ) (count : ℕ) (now : List ℕ) (at i : ℕ) : Type 0 where
+  pub within : i ≤ count
+  pub few : count ≤ 5
+  pub five : length numbers ≡ 5
+  pub room : 105 ≤ length out
+  pub is : IsPut out 0 (first numbers i) now at
+
+pub counted-none : (out numbers : List ℕ) (count : ℕ) → count ≤ 5 → length numbers ≡ 5 → 105 ≤ length out → Counted out numbers count out 0 0
+unfolding addWords
+counted-none out numbers count f l h = record { within = zero-le; few = f; five = l; room = h; is = put-nothing out 0 (omega arith) }
+
+module _ {out numbers : List ℕ} {count : ℕ} {now : List ℕ} {at i : ℕ} (s : Counted out numbers count now at i) where
+  short-first : length (first numbers i) ≤ 21 * i
+  short-first = omega (arith, numbers-long [] (take i numbers), length-take-le i numbers (omega (arith, s .five, s .within, s .few)))
+
+  at-first : at ≡ length (first numbers i)
+  at-first = put-next (s .is) (omega (arith, short-first, s .within, s .few, s .room)) ∙ zero-add _
+
+  pub counted-room : i < count → at + 21 ≤ length now
+  counted-room h = omega (arith, at-first, short-first, put-long (s .is), s .few, s .room)
+
+  pub counted-more : {later : List ℕ} {next : ℕ} → i < count → IsPut now at (behind at (decimalText (getD numbers i 0))) later next → Counted out numbers count later next (i + 1)
+  unfolding addWords
+  counted-more h p =
+      let x : ℕ = getD numbers i 0 in
+      let t : take (i + 1) numbers ≡ take i numbers ++ (x ∷ []) = rw add-one (take-suc numbers i 0 (omega (arith, s .five, s .few))) in
+      let e : first numbers (i + 1) ≡ first numbers i ++ behind at (decimalText x) =
+      rw (t, map-append, add-append [] (map decimalText (take i numbers)) (decimalText x ∷ []), at-first) in
       record {
-        room = omega (arith, length-append (numbersText (verdictValues v)) (32 ∷ octetsLine octets));
-        put = rw append-assoc at (put-then (put-then p q (omega arith)) r (omega (arith, length-append (numbersText (verdictValues v)) (32 ∷ []))));
+        within = omega arith;
+        few = s .few;
+        five = s .five;
+        room = s .room;
+        is = rw e (put-then (s .is) p (omega (arith, short-first, behind-short at (decimalText x), text-short x, s .few, s .room)));
       }
+
+  pub counted-all : count ≤ i → IsPut out 0 (first numbers count) now at
+  counted-all h = let e : i ≡ count = omega (arith, s .within) in rw e at (s .is)
+
+-- THE WHOLE REPLY: numbers, then octets where it has them, then the image afterwards where it has that; the line feed
+module _ (m octets image numbers : List ℕ) (count : ℕ) (part after : Bool) {out : List ℕ} (few : count ≤ 5) (room : roomFor m ≤ length out)
+    (short-octets : part ≡ true → length octets ≤ length m + 330) (short-image : length image ≤ length m) {now₁ : List ℕ} {at₁ : ℕ}
+    (p₁ : IsPut out 0 (first numbers count) now₁ at₁) where
+  count-short : length (first numbers count) ≤ 105
+  count-short = omega (arith, numbers-long [] (take count numbers), length-take count numbers)
+
+  at-is : at₁ ≡ length (first numbers count)
+  at-is = put-next p₁ (omega (arith, count-short)) ∙ zero-add _
+
+  pub part-room : at₁ + 2 * length m + 662 ≤ length now₁
+  part-room = omega (arith, at-is, count-short, put-long p₁)
+
+  module _ {now₂ : List ℕ} {at₂ : ℕ} (p₂ : IsPut now₁ at₁ (hexBehind at₁ part octets) now₂ at₂) where
+    part-short : length (hexBehind at₁ part octets) ≤ 2 * length m + 662
+    part-short = omega (arith, hex-room at₁ part octets (length m + 330) short-octets)
+
+    told : List ℕ
+    told = first numbers count ++ hexBehind at₁ part octets
+
+    told-short : length told ≤ 2 * length m + 767
+    unfolding told
+    told-short = omega (arith, length-append (first numbers count) (hexBehind at₁ part octets), count-short, part-short)
+
+    told-put : IsPut out 0 told now₂ at₂
+    unfolding told
+    told-put = put-then p₁ p₂ (omega (arith, count-short, part-short))
+
+    told-end : at₂ ≡ length told
+    told-end = put-next told-put (omega (arith, told-short)) ∙ zero-add _
+
+    pub after-room : at₂ + 2 * length m + 2 ≤ length now₂
+    after-room = omega (arith, told-end, told-short, put-long told-put)
+
+    text-is : addWords [] (map decimalText (take count numbers) ++ (hexIf part octets ++ hexIf after image)) ≡ told ++ hexBehind at₂ after image
+    unfolding told
+    text-is =
+        let a : addWords (first numbers count) (hexIf part octets) ≡ told = add-hex (first numbers count) part octets ∙ ap (λ (n : ℕ). first numbers count ++ hexBehind n part octets) (sym at-is) in
+        let b : addWords told (hexIf after image) ≡ told ++ hexBehind at₂ after image = add-hex told after image ∙ ap (λ (n : ℕ). told ++ hexBehind n after image) (sym told-end) in
+        add-append [] (map decimalText (take count numbers)) (hexIf part octets ++ hexIf after image)
+        ∙ add-append (first numbers count) (hexIf part octets) (hexIf after image)
+        ∙ ap (λ (t : List ℕ). addWords t (hexIf after image)) a
+        ∙ b
+
+    pub reply-put : {now₃ later : List ℕ} {at₃ r : ℕ} → IsPut now₂ at₂ (hexBehind at₂ after image) now₃ at₃ → IsPut now₃ at₃ (10 ∷ []) later r
+        → Replied out (lineOf (map decimalText (take count numbers) ++ (hexIf part octets ++ hexIf after image))) later r
+    unfolding lineOf
+    reply-put p₃ p₄ =
+        let s : length (hexBehind at₂ after image) ≤ 2 * length m + 2 = hex-room at₂ after image (length m) (λ e. short-image) in
+        let l : length (told ++ hexBehind at₂ after image) ≡ length told + length (hexBehind at₂ after image) = length-append told _ in
+        rw text-is
+        (record {
+          room = omega (arith, length-append (told ++ hexBehind at₂ after image) (10 ∷ []), told-short);
+          put = put-then (put-then told-put p₃ (omega (arith, told-short))) p₄ (omega (arith, told-short));
+        })

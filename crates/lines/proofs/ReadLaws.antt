@@ -15,7 +15,7 @@ use Rattle.words.specs.declared.types.Number.{Number}
 use Rattle.words.specs.declared.types.Number.the-variants.{Is, Not}
 use Rattle.words.specs.Number.{allDigits, valueOf, isNumber, numberOf}
 use Rattle.words.specs.Hex.{areOctets}
-use Rattle.lines.specs.declared.kind.Form.{Form}
+use Rattle.lines.specs.declared.rows.Form.{Form}
 use Rattle.lines.specs.declared.read.Numbers.{Numbers}
 use Rattle.lines.specs.declared.read.Part.{Part}
 use Rattle.lines.specs.declared.read.Asked.{Asked}

@@ -1,3 +1,4 @@
 pub mod Answer
+pub mod Ask
 pub mod Input
 pub mod Read

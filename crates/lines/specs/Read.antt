@@ -5,7 +5,7 @@ use mathlib.Core.Bool.{true}
 use mathlib.Core.List.{List}
 use lib.ListN.{length, take}
 use Rattle.words.specs.Hex.{areOctets, octetsOf}
-use Rattle.lines.specs.declared.kind.Form.{Form}
+use Rattle.lines.specs.declared.rows.Form.{Form}
 use Rattle.lines.specs.declared.read.Numbers.{Numbers}
 use Rattle.lines.specs.declared.read.Part.{Part}
 use Rattle.lines.specs.declared.read.Asked.{Asked}

@@ -1,17 +1,17 @@
 // Reads requests from standard input, a line each, and writes one reply line for each to standard
 // output, in order, until the input ends. Nothing is kept between lines.
+mod ask;
 mod input;
-mod kind;
 mod put;
-mod questions;
 mod read;
 mod reply;
+mod rows;
 
 // The longest line that is taken, and one octet more, by which a longer line is told.
 const LINE: usize = 300001;
-// The longest reply: an image as long as it can be, or the matrix, in hex, behind a refusal's three
-// numbers.
-const REPLY: usize = 300726;
+// The longest reply that any row could have: five numbers, a part of the image or the matrix, and the
+// image, both in hex.
+const REPLY: usize = 600770;
 // The octets of a description: no line that is taken has hex digits for more.
 const DESCRIPTION: usize = 150000;
 // The octets of an image, likewise.

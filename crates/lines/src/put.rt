@@ -1,11 +1,13 @@
-// Replies, put together at the start of out.
-use meaning::Verdict;
-ghost use mathlib.Core.List.{_∷_};
+// Replies, put together at the start of out, word by word: a word stands behind a space unless it is
+// the first.
+ghost use mathlib.Core.List.{map};
 ghost use Prim.Native.Nat.{_+_, _*_, _≤_};
-ghost use lib.ListN.{length};
+ghost use lib.ListN.{length, take};
 ghost use Rattle.words.specs.Put.{IsPut};
 ghost use Rattle.words.specs.Number.{decimalText};
-ghost use Rattle.lines.specs.Answer.{noForm, spacedText, numbersText, numbersLine, octetsLine, verdictLine, Replied};
+ghost use Rattle.words.specs.Hex.{hexText};
+ghost use Rattle.lines.specs.Answer.{noForm, spaceAt, behind, hexBehind, addWords, Replied};
+ghost use mathlib.Core.List.{[]};
 
 // The reply to a line of no form.
 pub fn no_form(out: &mut [u8]) -> usize
@@ -15,73 +17,57 @@ pub fn no_form(out: &mut [u8]) -> usize
     words::put_text(out, 0, b"?\n")
 }
 
-// One number more, behind a space.
-fn put_next(out: &mut [u8], at: usize, n: u64) -> usize
-    requires { ⌜ at + 21 ≤ length (now out) ⌝ }
-    ensures { λ r. ⌜ IsPut (now (out .entry)) at (32 ∷ decimalText n) (now (out .exit)) r ⌝ }
+// The space before a word, where one is due.
+fn put_space(out: &mut [u8], at: usize) -> usize
+    requires { ⌜ at + 1 ≤ length (now out) ⌝ }
+    ensures { λ r. ⌜ IsPut (now (out .entry)) at (spaceAt at) (now (out .exit)) r ⌝ }
 {
-    let behind = words::put_octet(out, at, b' ');
-    words::put_number(out, behind, n)
+    if at == 0 {
+        return at;
+    }
+    words::put_octet(out, at, b' ')
 }
 
-// Numbers, each behind a space. No number has more than 20 digits, so 21 octets each suffice.
-fn put_spaced(out: &mut [u8], at: usize, numbers: &[u64]) -> usize
-    requires { ⌜ at + 21 * length (now numbers) ≤ length (now out) ⌝ }
-    ensures { λ r. ⌜ IsPut (now (out .entry)) at (spacedText (now (numbers .entry))) (now (out .exit)) r ⌝ }
+// A number. None has more than 20 digits, so 21 octets suffice.
+fn put_number(out: &mut [u8], at: usize, n: u64) -> usize
+    requires { ⌜ at + 21 ≤ length (now out) ⌝ }
+    ensures { λ r. ⌜ IsPut (now (out .entry)) at (behind at (decimalText n)) (now (out .exit)) r ⌝ }
 {
-    let mut to = at;
+    let to = put_space(out, at);
+    words::put_number(out, to, n)
+}
+
+// The first of five numbers, so many as count.
+pub fn put_numbers(out: &mut [u8], numbers: [u64; 5], count: usize) -> usize
+    requires { ⌜ count ≤ 5 ⌝ }
+    requires { ⌜ 105 ≤ length (now out) ⌝ }
+    ensures { λ r. ⌜ IsPut (now (out .entry)) 0 (addWords [] (map decimalText (take count numbers))) (now (out .exit)) r ⌝ }
+{
+    let mut at = 0;
     let mut i = 0;
-    while i < numbers.len() {
-        to = put_next(out, to, numbers[i]);
+    while i < count {
+        at = put_number(out, at, numbers[i]);
         i += 1;
     }
-    to
+    at
 }
 
-// Numbers with one space between.
-fn put_numbers(out: &mut [u8], numbers: &[u64]) -> usize
-    requires { ⌜ 1 ≤ length (now numbers) ⌝ }
-    requires { ⌜ 21 * length (now numbers) ≤ length (now out) ⌝ }
-    ensures { λ r. ⌜ IsPut (now (out .entry)) 0 (numbersText (now (numbers .entry))) (now (out .exit)) r ⌝ }
-{
-    let at = words::put_number(out, 0, numbers[0]);
-    put_spaced(out, at, &numbers[1..])
-}
-
-// A reply of numbers alone.
-pub fn put_line(out: &mut [u8], numbers: &[u64]) -> usize
-    requires { ⌜ 1 ≤ length (now numbers) ⌝ }
-    requires { ⌜ 21 * length (now numbers) + 1 ≤ length (now out) ⌝ }
-    ensures { λ r. ⌜ Replied (now (out .entry)) (numbersLine (now (numbers .entry))) (now (out .exit)) r ⌝ }
-{
-    let at = put_numbers(out, numbers);
-    words::put_octet(out, at, b'\n')
-}
-
-// Octets in hex, and the line feed.
-fn put_hex(out: &mut [u8], at: usize, octets: &[u8]) -> usize
+// A word of octets, in hex.
+pub fn put_octets(out: &mut [u8], at: usize, octets: &[u8]) -> usize
     requires { ⌜ at + 2 * length (now octets) + 2 ≤ length (now out) ⌝ }
-    ensures { λ r. ⌜ IsPut (now (out .entry)) at (octetsLine (now (octets .entry))) (now (out .exit)) r ⌝ }
+    ensures { λ r. ⌜ IsPut (now (out .entry)) at (behind at (hexText (now (octets .entry)))) (now (out .exit)) r ⌝ }
 {
-    let behind = words::put_octets(out, at, octets);
-    words::put_octet(out, behind, b'\n')
+    let to = put_space(out, at);
+    words::put_octets(out, to, octets)
 }
 
-// A reply of octets alone.
-pub fn put_part(out: &mut [u8], octets: &[u8]) -> usize
-    requires { ⌜ 2 * length (now octets) + 2 ≤ length (now out) ⌝ }
-    ensures { λ r. ⌜ Replied (now (out .entry)) (octetsLine (now (octets .entry))) (now (out .exit)) r ⌝ }
+// A word of octets, where the reply has it.
+pub fn put_octets_if(out: &mut [u8], at: usize, there: bool, octets: &[u8]) -> usize
+    requires { ⌜ at + 2 * length (now octets) + 2 ≤ length (now out) ⌝ }
+    ensures { λ r. ⌜ IsPut (now (out .entry)) at (hexBehind at there (now (octets .entry))) (now (out .exit)) r ⌝ }
 {
-    put_hex(out, 0, octets)
-}
-
-// A reply of a verdict, and octets: the image after a write, or the matrix.
-pub fn put_verdict(out: &mut [u8], verdict: Verdict, octets: &[u8]) -> usize
-    requires { ⌜ 2 * length (now octets) + 66 ≤ length (now out) ⌝ }
-    ensures { λ r. ⌜ Replied (now (out .entry)) (verdictLine verdict (now (octets .entry))) (now (out .exit)) r ⌝ }
-{
-    let values = replies::verdict_values(verdict);
-    let at = put_numbers(out, &values);
-    let behind = words::put_octet(out, at, b' ');
-    put_hex(out, behind, octets)
+    if !there {
+        return at;
+    }
+    put_octets(out, at, octets)
 }

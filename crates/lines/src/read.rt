@@ -1,5 +1,5 @@
 // What a line asks: the octets of D, M and DATA, the numbers, and what numbers name.
-use crate::kind::Form;
+use crate::rows::Form;
 use meaning::ElementName;
 use meaning::Moment;
 use words::Number;
@@ -118,6 +118,23 @@ pub fn read_asked(
         m: m.count,
         given: new.count,
         numbers: values,
+    }
+}
+
+// A table by its two numbers.
+pub struct TableName {
+    pub manufacturer: u32,
+    pub number: u32,
+}
+
+pub fn table(n: [u64; 7]) -> TableName
+    requires { ⌜ getD n 0 0 ≤ 1 ⌝ }
+    requires { ⌜ getD n 1 0 ≤ 65535 ⌝ }
+    ensures { λ r. ⌜ r ≡ record { manufacturer = getD n 0 0; number = getD n 1 0 } ⌝ }
+{
+    TableName {
+        manufacturer: n[0] as u32,
+        number: n[1] as u32,
     }
 }
 

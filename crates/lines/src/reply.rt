@@ -1,64 +1,37 @@
-// What a line is answered: its first word tells the kind of question, the kind the form that the
-// line must have, and both the reply. questions.rt has a function for each kind.
-use crate::kind;
-use crate::kind::Kind;
+// What a line is answered: its first word tells the row of the table, the row the form that the line
+// must have, and both the reply.
+use crate::ask;
 use crate::put;
-use crate::questions;
 use crate::read;
-use offsets::TableOffset;
-ghost use Prim.Native.Nat.{_≤_};
+use crate::rows;
+ghost use Prim.Native.Nat.{_≤_, _<_};
 ghost use lib.ListN.{length};
-ghost use Rattle.lines.specs.Answer.{answerText, replyText, Within, roomFor, Memory, Replied};
+ghost use Rattle.lines.specs.Answer.{rows, answerText, replyText, Within, roomFor, Memory, Replied};
 
 // The longest line that is taken.
 const LONGEST: usize = 300000;
 
-// The reply to a question of this kind, by the octets of D and M, the numbers, each within its
-// limit, and the octets of DATA.
+// The reply to a question of this row, by the octets of D and M, the numbers, each within its limit,
+// and the octets of DATA.
 fn reply(
-    kind: Kind,
+    kind: usize,
     d: &[u8],
     m: &mut [u8],
     numbers: [u64; 7],
     given: &[u8],
     out: &mut [u8],
 ) -> usize
+    requires { ⌜ kind < length rows ⌝ }
     requires { ⌜ roomFor (now m) ≤ length (now out) ⌝ }
     requires { ⌜ Within kind numbers ⌝ }
     ensures { λ r. ⌜ Replied (now (out .entry)) (replyText kind (now (d .entry)) (now (m .entry)) numbers (now (given .entry))) (now (out .exit)) r ⌝ }
 {
-    match kind {
-        Kind::Check => questions::check_reply(d, out),
-        Kind::Layout => questions::layout_reply(d, m, out),
-        Kind::Table => questions::table_reply(d, m, numbers[0] as u32, numbers[1] as u32, out),
-        Kind::TablePart => {
-            questions::tablepart_reply(d, m, numbers[0] as u32, numbers[1] as u32, out)
-        }
-        Kind::Where => questions::where_reply(d, m, read::element(numbers), out),
-        Kind::Octets => questions::octets_reply(d, m, read::element(numbers), out),
-        Kind::Number => questions::number_reply(d, m, read::element(numbers), out),
-        Kind::WriteRange => questions::writerange_reply(
-            d,
-            m,
-            numbers[0] as u32,
-            numbers[1] as u32,
-            TableOffset::new(numbers[2] as usize),
-            given,
-            out,
-        ),
-        Kind::WriteOctets => {
-            questions::writeoctets_reply(d, m, read::element(numbers), given, out)
-        }
-        Kind::WriteNumber => {
-            questions::writenumber_reply(d, m, read::element(numbers), numbers[6], out)
-        }
-        Kind::Tier => {
-            let quantity = replies::quantity(numbers[5]);
-            questions::tier_reply(d, m, read::moment(numbers), quantity, out)
-        }
-        Kind::Matrix => questions::matrix_reply(d, m, out),
-        Kind::Unknown => put::no_form(out),
-    }
+    let form = rows::form_of(kind);
+    let told = replies::numbers(ask::ask(kind, d, m, numbers, given));
+    let first = put::put_numbers(out, told, form.told);
+    let second = ask::put_part(kind, d, m, numbers, out, first);
+    let last = put::put_octets_if(out, second, form.after, m);
+    words::put_octet(out, last, b'\n')
 }
 
 // Puts the reply to a line, and the line feed that ends it, at the start of out, and answers how
@@ -78,8 +51,11 @@ pub fn answer(
         return put::no_form(out);
     }
     let split = words::split(line);
-    let kind = kind::kind_of(words::word(line, split, 0));
-    let asked = read::read_asked(line, split, kind::form_of(kind), description, image, given);
+    let kind = rows::kind_of(words::word(line, split, 0));
+    if rows::ROWS <= kind {
+        return put::no_form(out);
+    }
+    let asked = read::read_asked(line, split, rows::form_of(kind), description, image, given);
     if !asked.is {
         return put::no_form(out);
     }

@@ -1,7 +1,7 @@
 -- The statements of specs/Passed.antt hold for every description: the reply says what the rules say, and a passed description has what the scope document
 -- asks of one. Assumes nothing.
 use Prim.Native.Nat.{ℕ, _+_, _<_, _≤_}
-use mathlib.Core.Path.{_≡_, refl, sym, subst, _∙_}
+use mathlib.Core.Path.{_≡_, refl, sym, ap, subst, _∙_}
 use mathlib.Core.Logic.{_⊎_, inl, inr}
 use mathlib.Core.List.{List}
 use mathlib.Core.Bool.{Bool, true, false, not, cond, true≢false, false≢true, and-eq-true-iff}
@@ -12,12 +12,13 @@ use borrow.Author.Tests.{eq-eqb, ne-eqb, ltb-true}
 use lib.Dec.{eqb}
 use Rattle.meaning.specs.declared.Refusal.{Refusal}
 use Rattle.meaning.specs.declared.Verdict.{Verdict}
-use Rattle.meaning.specs.Description.{itemCount, fieldsAt, isTable, isTableNamed, isTable00, count, round, breaks1, breaks2, breaks3, breaks4, breaks5, breaks6, breaks7, lowestBroken, ruleBroken, soundness}
-use Rattle.meaning.specs.Passed.{breaks, MeetsRules, FirstToBreak, Passes, OfRules, SoundnessSays, Keeps, PassedLaws}
+use Rattle.meaning.specs.Description.{itemCount, fieldsAt, isTable, isTableNamed, isTable00, count, round, breaks1, breaks2, breaks3, breaks4, breaks5, breaks6, breaks7, lowestBroken, ruleBroken, checkReply}
+use Rattle.meaning.specs.Passed.{breaks, MeetsRules, FirstToBreak, Passes, OfRules, CheckSays, Keeps, PassedLaws}
 use Rattle.meaning.proofs.Rules.{round-none, keeps, length-allowed, sound-length, sound-passed, sound-refused}
 use Rattle.meaning.proofs.Nesting.{upward, bodies-nest, shared, levels}
 use Rattle.meaning.proofs.Ranges.{fields-range}
 use Rattle.meaning.proofs.Given.{slot-given, setter, table-given, named-swap}
+use Rattle.meaning.specs.Numbers.{descriptionLength, breaksRule}
 
 -- THE RULE REPORTED: x is the lowest number of `from` to 7 for which q holds, 0 where it holds for none
 record Lowest (x : ℕ) (q : ℕ → Bool) (from : ℕ) : Type 0 where
@@ -83,7 +84,7 @@ module _ (d : List ℕ) where
   meets-passed : MeetsRules d → Passes d
   meets-passed m = sound-passed d (m .allowed) (λ j l. none-broken j (m .kept j l))
 
-  breaking-refused : (n i : ℕ) → FirstToBreak d n i → soundness d ≡ Verdict.Refused (Refusal.BreaksRule n i)
+  breaking-refused : (n i : ℕ) → FirstToBreak d n i → checkReply d ≡ Verdict.Refused (breaksRule n i)
   breaking-refused n i f =
       let l = lowest-broken n i (f .broken) (f .lowest) in
       sound-refused d i n (f .allowed) (λ j p. none-broken j (f .earlier j p)) (l .0) (f .there) (l .1)
@@ -131,7 +132,7 @@ module _ (d : List ℕ) where
           (s .1) (s .2)
 
   -- and since each has a reply of its own, the reply tells which
-  differ : {r : Refusal} → Passes d → soundness d ≡ Verdict.Refused r → ⊥
+  differ : {r : Refusal} → Passes d → checkReply d ≡ Verdict.Refused r → ⊥
   differ p q = let z : _≡_ {A = ℕ} 0 1 = cc in omega arith
 
   passed-meets : Said → Passes d → MeetsRules d
@@ -139,50 +140,56 @@ module _ (d : List ℕ) where
   passed-meets (meets m) p = m
   passed-meets (breaking n i f a b) p = absurd (differ p (breaking-refused n i f))
 
-  refused-bad : Said → soundness d ≡ Verdict.Refused Refusal.BadLength → breaks1 d ≡ true
+  -- told by its number and its item
+  number-in : Verdict → ℕ
+  number-in Verdict.Passed = 0
+  number-in (Verdict.Refused r) = r .number
+
+  item-in : Verdict → ℕ
+  item-in Verdict.Passed = 0
+  item-in (Verdict.Refused r) = r .item
+
+  same-number : {r s : Refusal} → checkReply d ≡ Verdict.Refused r → checkReply d ≡ Verdict.Refused s → r .number ≡ s .number
+  unfolding number-in
+  same-number p q = ap number-in (sym p ∙ q)
+
+  refused-bad : Said → checkReply d ≡ Verdict.Refused descriptionLength → breaks1 d ≡ true
   refused-bad (bad e) p = e
   refused-bad (meets m) p = absurd (differ (meets-passed m) p)
-  refused-bad (breaking n i f a b) p =
-      let q = breaking-refused n i f in
-      let z : _≡_ {A = ℕ} 0 1 = cc in
-      absurd (omega arith)
+  refused-bad (breaking n i f a b) p = absurd (omega (arith, same-number p (breaking-refused n i f)))
 
-  refused-breaking : Said → (n i : ℕ) → soundness d ≡ Verdict.Refused (Refusal.BreaksRule n i) → FirstToBreak d n i
-  refused-breaking (bad e) n i p =
-      let q = sound-length d e in
-      let z : _≡_ {A = ℕ} 0 1 = cc in
-      absurd (omega arith)
-  refused-breaking (meets m) n i p = absurd (differ (meets-passed m) p)
-  refused-breaking (breaking m j f a b) n i p =
+  refused-breaking : Said → (n i : ℕ) → 2 ≤ n → checkReply d ≡ Verdict.Refused (breaksRule n i) → FirstToBreak d n i
+  unfolding item-in
+  refused-breaking (bad e) n i h p = absurd (omega (arith, same-number (sound-length d e) p))
+  refused-breaking (meets m) n i h p = absurd (differ (meets-passed m) p)
+  refused-breaking (breaking m j f a b) n i h p =
       let q = breaking-refused m j f in
-      let x : m ≡ n = cc in
-      let y : j ≡ i = cc in
-      rw (← x, ← y) f
+      rw (← same-number q p, ← ap item-in (sym q ∙ p)) f
 
-  refused-rules : Said → (r : Refusal) → soundness d ≡ Verdict.Refused r → OfRules r
+  refused-rules : Said → (r : Refusal) → checkReply d ≡ Verdict.Refused r → OfRules r
   refused-rules (bad e) r p =
       let q = sound-length d e in
-      let x : Refusal.BadLength ≡ r = cc in
-      subst OfRules x tt
+      let x : descriptionLength ≡ r = cc in
+      inl (sym x)
   refused-rules (meets m) r p = absurd (differ (meets-passed m) p)
   refused-rules (breaking n i f a b) r p =
       let q = breaking-refused n i f in
-      let x : Refusal.BreaksRule n i ≡ r = cc in
-      subst OfRules x (a, b)
+      let x : breaksRule n i ≡ r = cc in
+      subst OfRules x (inr (a, b, refl))
 
-  pub soundness-says : SoundnessSays d
-  soundness-says =
+  pub check-says : CheckSays d
+  check-says =
       record {
         passed = (passed-meets said, meets-passed);
-        badLength = (refused-bad said, sound-length d);
-        broken = λ n i. (refused-breaking said n i, breaking-refused n i);
+        descriptionLength = (refused-bad said, sound-length d);
+        broken = λ n i h. (refused-breaking said n i h, breaking-refused n i);
         nothingElse = refused-rules said;
       }
 
 -- A PASSED DESCRIPTION
 module _ (d : List ℕ) (p : Passes d) where
   rules : MeetsRules d
-  rules = soundness-says d .passed .0 p
+  rules = check-says d .passed .0 p
 
   -- each item breaks no rule
   kept : (i : ℕ) → i < itemCount d → Keeps d (fieldsAt d i) i (round d i i)

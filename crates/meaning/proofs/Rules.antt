@@ -15,10 +15,10 @@ use Rattle.meaning.specs.declared.Item.{Item}
 use Rattle.meaning.specs.declared.Item.the-variants.{Table, Uint, Block, Set, Array, If, Malformed}
 use Rattle.meaning.specs.declared.Fields.{Fields}
 use Rattle.meaning.specs.declared.Round.{Round}
-use Rattle.meaning.specs.declared.Refusal.{Refusal}
 use Rattle.meaning.specs.declared.Verdict.{Verdict}
-use Rattle.meaning.specs.Description.{itemCount, fieldsOf, fieldsAt, isTable, isTableNamed, isTable00, isDataOrder, isDimension, nests, refers, count, inside, around, round, slotOctets, tableGiven, misplaced, breaks1, breaks2, breaks3, breaks4, breaks5, breaks6, breaks7, lowestBroken, ruleBroken, firstBroken, soundness}
+use Rattle.meaning.specs.Description.{itemCount, fieldsOf, fieldsAt, isTable, isTableNamed, isTable00, isDataOrder, isDimension, nests, refers, count, inside, around, round, slotOctets, tableGiven, misplaced, breaks1, breaks2, breaks3, breaks4, breaks5, breaks6, breaks7, lowestBroken, ruleBroken, firstBroken, checkReply}
 use Rattle.meaning.specs.Passed.{Keeps}
+use Rattle.meaning.specs.Numbers.{descriptionLength, breaksRule}
 
 -- WHAT EARLIER ITEMS GAVE, before the first item and past one more
 pub slot-none : (d : List ℕ) (s : ℕ) → slotOctets d 0 s ≡ 0
@@ -140,14 +140,14 @@ first-passed d (suc m) i h = rw (h i (omega arith) (omega arith)) (first-passed 
 
 -- of items the first that breaks a rule is reported
 pub first-refused : (d : List ℕ) (m i k n : ℕ) → i ≤ k → k < i + m → ((j : ℕ) → i ≤ j → j < k → ruleBroken d j ≡ 0) → ruleBroken d k ≡ n → (n ≡ 0 → ⊥)
-    → firstBroken d m i ≡ Verdict.Refused (Refusal.BreaksRule n k)
+    → firstBroken d m i ≡ Verdict.Refused (breaksRule n k)
 unfolding firstBroken
 first-refused d zero i k n p q h e ne = absurd (omega arith)
 first-refused d (suc m) i k n p q h e ne =
     go (λ x. first-refused d m (i + 1) k n (omega arith) (omega arith) (λ j p q. h j (omega arith) q) e ne) (eq-or-lt-of-le p)
   where
-    go : (i < k → firstBroken d m (i + 1) ≡ Verdict.Refused (Refusal.BreaksRule n k)) → (i ≡ k) ⊎ (i < k)
-        → cond (eqb (ruleBroken d i) 0) (firstBroken d m (i + 1)) (Verdict.Refused (Refusal.BreaksRule (ruleBroken d i) i)) ≡ Verdict.Refused (Refusal.BreaksRule n k)
+    go : (i < k → firstBroken d m (i + 1) ≡ Verdict.Refused (breaksRule n k)) → (i ≡ k) ⊎ (i < k)
+        → cond (eqb (ruleBroken d i) 0) (firstBroken d m (i + 1)) (Verdict.Refused (breaksRule (ruleBroken d i) i)) ≡ Verdict.Refused (breaksRule n k)
     go rec (inl x) = rw (x, e, ne-eqb _ _ ne)
     go rec (inr x) = rw (h i (omega arith) x) (rec x)
 
@@ -167,17 +167,17 @@ length-allowed d e =
     record { some = omega arith; few = ltb-false _ _ (b .1); whole = omega arith }
 
 -- a length that is not allowed is refused before any item is looked at
-pub sound-length : (d : List ℕ) → breaks1 d ≡ true → soundness d ≡ Verdict.Refused Refusal.BadLength
-unfolding soundness
+pub sound-length : (d : List ℕ) → breaks1 d ≡ true → checkReply d ≡ Verdict.Refused descriptionLength
+unfolding checkReply
 sound-length d e = rw e
 
 -- a description whose items break no rule is passed
-pub sound-passed : (d : List ℕ) → breaks1 d ≡ false → ((j : ℕ) → j < itemCount d → ruleBroken d j ≡ 0) → soundness d ≡ Verdict.Passed
-unfolding soundness
+pub sound-passed : (d : List ℕ) → breaks1 d ≡ false → ((j : ℕ) → j < itemCount d → ruleBroken d j ≡ 0) → checkReply d ≡ Verdict.Passed
+unfolding checkReply
 sound-passed d e h = rw e (first-passed d (itemCount d) 0 (λ j p q. h j (omega arith)))
 
 -- the first item that breaks a rule is reported, with the lowest that it breaks
 pub sound-refused : (d : List ℕ) (k n : ℕ) → breaks1 d ≡ false → ((j : ℕ) → j < k → ruleBroken d j ≡ 0) → ruleBroken d k ≡ n → k < itemCount d → (n ≡ 0 → ⊥)
-    → soundness d ≡ Verdict.Refused (Refusal.BreaksRule n k)
-unfolding soundness
+    → checkReply d ≡ Verdict.Refused (breaksRule n k)
+unfolding checkReply
 sound-refused d k n e h b q ne = rw e (first-refused d (itemCount d) 0 k n (omega arith) (omega arith) (λ j p q. h j q) b ne)

@@ -13,10 +13,11 @@ use Rattle.meaning.specs.declared.Moment.{Moment}
 use Rattle.meaning.specs.declared.Quantity.{Quantity}
 use Rattle.meaning.specs.declared.Refusal.{Refusal}
 use Rattle.meaning.specs.declared.Verdict.{Verdict}
-use Rattle.meaning.specs.declared.Tier.{Tier}
+use Rattle.meaning.specs.declared.Reply.{Reply}
 use Rattle.meaning.specs.declared.Triple.{Triple}
 use Rattle.meaning.specs.Layout.{Seat, dataOrder, tableNamed}
 use Rattle.meaning.specs.Refusals.{Opened, opened, refused, openImage}
+use Rattle.meaning.specs.Numbers.{noTable, notADate, noSeason, seasonChangeArmed, noRowOrColumn, notACalendar}
 
 -- DATES
 -- Gregorian: every fourth year, but of the hundreds only every fourth
@@ -192,13 +193,13 @@ unfoldable pub switchesOf : (order : ℕ) → Controls → (table54 : List ℕ) 
 switchesOf o c t = triples o t (switchesAt c) (c .switches)
 
 -- no such switch: "none yet today"
-unfoldable pub tierFrom : Chosen → Tier
-tierFrom Nothing = Tier.NoneYet
-tierFrom (Entry w x) = Tier.Is x
+unfoldable pub tierFrom : Chosen → Reply
+tierFrom Nothing = Reply.NoneYet
+tierFrom (Entry w x) = Reply.Tier x
 
 -- the tier is that of the latest switch of that number at or before the time; of equal times, the later record
-unfoldable pub tierAt : (order : ℕ) → Controls → (table54 : List ℕ) → Quantity → (schedule minute : ℕ) → Tier
-tierAt o c t q n m = tierFrom (latest (switchEntry (c .separate) q n m) (switchesOf o c t))
+unfoldable pub tierBySchedule : (order : ℕ) → Controls → (table54 : List ℕ) → Quantity → (schedule minute : ℕ) → Reply
+tierBySchedule o c t q n m = tierFrom (latest (switchEntry (c .separate) q n m) (switchesOf o c t))
 
 -- THE TABLES NEEDED
 -- the image's DATA_ORDER, what Table 51 says, and the octets of Table 54; or the refusal
@@ -209,16 +210,16 @@ pub data Found : Type 0 where
 -- 20: Table 51 isn't 9 octets, or Table 54 isn't of the size that Table 51 says
 unfoldable pub sized : (order : ℕ) → (table51 table54 : List ℕ) → Found
 sized o a b =
-    if length a =? 9 && length b =? table54Size (controlsOf o a) then found o (controlsOf o a) b else missing Refusal.NotACalendar
+    if length a =? 9 && length b =? table54Size (controlsOf o a) then found o (controlsOf o a) b else missing notACalendar
 
 abbrev pub seatOctets : (image : List ℕ) → Seat → List ℕ
 seatOctets img t = part img (t .start) (t .size)
 
 -- 10: tables 00, 51, 54
 unfoldable pub seatsFound : (image : List ℕ) → (table00 table51 table54 : Option Seat) → Found
-seatsFound img none b c = missing Refusal.NoTable
-seatsFound img (some a) none c = missing Refusal.NoTable
-seatsFound img (some a) (some b) none = missing Refusal.NoTable
+seatsFound img none b c = missing noTable
+seatsFound img (some a) none c = missing noTable
+seatsFound img (some a) (some b) none = missing noTable
 seatsFound img (some a) (some b) (some c) = sized (dataOrder img) (seatOctets img b) (seatOctets img c)
 
 unfoldable pub calendarIn : (image : List ℕ) → Opened → Found
@@ -230,25 +231,25 @@ calendar d img = calendarIn img (openImage d img)
 
 -- THE TIER AT A DATE AND TIME: after 1 to 10 and 20 come 16, 18, 17, 19
 -- 19: season or special schedule without a row or column
-unfoldable pub tierOn : (order : ℕ) → Controls → (table54 : List ℕ) → (day minute : ℕ) → Quantity → (special season : Chosen) → Tier
-tierOn o c t day m q x Nothing = Tier.Refused Refusal.NoSeason
+unfoldable pub tierOn : (order : ℕ) → Controls → (table54 : List ℕ) → (day minute : ℕ) → Quantity → (special season : Chosen) → Reply
+tierOn o c t day m q x Nothing = Reply.Refused noSeason
 tierOn o c t day m q x (Entry w s) =
-    if c .seasons ≤? s || missingSpecial c x then Tier.Refused Refusal.NoRowOrColumn
-    else tierAt o c t q (cellAt c t s (columnOn c day x)) m
+    if c .seasons ≤? s || missingSpecial c x then Reply.Refused noRowOrColumn
+    else tierBySchedule o c t q (cellAt c t s (columnOn c day x)) m
 
 -- 17: no season chosen by that date
-unfoldable pub tierDay : (order : ℕ) → Controls → (table54 : List ℕ) → (day minute : ℕ) → Quantity → Tier
+unfoldable pub tierDay : (order : ℕ) → Controls → (table54 : List ℕ) → (day minute : ℕ) → Quantity → Reply
 tierDay o c t day m q = tierOn o c t day m q (specialOn day (datesOf o c t)) (seasonOn day (datesOf o c t))
 
 -- 16: not a real date, or not a time; 18: SEASON_CHNG_ARMED_FLAG set
-unfoldable pub tierIn : Moment → Quantity → Found → Tier
-tierIn w q (missing r) = Tier.Refused r
+unfoldable pub tierIn : Moment → Quantity → Found → Reply
+tierIn w q (missing r) = Reply.Refused r
 tierIn w q (found o c t) =
-    if not (realDate (w .year) (w .month) (w .day) && realTime (w .hour) (w .minute)) then Tier.Refused Refusal.NotADate
-    else if c .armed then Tier.Refused Refusal.SeasonChangeArmed
+    if not (realDate (w .year) (w .month) (w .day) && realTime (w .hour) (w .minute)) then Reply.Refused notADate
+    else if c .armed then Reply.Refused seasonChangeArmed
     else tierDay o c t (dayNumber (w .year) (w .month) (w .day)) (60 * w .hour + w .minute) q
 
-unfoldable pub tierReply : (description image : List ℕ) → Moment → Quantity → Tier
+unfoldable pub tierReply : (description image : List ℕ) → Moment → Quantity → Reply
 tierReply d img w q = tierIn w q (calendar d img)
 
 -- THE MATRIX: fifteen rows of twenty-two; cells stand as in Table 54's rows, unused ones are 0

@@ -6,8 +6,8 @@ use mathlib.Core.List.{List, [], _∷_, _++_}
 use lib.ListN.{getD, replicate, length, drop}
 use Rattle.meaning.specs.declared.ElementName.{ElementName}
 use Rattle.meaning.specs.declared.Quantity.{Quantity}
-use Rattle.meaning.specs.Description.{soundness}
-use Rattle.meaning.specs.Refusals.{verdictValues, totalValues, placeValues, numberValues, tierValues, totalReply, tableReply, whereReply, numberReply, tableOctets, elementOctets, writeRangeReply, writeRangeImage, writeOctetsReply, writeOctetsImage, writeNumberReply, writeNumberImage}
+use Rattle.meaning.specs.Description.{checkReply}
+use Rattle.meaning.specs.Refusals.{numbersOf, verdictReply, placeReply, layoutReply, tablePlaceReply, elementPlaceReply, elementNumberReply, tablePartReply, elementPartReply, writeRangeReply, writeRangeImage, writeOctetsReply, writeOctetsImage, writeNumberReply, writeNumberImage}
 use Rattle.meaning.specs.Calendar.{tierReply, matrixReply, matrixVerdict, weekdayOf, dayNumber}
 use Rattle.meaning.specs.Examples.{items, plain, at, offset, gives, refusal, clock, clock-image, moment}
 
@@ -17,7 +17,7 @@ broken n i = refusal n i 0 []
 
 -- the verdict on a description given by its words
 abbrev pub judged : List ℕ → List ℕ
-judged ws = verdictValues (soundness (items ws))
+judged ws = numbersOf 3 (verdictReply (checkReply (items ws)))
 
 -- table 00 of n items, of which the first is DATA_ORDER, in slot 1
 abbrev pub begun : (item0 : ℕ) → List ℕ → List ℕ
@@ -25,8 +25,8 @@ begun w rest = w ∷ 0x20100000 ∷ rest
 
 pub record RulesCareful : Type 0 where
   -- 1: length 0; not a multiple of 4
-  pub no-length : verdictValues (soundness []) ≡ refusal 1 0 0 []
-  pub odd-length : verdictValues (soundness (0x10 ∷ 0 ∷ 0 ∷ 0 ∷ 0 ∷ [])) ≡ refusal 1 0 0 []
+  pub no-length : numbersOf 3 (verdictReply (checkReply [])) ≡ refusal 1 0 0 []
+  pub odd-length : numbersOf 3 (verdictReply (checkReply (0x10 ∷ 0 ∷ 0 ∷ 0 ∷ 0 ∷ []))) ≡ refusal 1 0 0 []
   -- 2: kind unknown; width code 3; a spare bit of a UINT, a BLOCK, a SET; a BLOCK of no octets; a count or slot below its least. Also on item 0
   pub kind-0 : judged (0 ∷ []) ≡ broken 2 0
   pub kind-7 : judged (begun 0x10000002 (0x70400001 ∷ [])) ≡ broken 2 2
@@ -108,64 +108,64 @@ abbrev pub no-element : List ℕ
 no-element = refusal 11 0 0 (0 ∷ 0 ∷ [])
 
 pub record LayoutCareful : Type 0 where
-  pub passed : verdictValues (soundness mixed) ≡ gives []
-  pub total : totalValues (totalReply mixed mixed0) ≡ gives (27 ∷ [])
+  pub passed : numbersOf 3 (verdictReply (checkReply mixed)) ≡ gives []
+  pub total : numbersOf 4 (layoutReply mixed mixed0) ≡ gives (27 ∷ [])
   -- an image of 65,535 octets, of one more
-  pub longest : totalValues (totalReply (items (begun 0x10000001 [])) (replicate 65535 0)) ≡ gives (1 ∷ [])
-  pub too-long : totalValues (totalReply (items (begun 0x10000001 [])) (replicate 65536 0)) ≡ refusal 8 0 0 (0 ∷ [])
-  pub longer : totalValues (totalReply mixed (mixed0 ++ 0 ∷ [])) ≡ gives (27 ∷ [])
-  pub table-9 : placeValues (tableReply mixed mixed0 1 9) ≡ gives (3 ∷ 24 ∷ [])
-  pub manufacturer-0 : placeValues (tableReply mixed mixed0 1 0) ≡ refusal 10 0 0 (0 ∷ 0 ∷ [])
-  pub other-table : placeValues (tableReply mixed mixed0 0 9) ≡ refusal 10 0 0 (0 ∷ 0 ∷ [])
-  pub table-0 : tableOctets mixed mixed0 0 0 ≡ 0x01 ∷ 0x90 ∷ 0x23 ∷ []
+  pub longest : numbersOf 4 (layoutReply (items (begun 0x10000001 [])) (replicate 65535 0)) ≡ gives (1 ∷ [])
+  pub too-long : numbersOf 4 (layoutReply (items (begun 0x10000001 [])) (replicate 65536 0)) ≡ refusal 8 0 0 (0 ∷ [])
+  pub longer : numbersOf 4 (layoutReply mixed (mixed0 ++ 0 ∷ [])) ≡ gives (27 ∷ [])
+  pub table-9 : numbersOf 5 (placeReply (tablePlaceReply mixed mixed0 1 9)) ≡ gives (3 ∷ 24 ∷ [])
+  pub manufacturer-0 : numbersOf 5 (placeReply (tablePlaceReply mixed mixed0 1 0)) ≡ refusal 10 0 0 (0 ∷ 0 ∷ [])
+  pub other-table : numbersOf 5 (placeReply (tablePlaceReply mixed mixed0 0 9)) ≡ refusal 10 0 0 (0 ∷ 0 ∷ [])
+  pub table-0 : tablePartReply mixed mixed0 0 0 ≡ 0x01 ∷ 0x90 ∷ 0x23 ∷ []
   -- slot 2, a BLOCK, a SET of two octets by slot 1 and a number of four octets follow one another; DATA_ORDER is bit 0 alone
   pub four-octets :
-      numberValues (numberReply (items (begun 0x10000005 (0x20200000 ∷ 0x30020000 ∷ 0x40401000 ∷ 0x28000000 ∷ [])))
+      numbersOf 4 (elementNumberReply (items (begun 0x10000005 (0x20200000 ∷ 0x30020000 ∷ 0x40401000 ∷ 0x28000000 ∷ [])))
       (2 ∷ 1 ∷ 1 ∷ 2 ∷ 9 ∷ 9 ∷ 3 ∷ 4 ∷ 5 ∷ 6 ∷ []) (plain 5)) ≡ gives (0x06050403 ∷ [])
   -- 64 flags take eight octets
-  pub flags-64 : totalValues (totalReply (items (begun 0x10000003 (0x20200000 ∷ 0x40807800 ∷ []))) (0 ∷ 64 ∷ replicate 8 0)) ≡ gives (10 ∷ [])
+  pub flags-64 : numbersOf 4 (layoutReply (items (begun 0x10000003 (0x20200000 ∷ 0x40807800 ∷ []))) (0 ∷ 64 ∷ replicate 8 0)) ≡ gives (10 ∷ [])
   -- reading a two-octet dimension in one fixed order, numbering its bits from the top
-  pub slot-2 : numberValues (numberReply mixed mixed0 (plain 2)) ≡ gives (0x9023 ∷ [])
-  pub other-order : totalValues (totalReply mixed (0 ∷ 0x23 ∷ 0x90 ∷ [])) ≡ refusal 9 4 3 (0 ∷ [])
+  pub slot-2 : numbersOf 4 (elementNumberReply mixed mixed0 (plain 2)) ≡ gives (0x9023 ∷ [])
+  pub other-order : numbersOf 4 (layoutReply mixed (0 ∷ 0x23 ∷ 0x90 ∷ [])) ≡ refusal 9 4 3 (0 ∷ [])
   -- a count of 0 takes none; the false branch
-  pub none-true : totalValues (totalReply mixed (0 ∷ 0 ∷ 0 ∷ 1 ∷ 2 ∷ 3 ∷ 4 ∷ 5 ∷ [])) ≡ gives (8 ∷ [])
-  pub false-short : totalValues (totalReply mixed (0 ∷ 0 ∷ 0 ∷ 1 ∷ 2 ∷ 3 ∷ 4 ∷ [])) ≡ refusal 9 11 3 (0 ∷ [])
+  pub none-true : numbersOf 4 (layoutReply mixed (0 ∷ 0 ∷ 0 ∷ 1 ∷ 2 ∷ 3 ∷ 4 ∷ 5 ∷ [])) ≡ gives (8 ∷ [])
+  pub false-short : numbersOf 4 (layoutReply mixed (0 ∷ 0 ∷ 0 ∷ 1 ∷ 2 ∷ 3 ∷ 4 ∷ [])) ≡ refusal 9 11 3 (0 ∷ [])
   -- subscripts, outermost first, from 0: too few, too many, not below their counts, a count over four
-  pub number-2-1 : numberValues (numberReply mixed mixed0 (with-subscripts 7 2 2 1)) ≡ gives (0x1415 ∷ [])
-  pub flags-1 : placeValues (whereReply mixed mixed0 (at 8 1)) ≡ gives (15 ∷ 2 ∷ [])
-  pub too-few : placeValues (whereReply mixed mixed0 (at 7 2)) ≡ no-element
-  pub too-many : placeValues (whereReply mixed mixed0 (with-subscripts 7 3 2 1)) ≡ no-element
-  pub over-outer : placeValues (whereReply mixed mixed0 (with-subscripts 7 2 3 0)) ≡ no-element
-  pub over-inner : placeValues (whereReply mixed mixed0 (with-subscripts 7 2 0 2)) ≡ no-element
-  pub four-arrays : placeValues (whereReply nest (2 ∷ 7 ∷ []) (with-subscripts 6 4 0 0)) ≡ gives (1 ∷ 1 ∷ [])
-  pub over-four : placeValues (whereReply nest (2 ∷ 7 ∷ []) (with-subscripts 6 5 0 0)) ≡ no-element
+  pub number-2-1 : numbersOf 4 (elementNumberReply mixed mixed0 (with-subscripts 7 2 2 1)) ≡ gives (0x1415 ∷ [])
+  pub flags-1 : numbersOf 5 (placeReply (elementPlaceReply mixed mixed0 (at 8 1))) ≡ gives (15 ∷ 2 ∷ [])
+  pub too-few : numbersOf 5 (placeReply (elementPlaceReply mixed mixed0 (at 7 2))) ≡ no-element
+  pub too-many : numbersOf 5 (placeReply (elementPlaceReply mixed mixed0 (with-subscripts 7 3 2 1))) ≡ no-element
+  pub over-outer : numbersOf 5 (placeReply (elementPlaceReply mixed mixed0 (with-subscripts 7 2 3 0))) ≡ no-element
+  pub over-inner : numbersOf 5 (placeReply (elementPlaceReply mixed mixed0 (with-subscripts 7 2 0 2))) ≡ no-element
+  pub four-arrays : numbersOf 5 (placeReply (elementPlaceReply nest (2 ∷ 7 ∷ []) (with-subscripts 6 4 0 0))) ≡ gives (1 ∷ 1 ∷ [])
+  pub over-four : numbersOf 5 (placeReply (elementPlaceReply nest (2 ∷ 7 ∷ []) (with-subscripts 6 5 0 0))) ≡ no-element
   -- the chosen branch, the other one, an item that is no element, a number asked of a BLOCK
-  pub block-octets : elementOctets mixed mixed0 (plain 10) ≡ block0
-  pub not-chosen : placeValues (whereReply mixed mixed0 (plain 11)) ≡ no-element
-  pub not-element : placeValues (whereReply mixed mixed0 (plain 9)) ≡ no-element
-  pub no-number : numberValues (numberReply mixed mixed0 (plain 10)) ≡ refusal 11 0 0 (0 ∷ [])
+  pub block-octets : elementPartReply mixed mixed0 (plain 10) ≡ block0
+  pub not-chosen : numbersOf 5 (placeReply (elementPlaceReply mixed mixed0 (plain 11))) ≡ no-element
+  pub not-element : numbersOf 5 (placeReply (elementPlaceReply mixed mixed0 (plain 9))) ≡ no-element
+  pub no-number : numbersOf 4 (elementNumberReply mixed mixed0 (plain 10)) ≡ refusal 11 0 0 (0 ∷ [])
   -- writes: read back, every other octet the same
-  pub range-accepted : verdictValues (writeRangeReply mixed mixed0 1 9 (offset 22) (0xAA ∷ 0xBB ∷ [])) ≡ gives []
+  pub range-accepted : numbersOf 3 (verdictReply (writeRangeReply mixed mixed0 1 9 (offset 22) (0xAA ∷ 0xBB ∷ []))) ≡ gives []
   pub range-image : writeRangeImage mixed mixed0 1 9 (offset 22) (0xAA ∷ 0xBB ∷ []) ≡ mixed-image number0 (0x18 ∷ 0xAA ∷ 0xBB ∷ [])
-  pub octets-accepted : verdictValues (writeOctetsReply mixed mixed0 (plain 10) (0xAA ∷ 0xBB ∷ 0xCC ∷ [])) ≡ gives []
+  pub octets-accepted : numbersOf 3 (verdictReply (writeOctetsReply mixed mixed0 (plain 10) (0xAA ∷ 0xBB ∷ 0xCC ∷ []))) ≡ gives []
   pub octets-image : writeOctetsImage mixed mixed0 (plain 10) (0xAA ∷ 0xBB ∷ 0xCC ∷ []) ≡ mixed-image number0 (0xAA ∷ 0xBB ∷ 0xCC ∷ [])
-  pub flags-accepted : verdictValues (writeOctetsReply mixed mixed0 (at 8 1) (0 ∷ 0 ∷ [])) ≡ gives []
-  pub number-accepted : verdictValues (writeNumberReply mixed mixed0 (with-subscripts 7 2 2 1) 0xFFFF) ≡ gives []
+  pub flags-accepted : numbersOf 3 (verdictReply (writeOctetsReply mixed mixed0 (at 8 1) (0 ∷ 0 ∷ []))) ≡ gives []
+  pub number-accepted : numbersOf 3 (verdictReply (writeNumberReply mixed mixed0 (with-subscripts 7 2 2 1) 0xFFFF)) ≡ gives []
   pub number-image : writeNumberImage mixed mixed0 (with-subscripts 7 2 2 1) 0xFF00 ≡ mixed-image (0xFF ∷ 0x00 ∷ []) block0
   -- 15: another length, a number of three octets; the image stays
-  pub wrong-length : verdictValues (writeOctetsReply mixed mixed0 (plain 10) (0xAA ∷ 0xBB ∷ [])) ≡ refusal 15 0 0 []
+  pub wrong-length : numbersOf 3 (verdictReply (writeOctetsReply mixed mixed0 (plain 10) (0xAA ∷ 0xBB ∷ []))) ≡ refusal 15 0 0 []
   pub wrong-unchanged : writeOctetsImage mixed mixed0 (plain 10) (0xAA ∷ 0xBB ∷ []) ≡ mixed0
-  pub wrong-number : verdictValues (writeNumberReply mixed mixed0 (with-subscripts 7 2 2 1) 0x10000) ≡ refusal 15 0 0 []
-  pub block-number : verdictValues (writeNumberReply mixed mixed0 (plain 10) 0) ≡ refusal 11 0 0 []
+  pub wrong-number : numbersOf 3 (verdictReply (writeNumberReply mixed mixed0 (with-subscripts 7 2 2 1) 0x10000)) ≡ refusal 15 0 0 []
+  pub block-number : numbersOf 3 (verdictReply (writeNumberReply mixed mixed0 (plain 10) 0)) ≡ refusal 11 0 0 []
   -- 14, which comes before 15: a write that alters the count by which the array was measured
-  pub dimension-number : verdictValues (writeNumberReply mixed mixed0 (plain 2) 0x10000) ≡ refusal 14 0 0 []
-  pub dimension-octets : verdictValues (writeOctetsReply mixed mixed0 (plain 2) []) ≡ refusal 14 0 0 []
-  pub dimension-slot-1 : verdictValues (writeRangeReply mixed mixed0 0 0 (offset 0) (1 ∷ [])) ≡ refusal 14 0 0 []
-  pub dimension-last : verdictValues (writeRangeReply mixed mixed0 0 0 (offset 2) (0 ∷ [])) ≡ refusal 14 0 0 []
+  pub dimension-number : numbersOf 3 (verdictReply (writeNumberReply mixed mixed0 (plain 2) 0x10000)) ≡ refusal 14 0 0 []
+  pub dimension-octets : numbersOf 3 (verdictReply (writeOctetsReply mixed mixed0 (plain 2) [])) ≡ refusal 14 0 0 []
+  pub dimension-slot-1 : numbersOf 3 (verdictReply (writeRangeReply mixed mixed0 0 0 (offset 0) (1 ∷ []))) ≡ refusal 14 0 0 []
+  pub dimension-last : numbersOf 3 (verdictReply (writeRangeReply mixed mixed0 0 0 (offset 2) (0 ∷ []))) ≡ refusal 14 0 0 []
   -- a range of length 0 holds no octet; past the size it is 12
-  pub inside-dimension : verdictValues (writeRangeReply mixed mixed0 0 0 (offset 2) []) ≡ gives []
-  pub past-size : verdictValues (writeRangeReply mixed mixed0 0 0 (offset 4) []) ≡ refusal 12 0 0 []
-  pub no-table : verdictValues (writeRangeReply mixed mixed0 0 9 (offset 0) []) ≡ refusal 10 0 0 []
+  pub inside-dimension : numbersOf 3 (verdictReply (writeRangeReply mixed mixed0 0 0 (offset 2) [])) ≡ gives []
+  pub past-size : numbersOf 3 (verdictReply (writeRangeReply mixed mixed0 0 0 (offset 4) [])) ≡ refusal 12 0 0 []
+  pub no-table : numbersOf 3 (verdictReply (writeRangeReply mixed mixed0 0 9 (offset 0) [])) ≡ refusal 10 0 0 []
 
 -- A CALENDAR, most significant octet first. Table 51: anchor date flagged, separate summations and demands, two seasons and two special schedules, weekdays share
 -- a column; five non-recurring dates, one recurring, six switches. `flags1` takes the place of its first octet
@@ -186,7 +186,7 @@ year-image flags1 =
     ∷ []
 
 abbrev pub year-tier : Quantity → (year month day hour minute : ℕ) → List ℕ
-year-tier q y mo d h mi = tierValues (tierReply (clock 48) (year-image 0x20) (moment y mo d h mi) q)
+year-tier q y mo d h mi = numbersOf 5 (tierReply (clock 48) (year-image 0x20) (moment y mo d h mi) q)
 
 -- a tier; "none yet today"
 abbrev pub tier : ℕ → List ℕ
@@ -214,12 +214,12 @@ record-image low high action =
 
 -- what it says of a day at 07:30
 abbrev pub by-record : (low high action : ℕ) → (year month day : ℕ) → List ℕ
-by-record low high action y m d = tierValues (tierReply (clock 12) (record-image low high action) (moment y m d 7 30) Quantity.Summations)
+by-record low high action y m d = numbersOf 5 (tierReply (clock 12) (record-image low high action) (moment y m d 7 30) Quantity.Summations)
 
 -- the starred calendar with a second record, of 5 March 2024, and what it says of that day
 abbrev pub by-second : (action : ℕ) → List ℕ
 by-second action =
-    tierValues (tierReply (clock 15)
+    numbersOf 5 (tierReply (clock 15)
     (0x00
     ∷ 0x00 ∷ 0x00 ∷ 0x01 ∷ 0x02 ∷ 0x00 ∷ 0x02 ∷ 0x00 ∷ 0x00 ∷ 0x00
     ∷ 0x98 ∷ 0x08 ∷ 0x03 ∷ 0x98 ∷ 0x29 ∷ action ∷ 0x00 ∷ 0x00 ∷ 0x01 ∷ 0xC2 ∷ 0x3B ∷ 0x01 ∷ 0x01 ∷ 0x01 ∷ 0x01 ∷ [])
@@ -234,8 +234,8 @@ pub record CalendarCareful : Type 0 where
   pub saturday : weekdayOf (dayNumber 2000 1 1) ≡ 6
   -- 31 December 2089, the last day, will be a Saturday too
   pub last-saturday : weekdayOf (dayNumber 2089 12 31) ≡ 6
-  pub saturday-tier : tierValues (tierReply (clock 14) week-image (moment 2000 1 1 0 0) Quantity.Summations) ≡ tier 5
-  pub sunday-tier : tierValues (tierReply (clock 14) week-image (moment 2000 1 2 0 0) Quantity.Summations) ≡ none-yet
+  pub saturday-tier : numbersOf 5 (tierReply (clock 14) week-image (moment 2000 1 1 0 0) Quantity.Summations) ≡ tier 5
+  pub sunday-tier : numbersOf 5 (tierReply (clock 14) week-image (moment 2000 1 2 0 0) Quantity.Summations) ≡ none-yet
   -- 3 June 2024 is a Monday: of equal dates the later record, season 0; of equal times the later record; minutes over 59 are skipped
   pub summations : year-tier Quantity.Summations 2024 6 3 23 59 ≡ tier 6
   -- only switches flagged for what is asked count
@@ -266,7 +266,7 @@ pub record CalendarCareful : Type 0 where
   pub hour-24 : year-tier Quantity.Summations 2024 6 3 24 0 ≡ no-tier 16
   pub minute-60 : year-tier Quantity.Summations 2024 6 3 8 60 ≡ no-tier 16
   -- 18, before 17
-  pub armed : tierValues (tierReply (clock 48) (year-image 0x28) (moment 1990 1 1 0 0) Quantity.Summations) ≡ no-tier 18
+  pub armed : numbersOf 5 (tierReply (clock 48) (year-image 0x28) (moment 1990 1 1 0 0) Quantity.Summations) ≡ no-tier 18
   -- years 89, 90, 99 and 100 of a DATE; 29 February 2025
   pub year-89 : by-record 0xD9 0x08 3 2089 1 1 ≡ tier 2
   pub before-89 : by-record 0xD9 0x08 3 2088 12 31 ≡ no-tier 17
@@ -285,10 +285,10 @@ pub record CalendarCareful : Type 0 where
   pub special-11 : by-second 30 ≡ no-tier 19
   pub no-special : by-second 31 ≡ tier 2
   -- 20: table 54 an octet longer, an octet shorter; table 51 an octet shorter; 10: no table 54
-  pub longer-54 : verdictValues (matrixVerdict (clock 13) (clock-image ++ 0 ∷ [])) ≡ refusal 20 0 0 []
-  pub shorter-54 : verdictValues (matrixVerdict (clock 11) clock-image) ≡ refusal 20 0 0 []
-  pub shorter-51 : verdictValues (matrixVerdict short-51 (0 ∷ 0 ∷ 0 ∷ 1 ∷ 1 ∷ 0 ∷ 2 ∷ 0 ∷ 0 ∷ drop 10 clock-image)) ≡ refusal 20 0 0 []
-  pub no-calendar : verdictValues (matrixVerdict (items (0x10000001 ∷ 0x20100000 ∷ [])) (0 ∷ [])) ≡ refusal 10 0 0 []
+  pub longer-54 : numbersOf 3 (verdictReply (matrixVerdict (clock 13) (clock-image ++ 0 ∷ []))) ≡ refusal 20 0 0 []
+  pub shorter-54 : numbersOf 3 (verdictReply (matrixVerdict (clock 11) clock-image)) ≡ refusal 20 0 0 []
+  pub shorter-51 : numbersOf 3 (verdictReply (matrixVerdict short-51 (0 ∷ 0 ∷ 0 ∷ 1 ∷ 1 ∷ 0 ∷ 2 ∷ 0 ∷ 0 ∷ drop 10 clock-image))) ≡ refusal 20 0 0 []
+  pub no-calendar : numbersOf 3 (verdictReply (matrixVerdict (items (0x10000001 ∷ 0x20100000 ∷ [])) (0 ∷ []))) ≡ refusal 10 0 0 []
   -- the matrix: cells stand as in the rows, unused ones are 0
   pub row-0 : getD (matrixReply (clock 48) (year-image 0x20)) 0 [] ≡ 9 ∷ 8 ∷ 7 ∷ 10 ∷ 9 ∷ 0 ∷ 0 ∷ 0 ∷ 0 ∷ 0 ∷ 0 ∷ 0 ∷ 0 ∷ 0 ∷ 0 ∷ 0 ∷ 0 ∷ 0 ∷ 0 ∷ 0 ∷ 0 ∷ 0 ∷ []
   pub row-1 : getD (matrixReply (clock 48) (year-image 0x20)) 1 [] ≡ 1 ∷ 2 ∷ 9 ∷ 4 ∷ 5 ∷ 0 ∷ 0 ∷ 0 ∷ 0 ∷ 0 ∷ 0 ∷ 0 ∷ 0 ∷ 0 ∷ 0 ∷ 0 ∷ 0 ∷ 0 ∷ 0 ∷ 0 ∷ 0 ∷ 0 ∷ []

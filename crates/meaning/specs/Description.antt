@@ -11,8 +11,8 @@ use Rattle.meaning.specs.declared.Item.{Item}
 use Rattle.meaning.specs.declared.Item.the-variants.{Table, Uint, Block, Set, Array, If, Malformed}
 use Rattle.meaning.specs.declared.Fields.{Fields}
 use Rattle.meaning.specs.declared.Round.{Round}
-use Rattle.meaning.specs.declared.Refusal.{Refusal}
 use Rattle.meaning.specs.declared.Verdict.{Verdict}
+use Rattle.meaning.specs.Numbers.{descriptionLength, breaksRule}
 
 -- ITEMS
 -- items of 4 octets
@@ -204,7 +204,7 @@ breaks1 d = length d =? 0 || 2048 <? length d || 0 <? length d % 4
 unfoldable pub firstBroken : (description : List ℕ) → (n i : ℕ) → Verdict
 firstBroken d zero i = Verdict.Passed
 firstBroken d (suc n) i =
-    if ruleBroken d i =? 0 then firstBroken d n (i + 1) else Verdict.Refused (Refusal.BreaksRule (ruleBroken d i) i)
+    if ruleBroken d i =? 0 then firstBroken d n (i + 1) else Verdict.Refused (breaksRule (ruleBroken d i) i)
 
-unfoldable pub soundness : (description : List ℕ) → Verdict
-soundness d = if breaks1 d then Verdict.Refused Refusal.BadLength else firstBroken d (itemCount d) 0
+unfoldable pub checkReply : (description : List ℕ) → Verdict
+checkReply d = if breaks1 d then Verdict.Refused descriptionLength else firstBroken d (itemCount d) 0

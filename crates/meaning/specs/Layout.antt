@@ -240,8 +240,8 @@ layTables (table i m k body rest) img s p = seated i m k p (layBody body img fal
 layTables (strayTable i) img s p = stoppedAt [] (noItem i)
 
 -- from octet 0, no dimension read
-unfoldable pub layout : (description image : List ℕ) → Layout
-layout d img = layTables (treeOf d) img (λ k. unread) 0
+unfoldable pub layOut : (description image : List ℕ) → Layout
+layOut d img = layTables (treeOf d) img (λ k. unread) 0
 
 -- ELEMENTS AND TABLES BY NAME
 unfoldable pub sameList : List ℕ → List ℕ → Bool

@@ -2,15 +2,16 @@
 -- Statements only; proofs/Passed.antt proves each for every description. Assumes nothing.
 use Prim.Native.Nat.{ℕ, _+_, _*_, _<_, _≤_}
 use mathlib.Core.Path.{_≡_}
+use mathlib.Core.Logic.{_⊎_}
 use mathlib.Core.Bool.{Bool, true, false, not}
 use mathlib.Core.List.{List}
 use Rattle.meaning.specs.declared.Fields.{Fields}
 use Rattle.meaning.specs.declared.Round.{Round}
 use Rattle.meaning.specs.declared.Refusal.{Refusal}
-use Rattle.meaning.specs.declared.Refusal.the-variants.{BadLength, BreaksRule, ImageTooLong, ImageShort, NoTable, NoElement, OutsideTable, NotWritable, HoldsDimension, WrongSize, NotADate, NoSeason, SeasonChangeArmed, NoRowOrColumn, NotACalendar}
 use Rattle.meaning.specs.declared.Verdict.{Verdict}
 use Rattle.meaning.specs.Basics.{if_then_else_, _=?_}
-use Rattle.meaning.specs.Description.{itemCount, fieldsAt, isTable, nests, isTableNamed, count, round, slotOctets, tableGiven, breaks1, breaks2, breaks3, breaks4, breaks5, breaks6, breaks7, isTable00, isDataOrder, soundness}
+use Rattle.meaning.specs.Description.{itemCount, fieldsAt, isTable, nests, isTableNamed, count, round, slotOctets, tableGiven, breaks1, breaks2, breaks3, breaks4, breaks5, breaks6, breaks7, isTable00, isDataOrder, checkReply}
+use Rattle.meaning.specs.Numbers.{descriptionLength, breaksRule}
 
 abbrev pub Exactly : Type 0 → Type 0 → Type 0
 Exactly A B = (A → B) × (B → A)
@@ -41,33 +42,19 @@ pub record FirstToBreak (d : List ℕ) (n i : ℕ) : Type 0 where
   pub lowest : (m : ℕ) → m < n → breaks d m i ≡ false
 
 abbrev pub Passes : List ℕ → Type 0
-Passes d = soundness d ≡ Verdict.Passed
+Passes d = checkReply d ≡ Verdict.Passed
 
 -- the refusals that the rules give
 abbrev pub OfRules : Refusal → Type 0
-OfRules BadLength = Unit {0}
-OfRules (BreaksRule n i) = (2 ≤ n) × (n ≤ 7)
-OfRules ImageTooLong = ⊥
-OfRules (ImageShort i p) = ⊥
-OfRules NoTable = ⊥
-OfRules NoElement = ⊥
-OfRules OutsideTable = ⊥
-OfRules NotWritable = ⊥
-OfRules HoldsDimension = ⊥
-OfRules WrongSize = ⊥
-OfRules NotADate = ⊥
-OfRules NoSeason = ⊥
-OfRules SeasonChangeArmed = ⊥
-OfRules NoRowOrColumn = ⊥
-OfRules NotACalendar = ⊥
+OfRules r = (r ≡ descriptionLength) ⊎ ((2 ≤ r .number) × (r .number ≤ 7) × (r ≡ breaksRule (r .number) (r .item)))
 
 -- a description is passed exactly when it meets the rules; it is refused by 1 exactly when its length is not allowed, and by 2 to 7 exactly for the first
 -- item that breaks one and its lowest; nothing else is replied
-pub record SoundnessSays (d : List ℕ) : Type 0 where
+pub record CheckSays (d : List ℕ) : Type 0 where
   pub passed : Exactly (Passes d) (MeetsRules d)
-  pub badLength : Exactly (soundness d ≡ Verdict.Refused Refusal.BadLength) (breaks1 d ≡ true)
-  pub broken : (n i : ℕ) → Exactly (soundness d ≡ Verdict.Refused (Refusal.BreaksRule n i)) (FirstToBreak d n i)
-  pub nothingElse : (r : Refusal) → soundness d ≡ Verdict.Refused r → OfRules r
+  pub descriptionLength : Exactly (checkReply d ≡ Verdict.Refused descriptionLength) (breaks1 d ≡ true)
+  pub broken : (n i : ℕ) → 2 ≤ n → Exactly (checkReply d ≡ Verdict.Refused (breaksRule n i)) (FirstToBreak d n i)
+  pub nothingElse : (r : Refusal) → checkReply d ≡ Verdict.Refused r → OfRules r
 
 -- AN ITEM THAT BREAKS NO RULE: item i, which is f with r round it; the rules as facts
 pub record Keeps (d : List ℕ) (f : Fields) (i : ℕ) (r : Round) : Type 0 where

@@ -1,114 +1,86 @@
--- THE QUESTIONS: the list of "What the tool holds" in the scope document, a case each, with all that is asked and lent beside description and image; each one's
--- reply, the refusal in it, the reply as the paper's numbers, and the image afterwards. The callers that know numbers alone state their replies by these. Parts of the
--- image, and the matrix, are octets: `tableOctets`, `elementOctets` (specs/Refusals) and `matrixReply` (specs/Calendar) are their replies. Assumes nothing.
+-- THE QUESTIONS: the list of "What the tool holds" in the scope document, a case each, with all that is asked and lent beside description and image; and what each
+-- comes to: its reply, the octets that it tells, and the image afterwards. The callers that know numbers and octets alone, C and lines of text, state their replies by
+-- these. Assumes nothing.
 use Prim.Native.Nat.{ℕ}
-use mathlib.Core.List.{List}
+use mathlib.Core.List.{List, [], flatten}
 use mathlib.Core.Option.{Option, some, none}
 use Rattle.offsets.specs.declared.TableOffset.{TableOffset}
 use Rattle.meaning.specs.declared.ElementName.{ElementName}
 use Rattle.meaning.specs.declared.Moment.{Moment}
 use Rattle.meaning.specs.declared.Quantity.{Quantity}
 use Rattle.meaning.specs.declared.Refusal.{Refusal}
-use Rattle.meaning.specs.declared.Verdict.{Verdict}
-use Rattle.meaning.specs.declared.Total.{Total}
-use Rattle.meaning.specs.declared.Place.{Place}
-use Rattle.meaning.specs.declared.Number.{Number}
-use Rattle.meaning.specs.declared.Tier.{Tier}
-use Rattle.meaning.specs.Description.{soundness}
-use Rattle.meaning.specs.Refusals.{verdictValues, totalValues, placeValues, numberValues, tierValues, totalReply, tableReply, whereReply, numberReply}
+use Rattle.meaning.specs.declared.Reply.{Reply}
+use Rattle.meaning.specs.declared.Told.{Told}
+use Rattle.meaning.specs.Description.{checkReply}
+use Rattle.meaning.specs.Refusals.{toldBy, verdictReply, placeReply, layoutReply, tablePlaceReply, elementPlaceReply, tablePartReply, elementPartReply, elementNumberReply}
 use Rattle.meaning.specs.Refusals.{writeRangeReply, writeRangeImage, writeOctetsReply, writeOctetsImage, writeNumberReply, writeNumberImage}
-use Rattle.meaning.specs.Calendar.{tierReply, matrixVerdict}
+use Rattle.meaning.specs.Calendar.{tierReply, matrixReply, matrixVerdict}
 
 pub data Question : Type 0 where
   -- is this description sound
-  isSound : Question
+  check : Question
   -- lay the image out: the total of octets used
-  layOut : Question
-  -- where a table starts and how long it is
-  whereTable : (manufacturer number : ℕ) → Question
-  -- where an element is; its number, for an integer
-  whereElement : ElementName → Question
-  numberOf : ElementName → Question
+  layout : Question
+  -- where a table starts and how long it is; the table itself as a part of the image
+  tablePlace : (manufacturer number : ℕ) → Question
+  tablePart : (manufacturer number : ℕ) → Question
+  -- where an element is; its octets; its number, for an integer
+  elementPlace : ElementName → Question
+  elementPart : ElementName → Question
+  elementNumber : ElementName → Question
   -- write a range of a table, an element's octets, an element's number
   writeRange : (manufacturer number : ℕ) → TableOffset → (new : List ℕ) → Question
   writeOctets : ElementName → (new : List ℕ) → Question
   writeNumber : ElementName → (x : ℕ) → Question
-  -- the tier of the calendar; the refusal number of its matrix
-  tierAt : Moment → Quantity → Question
-  matrixRefusal : Question
+  -- the tier of the calendar; its matrix
+  tier : Moment → Quantity → Question
+  matrix : Question
 
--- THE REFUSAL IN A REPLY, none where the question is answered
-unfoldable pub verdictRefusal : Verdict → Option Refusal
-verdictRefusal Verdict.Passed = none
-verdictRefusal (Verdict.Refused r) = some r
+-- WHAT A QUESTION COMES TO: the reply; the octets that it tells, row by row where they are cells, none where it tells none; the image afterwards
+pub record Outcome : Type 0 where
+  pub reply : Reply
+  pub octets : List ℕ
+  pub image : List ℕ
 
-unfoldable pub totalRefusal : Total → Option Refusal
-totalRefusal (Total.Octets n) = none
-totalRefusal (Total.Refused r) = some r
+abbrev pub outcome : Reply → (octets image : List ℕ) → Outcome
+outcome r xs img = record { reply = r; octets = xs; image = img }
 
-unfoldable pub placeRefusal : Place → Option Refusal
-placeRefusal (Place.At p n) = none
-placeRefusal (Place.Refused r) = some r
-
-unfoldable pub numberRefusal : Number → Option Refusal
-numberRefusal (Number.Is x) = none
-numberRefusal (Number.Refused r) = some r
-
-unfoldable pub tierRefusal : Tier → Option Refusal
-tierRefusal (Tier.Is t) = none
-tierRefusal Tier.NoneYet = none
-tierRefusal (Tier.Refused r) = some r
-
--- A QUESTION'S REPLY, which is of one of five kinds
-pub data Reply : Type 0 where
-  verdict : Verdict → Reply
-  total : Total → Reply
-  place : Place → Reply
-  number : Number → Reply
-  tier : Tier → Reply
+-- of parts, "where" gives the refusal number; of the matrix, a separate question
+unfoldable pub outcomeOf : Question → (description image : List ℕ) → Outcome
+outcomeOf check d img = outcome (verdictReply (checkReply d)) [] img
+outcomeOf layout d img = outcome (layoutReply d img) [] img
+outcomeOf (tablePlace m k) d img = outcome (placeReply (tablePlaceReply d img m k)) [] img
+outcomeOf (tablePart m k) d img = outcome (placeReply (tablePlaceReply d img m k)) (tablePartReply d img m k) img
+outcomeOf (elementPlace q) d img = outcome (placeReply (elementPlaceReply d img q)) [] img
+outcomeOf (elementPart q) d img = outcome (placeReply (elementPlaceReply d img q)) (elementPartReply d img q) img
+outcomeOf (elementNumber q) d img = outcome (elementNumberReply d img q) [] img
+outcomeOf (writeRange m k o new) d img = outcome (verdictReply (writeRangeReply d img m k o new)) [] (writeRangeImage d img m k o new)
+outcomeOf (writeOctets q new) d img = outcome (verdictReply (writeOctetsReply d img q new)) [] (writeOctetsImage d img q new)
+outcomeOf (writeNumber q x) d img = outcome (verdictReply (writeNumberReply d img q x)) [] (writeNumberImage d img q x)
+outcomeOf (tier w q) d img = outcome (tierReply d img w q) [] img
+outcomeOf matrix d img = outcome (verdictReply (matrixVerdict d img)) (flatten (matrixReply d img)) img
 
 unfoldable pub replyTo : Question → (description image : List ℕ) → Reply
-replyTo isSound d img = verdict (soundness d)
-replyTo layOut d img = total (totalReply d img)
-replyTo (whereTable m k) d img = place (tableReply d img m k)
-replyTo (whereElement q) d img = place (whereReply d img q)
-replyTo (numberOf q) d img = number (numberReply d img q)
-replyTo (writeRange m k o new) d img = verdict (writeRangeReply d img m k o new)
-replyTo (writeOctets q new) d img = verdict (writeOctetsReply d img q new)
-replyTo (writeNumber q x) d img = verdict (writeNumberReply d img q x)
-replyTo (tierAt w q) d img = tier (tierReply d img w q)
-replyTo matrixRefusal d img = verdict (matrixVerdict d img)
+replyTo q d img = outcomeOf q d img .reply
 
+unfoldable pub toldTo : Question → (description image : List ℕ) → Told
+toldTo q d img = toldBy (replyTo q d img)
+
+unfoldable pub octetsTo : Question → (description image : List ℕ) → List ℕ
+octetsTo q d img = outcomeOf q d img .octets
+
+unfoldable pub imageAfter : Question → (description image : List ℕ) → List ℕ
+imageAfter q d img = outcomeOf q d img .image
+
+-- THE REFUSAL IN A REPLY, none where the question is answered
 unfoldable pub refusalIn : Reply → Option Refusal
-refusalIn (verdict v) = verdictRefusal v
-refusalIn (total t) = totalRefusal t
-refusalIn (place p) = placeRefusal p
-refusalIn (number x) = numberRefusal x
-refusalIn (tier t) = tierRefusal t
-
--- as numbers: the refusal's three, then the answer's own
-unfoldable pub numbersIn : Reply → List ℕ
-numbersIn (verdict v) = verdictValues v
-numbersIn (total t) = totalValues t
-numbersIn (place p) = placeValues p
-numbersIn (number x) = numberValues x
-numbersIn (tier t) = tierValues t
+refusalIn (Reply.Refused r) = some r
+refusalIn Reply.Passed = none
+refusalIn (Reply.Total n) = none
+refusalIn (Reply.At p n) = none
+refusalIn (Reply.Number x) = none
+refusalIn (Reply.Tier t) = none
+refusalIn Reply.NoneYet = none
 
 unfoldable pub refusalTo : Question → (description image : List ℕ) → Option Refusal
 refusalTo q d img = refusalIn (replyTo q d img)
-
-unfoldable pub numbersTo : Question → (description image : List ℕ) → List ℕ
-numbersTo q d img = numbersIn (replyTo q d img)
-
--- THE IMAGE AFTERWARDS: a write's, else as it was
-unfoldable pub imageAfter : Question → (description image : List ℕ) → List ℕ
-imageAfter isSound d img = img
-imageAfter layOut d img = img
-imageAfter (whereTable m k) d img = img
-imageAfter (whereElement q) d img = img
-imageAfter (numberOf q) d img = img
-imageAfter (writeRange m k o new) d img = writeRangeImage d img m k o new
-imageAfter (writeOctets q new) d img = writeOctetsImage d img q new
-imageAfter (writeNumber q x) d img = writeNumberImage d img q x
-imageAfter (tierAt w q) d img = img
-imageAfter matrixRefusal d img = img

@@ -9,74 +9,62 @@ use Rattle.meaning.specs.Basics.{if_then_else_, _=?_, _<?_, _≤?_, part
 use Rattle.offsets.specs.declared.TableOffset.{TableOffset}
 use Rattle.meaning.specs.declared.ElementName.{ElementName}
 use Rattle.meaning.specs.declared.Refusal.{Refusal}
-use Rattle.meaning.specs.declared.Refusal.the-variants.{BadLength, BreaksRule, ImageTooLong, ImageShort, NoTable, NoElement, OutsideTable, NotWritable, HoldsDimension, WrongSize, NotADate, NoSeason, SeasonChangeArmed, NoRowOrColumn, NotACalendar}
 use Rattle.meaning.specs.declared.Verdict.{Verdict}
-use Rattle.meaning.specs.declared.Total.{Total}
+use Rattle.meaning.specs.declared.Reply.{Reply}
+use Rattle.meaning.specs.declared.Told.{Told}
 use Rattle.meaning.specs.declared.Place.{Place}
-use Rattle.meaning.specs.declared.Number.{Number}
-use Rattle.meaning.specs.declared.Tier.{Tier}
-use Rattle.meaning.specs.Description.{fieldsAt, isTable, isUint, soundness}
-use Rattle.meaning.specs.Layout.{Placed, Seat, Slots, Stop, unreadDimension, bitOutside, unequalElements, short, noItem, Layout, laidOut, stoppedAt, layout, elementNamed, tableNamed, dataOrder, numberAt}
+use Rattle.meaning.specs.Description.{fieldsAt, isTable, isUint, checkReply}
+use Rattle.meaning.specs.Layout.{Placed, Seat, Slots, Stop, unreadDimension, bitOutside, unequalElements, short, noItem, Layout, laidOut, stoppedAt, layOut, elementNamed, tableNamed, dataOrder, numberAt}
+use Rattle.meaning.specs.Numbers.{nothingRefused, breaksRule, imageTooLong, imageShort, noTable, noElement, outsideTable, notWritable, holdsDimension, wrongSize}
 
--- THE PAPER'S NUMBERS
-abbrev pub numberOnly : ℕ → List ℕ
-numberOnly n = n ∷ 0 ∷ 0 ∷ []
+-- WHAT A REPLY TELLS, IN NUMBERS: the refusal, all 0 where there is none; then the answer's own two, 0 on refusal
+abbrev pub refusedWith : Refusal → Told
+refusedWith r = record { refusal = r; first = 0; second = 0 }
 
--- a refusal's number, item and octet. 2 to 7 report the item, 9 the item and octet, others nothing more
-unfoldable pub reported : Refusal → List ℕ
-reported BadLength = numberOnly 1
-reported (BreaksRule n i) = n ∷ i ∷ 0 ∷ []
-reported ImageTooLong = numberOnly 8
-reported (ImageShort i p) = 9 ∷ i ∷ p .0 ∷ []
-reported NoTable = numberOnly 10
-reported NoElement = numberOnly 11
-reported OutsideTable = numberOnly 12
-reported NotWritable = numberOnly 13
-reported HoldsDimension = numberOnly 14
-reported WrongSize = numberOnly 15
-reported NotADate = numberOnly 16
-reported NoSeason = numberOnly 17
-reported SeasonChangeArmed = numberOnly 18
-reported NoRowOrColumn = numberOnly 19
-reported NotACalendar = numberOnly 20
+abbrev pub answered : (first second : ℕ) → Told
+answered a b = record { refusal = nothingRefused; first = a; second = b }
 
--- each answer as the paper's numbers: the refusal's three, 0 where there is none; then the answer's own values, 0 on refusal
-abbrev pub granted : List ℕ
-granted = numberOnly 0
-
-unfoldable pub verdictValues : Verdict → List ℕ
-verdictValues Verdict.Passed = granted
-verdictValues (Verdict.Refused r) = reported r
-
+unfoldable pub toldBy : Reply → Told
+toldBy (Reply.Refused r) = refusedWith r
+toldBy Reply.Passed = answered 0 0
 -- the total
-unfoldable pub totalValues : Total → List ℕ
-totalValues (Total.Octets n) = granted ++ n ∷ []
-totalValues (Total.Refused r) = reported r ++ 0 ∷ []
-
+toldBy (Reply.Total n) = answered n 0
 -- the first octet in the image, and the length
-unfoldable pub placeValues : Place → List ℕ
-placeValues (Place.At p n) = granted ++ p .0 ∷ n ∷ []
-placeValues (Place.Refused r) = reported r ++ 0 ∷ 0 ∷ []
-
+toldBy (Reply.At p n) = answered (p .0) n
 -- the number
-unfoldable pub numberValues : Number → List ℕ
-numberValues (Number.Is x) = granted ++ x ∷ []
-numberValues (Number.Refused r) = reported r ++ 0 ∷ []
-
+toldBy (Reply.Number x) = answered x 0
 -- 1 for "none yet today", and the tier
-unfoldable pub tierValues : Tier → List ℕ
-tierValues (Tier.Is t) = granted ++ 0 ∷ t ∷ []
-tierValues Tier.NoneYet = granted ++ 1 ∷ 0 ∷ []
-tierValues (Tier.Refused r) = reported r ++ 0 ∷ 0 ∷ []
+toldBy (Reply.Tier t) = answered 0 t
+toldBy Reply.NoneYet = answered 1 0
+
+-- one after another: a refusal's, then the answer's own
+abbrev pub refusalNumbers : Refusal → List ℕ
+refusalNumbers r = r .number ∷ r .item ∷ r .octet ∷ []
+
+abbrev pub toldNumbers : Told → List ℕ
+toldNumbers t = refusalNumbers (t .refusal) ++ t .first ∷ t .second ∷ []
+
+-- the first so many of a reply's
+unfoldable pub numbersOf : (count : ℕ) → Reply → List ℕ
+numbersOf n r = take n (toldNumbers (toldBy r))
+
+-- a verdict and a place as replies
+unfoldable pub verdictReply : Verdict → Reply
+verdictReply Verdict.Passed = Reply.Passed
+verdictReply (Verdict.Refused r) = Reply.Refused r
+
+unfoldable pub placeReply : Place → Reply
+placeReply (Place.At p n) = Reply.At p n
+placeReply (Place.Refused r) = Reply.Refused r
 
 -- ORDER: 1 TO 9 COME BEFORE ANY ANSWER
 -- 9 is the short image. The other stops never come for a passed description; were they to come, each would be the rule that it breaks
 unfoldable pub stopRefusal : Stop → Refusal
-stopRefusal (unreadDimension i) = BreaksRule 7 i
-stopRefusal (bitOutside i) = BreaksRule 7 i
-stopRefusal (unequalElements i) = BreaksRule 3 i
-stopRefusal (short i p) = ImageShort i (record { 0 = p })
-stopRefusal (noItem i) = BreaksRule 3 i
+stopRefusal (unreadDimension i) = breaksRule 7 i
+stopRefusal (bitOutside i) = breaksRule 7 i
+stopRefusal (unequalElements i) = breaksRule 3 i
+stopRefusal (short i p) = imageShort i p
+stopRefusal (noItem i) = breaksRule 3 i
 
 -- the image opened: its tables, elements, slots and total; or the refusal
 pub data Opened : Type 0 where
@@ -89,32 +77,32 @@ openLaid (stoppedAt es x) = refused (stopRefusal x)
 
 -- 8: image over 65,535 octets
 unfoldable pub openSound : Verdict → (description image : List ℕ) → Opened
-openSound Verdict.Passed d img = if 65535 <? length img then refused ImageTooLong else openLaid (layout d img)
+openSound Verdict.Passed d img = if 65535 <? length img then refused imageTooLong else openLaid (layOut d img)
 openSound (Verdict.Refused r) d img = refused r
 
 unfoldable pub openImage : (description image : List ℕ) → Opened
-openImage d img = openSound (soundness d) d img
+openImage d img = openSound (checkReply d) d img
 
 -- LAY THE IMAGE OUT
-unfoldable pub totalIn : Opened → Total
-totalIn (opened ts es s n) = Total.Octets n
-totalIn (refused r) = Total.Refused r
+unfoldable pub layoutIn : Opened → Reply
+layoutIn (opened ts es s n) = Reply.Total n
+layoutIn (refused r) = Reply.Refused r
 
-unfoldable pub totalReply : (description image : List ℕ) → Total
-totalReply d img = totalIn (openImage d img)
+unfoldable pub layoutReply : (description image : List ℕ) → Reply
+layoutReply d img = layoutIn (openImage d img)
 
 -- WHERE A TABLE IS
 -- 10: no such table
 unfoldable pub seatPlace : Option Seat → Place
-seatPlace none = Place.Refused NoTable
+seatPlace none = Place.Refused noTable
 seatPlace (some t) = Place.At (record { 0 = t .start }) (t .size)
 
-unfoldable pub tableIn : (manufacturer number : ℕ) → Opened → Place
-tableIn m k (opened ts es s n) = seatPlace (tableNamed m k ts)
-tableIn m k (refused r) = Place.Refused r
+unfoldable pub tablePlaceIn : (manufacturer number : ℕ) → Opened → Place
+tablePlaceIn m k (opened ts es s n) = seatPlace (tableNamed m k ts)
+tablePlaceIn m k (refused r) = Place.Refused r
 
-unfoldable pub tableReply : (description image : List ℕ) → (manufacturer number : ℕ) → Place
-tableReply d img m k = tableIn m k (openImage d img)
+unfoldable pub tablePlaceReply : (description image : List ℕ) → (manufacturer number : ℕ) → Place
+tablePlaceReply d img m k = tablePlaceIn m k (openImage d img)
 
 -- WHERE AN ELEMENT IS
 -- named by its item number and its subscripts: four places and a count; places past the count aren't read
@@ -122,40 +110,40 @@ unfoldable pub elementIn : ElementName → List Placed → Option Placed
 elementIn q es = if q .count ≤? 4 then elementNamed (q .item) (take (q .count) (q .subscripts)) es else none
 
 -- 11: no such element
-unfoldable pub elementPlace : Option Placed → Place
-elementPlace none = Place.Refused NoElement
-elementPlace (some e) = Place.At (record { 0 = e .start }) (e .size)
+unfoldable pub placedPlace : Option Placed → Place
+placedPlace none = Place.Refused noElement
+placedPlace (some e) = Place.At (record { 0 = e .start }) (e .size)
 
-unfoldable pub whereIn : ElementName → Opened → Place
-whereIn q (opened ts es s n) = elementPlace (elementIn q es)
-whereIn q (refused r) = Place.Refused r
+unfoldable pub elementPlaceIn : ElementName → Opened → Place
+elementPlaceIn q (opened ts es s n) = placedPlace (elementIn q es)
+elementPlaceIn q (refused r) = Place.Refused r
 
-unfoldable pub whereReply : (description image : List ℕ) → ElementName → Place
-whereReply d img q = whereIn q (openImage d img)
+unfoldable pub elementPlaceReply : (description image : List ℕ) → ElementName → Place
+elementPlaceReply d img q = elementPlaceIn q (openImage d img)
 
 -- THE PARTS OF THE IMAGE: the table itself, an element's octets; empty on refusal
 unfoldable pub placePart : (image : List ℕ) → Place → List ℕ
 placePart img (Place.At p n) = part img (p .0) n
 placePart img (Place.Refused r) = []
 
-unfoldable pub tableOctets : (description image : List ℕ) → (manufacturer number : ℕ) → List ℕ
-tableOctets d img m k = placePart img (tableReply d img m k)
+unfoldable pub tablePartReply : (description image : List ℕ) → (manufacturer number : ℕ) → List ℕ
+tablePartReply d img m k = placePart img (tablePlaceReply d img m k)
 
-unfoldable pub elementOctets : (description image : List ℕ) → ElementName → List ℕ
-elementOctets d img q = placePart img (whereReply d img q)
+unfoldable pub elementPartReply : (description image : List ℕ) → ElementName → List ℕ
+elementPartReply d img q = placePart img (elementPlaceReply d img q)
 
 -- AN ELEMENT'S NUMBER
 -- 11 too where a number is asked of a BLOCK or SET
 unfoldable pub integerPlace : (description : List ℕ) → (item : ℕ) → Place → Place
-integerPlace d i (Place.At p n) = if isUint (fieldsAt d i) then Place.At p n else Place.Refused NoElement
+integerPlace d i (Place.At p n) = if isUint (fieldsAt d i) then Place.At p n else Place.Refused noElement
 integerPlace d i (Place.Refused r) = Place.Refused r
 
-unfoldable pub placeNumber : (image : List ℕ) → Place → Number
-placeNumber img (Place.At p n) = Number.Is (numberAt img (p .0) n)
-placeNumber img (Place.Refused r) = Number.Refused r
+unfoldable pub placeNumber : (image : List ℕ) → Place → Reply
+placeNumber img (Place.At p n) = Reply.Number (numberAt img (p .0) n)
+placeNumber img (Place.Refused r) = Reply.Refused r
 
-unfoldable pub numberReply : (description image : List ℕ) → ElementName → Number
-numberReply d img q = placeNumber img (integerPlace d (q .item) (whereReply d img q))
+unfoldable pub elementNumberReply : (description image : List ℕ) → ElementName → Reply
+elementNumberReply d img q = placeNumber img (integerPlace d (q .item) (elementPlaceReply d img q))
 
 -- WRITES. A write comes to the place where its data go, or to its refusal; from that, its verdict and the later image
 unfoldable pub placeVerdict : Place → Verdict
@@ -177,21 +165,21 @@ unfoldable pub writable : (description image : List ℕ) → (table : ℕ) → B
 writable d img t = fieldsAt d t .writable =? 1
 
 -- n octets at p hold an octet of a dimension, an element that sets a slot: the later start lies before the earlier end
-unfoldable pub holdsDimension : List Placed → (p n : ℕ) → Bool
-holdsDimension [] p n = false
-holdsDimension (e ∷ es) p n = 0 <? e .slot && max p (e .start) <? min (p + n) (e .start + e .size) || holdsDimension es p n
+unfoldable pub anyDimension : List Placed → (p n : ℕ) → Bool
+anyDimension [] p n = false
+anyDimension (e ∷ es) p n = 0 <? e .slot && max p (e .start) <? min (p + n) (e .start + e .size) || anyDimension es p n
 
 -- 13, then 14: n octets at p, in the table at item t
 unfoldable pub allowed : (description image : List ℕ) → List Placed → (t p n : ℕ) → Place
 allowed d img es t p n =
-    if not (writable d img t) then Place.Refused NotWritable
-    else if holdsDimension es p n then Place.Refused HoldsDimension
+    if not (writable d img t) then Place.Refused notWritable
+    else if anyDimension es p n then Place.Refused holdsDimension
     else Place.At (record { 0 = p }) n
 
 -- WRITE A RANGE OF A TABLE: 10, 12 (offset + length over the table's size), 13, 14. The table's start turns the offset in it into one in the image
 unfoldable pub rangeOf : (description image : List ℕ) → List Placed → TableOffset → (length : ℕ) → Option Seat → Place
-rangeOf d img es o n none = Place.Refused NoTable
-rangeOf d img es o n (some t) = if t .size <? o .0 + n then Place.Refused OutsideTable else allowed d img es (t .item) (t .start + o .0) n
+rangeOf d img es o n none = Place.Refused noTable
+rangeOf d img es o n (some t) = if t .size <? o .0 + n then Place.Refused outsideTable else allowed d img es (t .item) (t .start + o .0) n
 
 unfoldable pub rangeIn : (description image : List ℕ) → (manufacturer number : ℕ) → TableOffset → (length : ℕ) → Opened → Place
 rangeIn d img m k o n (opened ts es s total) = rangeOf d img es o n (tableNamed m k ts)
@@ -208,7 +196,7 @@ writeRangeImage d img m k o new = imageWith img new (rangePlace d img m k o (len
 
 -- WRITE AN ELEMENT: 11, 13, 14, then 15 where what is to be written doesn't fit the element's length
 unfoldable pub fitting : (fits : ℕ → Bool) → Place → Place
-fitting fits (Place.At p n) = if fits n then Place.At p n else Place.Refused WrongSize
+fitting fits (Place.At p n) = if fits n then Place.At p n else Place.Refused wrongSize
 fitting fits (Place.Refused r) = Place.Refused r
 
 unfoldable pub allowedAt : (description image : List ℕ) → ElementName → List Placed → Place → Place
@@ -217,7 +205,7 @@ allowedAt d img q es (Place.Refused r) = Place.Refused r
 
 -- its octets: the data's length is the element's
 unfoldable pub octetsPlaceIn : (description image : List ℕ) → ElementName → (length : ℕ) → Opened → Place
-octetsPlaceIn d img q n (opened ts es s total) = fitting (λ l. n =? l) (allowedAt d img q es (elementPlace (elementIn q es)))
+octetsPlaceIn d img q n (opened ts es s total) = fitting (λ l. n =? l) (allowedAt d img q es (placedPlace (elementIn q es)))
 octetsPlaceIn d img q n (refused r) = Place.Refused r
 
 unfoldable pub writeOctetsReply : (description image : List ℕ) → ElementName → (new : List ℕ) → Verdict
@@ -229,7 +217,7 @@ writeOctetsImage d img q new = imageWith img new (octetsPlaceIn d img q (length 
 -- its number: the number needs no more octets than the element has
 unfoldable pub numberPlaceIn : (description image : List ℕ) → ElementName → (x : ℕ) → Opened → Place
 numberPlaceIn d img q x (opened ts es s total) =
-    fitting (λ l. x <? 256 ^ l) (allowedAt d img q es (integerPlace d (q .item) (elementPlace (elementIn q es))))
+    fitting (λ l. x <? 256 ^ l) (allowedAt d img q es (integerPlace d (q .item) (placedPlace (elementIn q es))))
 numberPlaceIn d img q x (refused r) = Place.Refused r
 
 -- the octets of a number as long as the place, in the image's DATA_ORDER

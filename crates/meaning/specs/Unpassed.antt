@@ -6,8 +6,8 @@ use mathlib.Core.List.{List}
 use mathlib.Core.Option.{Option, some, none}
 use Rattle.meaning.specs.declared.Refusal.{Refusal}
 use Rattle.meaning.specs.declared.Verdict.{Verdict}
-use Rattle.meaning.specs.Description.{soundness}
-use Rattle.meaning.specs.Layout.{Layout, laidOut, stoppedAt, Stop, unreadDimension, bitOutside, unequalElements, layout}
+use Rattle.meaning.specs.Description.{checkReply}
+use Rattle.meaning.specs.Layout.{Layout, laidOut, stoppedAt, Stop, unreadDimension, bitOutside, unequalElements, layOut}
 
 -- what stopped the walk, if anything did
 unfoldable pub stopOf : Layout → Option Stop
@@ -20,8 +20,8 @@ pub record Met (outcome : ℕ → Stop) : Type 0 where
   pub image : List ℕ
   pub refusal : Refusal
   pub item : ℕ
-  pub not-passed : soundness description ≡ Verdict.Refused refusal
-  pub stops : stopOf (layout description image) ≡ some (outcome item)
+  pub not-passed : checkReply description ≡ Verdict.Refused refusal
+  pub stops : stopOf (layOut description image) ≡ some (outcome item)
 
 -- a reference to a dimension not read yet
 abbrev pub UnreadDimensionMet : Type 0

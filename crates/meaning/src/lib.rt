@@ -114,34 +114,105 @@ pub enum Chosen {
     Entry { when: u32, brings: u32 },
 }
 
-// Why a question is refused. specs/Refusals.antt has the paper's number of each.
-pub enum Refusal {
-    BadLength,
-    BreaksRule { rule: u32, item: usize },
-    ImageTooLong,
-    ImageShort { item: usize, octet: ImageOffset },
-    NoTable,
-    NoElement,
-    OutsideTable,
-    NotWritable,
-    HoldsDimension,
-    WrongSize,
-    NotADate,
-    NoSeason,
-    SeasonChangeArmed,
-    NoRowOrColumn,
-    NotACalendar,
+// Why a question is refused: the paper's number, and what it reports, an item and an octet, each 0 where it reports none. C has this very struct. The numbers that
+// report nothing have their names here; specs/Numbers.antt has the same names, for the definitions.
+#[repr(C)]
+pub struct Refusal {
+    pub number: u64,
+    pub item: u64,
+    pub octet: u64,
+}
+
+impl Refusal {
+    // Nothing is refused: what an answer tells in a refusal's place.
+    pub const NONE: Refusal = Refusal {
+        number: 0,
+        item: 0,
+        octet: 0,
+    };
+    // Of the description, its length alone; 2 to 7 are the rules that an item breaks.
+    pub const DESCRIPTION_LENGTH: Refusal = Refusal {
+        number: 1,
+        item: 0,
+        octet: 0,
+    };
+    // Of the image; 9 is that it is short.
+    pub const IMAGE_TOO_LONG: Refusal = Refusal {
+        number: 8,
+        item: 0,
+        octet: 0,
+    };
+    // Of what is asked for, and of writes.
+    pub const NO_TABLE: Refusal = Refusal {
+        number: 10,
+        item: 0,
+        octet: 0,
+    };
+
+    pub const NO_ELEMENT: Refusal = Refusal {
+        number: 11,
+        item: 0,
+        octet: 0,
+    };
+
+    pub const OUTSIDE_TABLE: Refusal = Refusal {
+        number: 12,
+        item: 0,
+        octet: 0,
+    };
+
+    pub const NOT_WRITABLE: Refusal = Refusal {
+        number: 13,
+        item: 0,
+        octet: 0,
+    };
+
+    pub const HOLDS_DIMENSION: Refusal = Refusal {
+        number: 14,
+        item: 0,
+        octet: 0,
+    };
+
+    pub const WRONG_SIZE: Refusal = Refusal {
+        number: 15,
+        item: 0,
+        octet: 0,
+    };
+    // Of the calendar.
+    pub const NOT_A_DATE: Refusal = Refusal {
+        number: 16,
+        item: 0,
+        octet: 0,
+    };
+
+    pub const NO_SEASON: Refusal = Refusal {
+        number: 17,
+        item: 0,
+        octet: 0,
+    };
+
+    pub const SEASON_CHANGE_ARMED: Refusal = Refusal {
+        number: 18,
+        item: 0,
+        octet: 0,
+    };
+
+    pub const NO_ROW_OR_COLUMN: Refusal = Refusal {
+        number: 19,
+        item: 0,
+        octet: 0,
+    };
+
+    pub const NOT_A_CALENDAR: Refusal = Refusal {
+        number: 20,
+        item: 0,
+        octet: 0,
+    };
 }
 
 // Whether a description is sound, a write is accepted, the matrix can be had.
 pub enum Verdict {
     Passed,
-    Refused(Refusal),
-}
-
-// The total of octets used.
-pub enum Total {
-    Octets(usize),
     Refused(Refusal),
 }
 
@@ -151,15 +222,25 @@ pub enum Place {
     Refused(Refusal),
 }
 
-// An element's number.
-pub enum Number {
-    Is(u64),
+// What a question is answered: a case for each kind of answer. specs/Refusals.antt has the numbers that each tells.
+pub enum Reply {
     Refused(Refusal),
+    // A verdict that refuses nothing.
+    Passed,
+    // The total of octets used.
+    Total(usize),
+    // A place.
+    At { start: ImageOffset, length: usize },
+    // An element's number.
+    Number(u64),
+    // The tier that holds; or that no switch has come yet that day.
+    Tier(u32),
+    NoneYet,
 }
 
-// The tier that holds, or that no switch has come yet that day.
-pub enum Tier {
-    Is(u32),
-    NoneYet,
-    Refused(Refusal),
+// A reply in numbers, for callers that know no enum: the refusal, and two numbers of the answer's own, 0 where it has fewer or is refused.
+pub struct Told {
+    pub refusal: Refusal,
+    pub first: u64,
+    pub second: u64,
 }

@@ -9,7 +9,7 @@ use lib.Seq.{getD-set-same, getD-set-other}
 use borrow.Author.Tests.{eqb-true, eqb-false, ne-eqb, le-leb, lt-leb, leb-true, leb-false, ltb-true, ltb-false, lt-ltb}
 use native.Mathlib.Omega.{arith}
 use Rattle.meaning.specs.Layout.{Placed, Slots, holds, setSlot, unreadDimension, bitOutside, unequalElements, short, noItem, Laid, laid, stopped, inImage, numberAt}
-use Rattle.meaning.specs.Refusals.{holdsDimension}
+use Rattle.meaning.specs.Refusals.{anyDimension}
 use Rattle.laying.specs.declared.Spot.{Spot}
 use Rattle.laying.specs.declared.Spot.the-variants.{Nowhere, At}
 use Rattle.laying.specs.Sizes.{orElse, further, seen}
@@ -118,7 +118,7 @@ module _ (img : List ℕ) (a : Aim) (w : Walk) (piece : Span) (k next n : ℕ) (
       rw (lt-leb (p + n) (length img) l) (refl, e, sym h)
 
   ends-on : (j p : ℕ) (ps : List Placed) (t : Slots) (f : Spots) → p ≡ place a w → f (a .name .item) (leftOf (a .name) 0) ≡ spot
-      → ((i : ℕ) (xs : List ℕ) → seen i xs ps ≡ further p (f i xs)) → ((x m : ℕ) → holdsDimension ps x m ≡ dimensionAt k p n x m)
+      → ((i : ℕ) (xs : List ℕ) → seen i xs ps ≡ further p (f i xs)) → ((x m : ℕ) → anyDimension ps x m ≡ dimensionAt k p n x m)
       → Numbered t (numbersIn (noted img (w .numbers) k (place a w) n)) → place a w + piece .size ≤ length img → Ends a (w .found) (pastPiece img a w piece k next) (inImage false (length img) j p (laid ps t (p + n)))
   unfolding inImage
   ends-on j p ps t f h fs sees dims numbers le =

@@ -14,11 +14,11 @@ use Rattle.meaning.specs.declared.Item.the-variants.{Table, Uint, Block, Set, A
 use Rattle.meaning.specs.declared.Place.{Place}
 use Rattle.meaning.specs.declared.Refusal.{Refusal}
 use Rattle.meaning.specs.declared.Verdict.{Verdict}
-use Rattle.meaning.specs.Description.{itemCount, itemAt, fieldsOf, fieldsAt, soundness}
+use Rattle.meaning.specs.Description.{itemCount, itemAt, fieldsOf, fieldsAt, checkReply}
 use Rattle.meaning.specs.Passed.{Passes}
-use Rattle.meaning.specs.Layout.{Body, Tables, noMore, table, strayTable, Placed, Seat, Slots, unread, Laid, laid, stopped, Stop, unreadDimension, bitOutside, unequalElements, short, noItem, Layout, laidOut, stoppedAt, before, seated, layBody, layTables, layout, treeOf, tablesOf, tableAt, tabled, bodyAt, elementNamed, tableNamed}
+use Rattle.meaning.specs.Layout.{Body, Tables, noMore, table, strayTable, Placed, Seat, Slots, unread, Laid, laid, stopped, Stop, unreadDimension, bitOutside, unequalElements, short, noItem, Layout, laidOut, stoppedAt, before, seated, layBody, layTables, layOut, treeOf, tablesOf, tableAt, tabled, bodyAt, elementNamed, tableNamed}
 use Rattle.meaning.proofs.Passed.{passed-laws}
-use Rattle.meaning.specs.Refusals.{refused, stopRefusal, openLaid, openSound, openImage, elementIn, elementPlace, holdsDimension}
+use Rattle.meaning.specs.Refusals.{refused, stopRefusal, openLaid, openSound, openImage, elementIn, placedPlace, anyDimension}
 use Rattle.laying.specs.declared.Spot.{Spot}
 use Rattle.laying.specs.declared.Spot.the-variants.{Nowhere, At}
 use Rattle.laying.specs.Sizes.{orElse, further, spotOf, seen}
@@ -37,6 +37,7 @@ use Rattle.places.specs.declared.TableFound.the-variants.{No, Yes}
 use Rattle.places.specs.declared.Survey.{Survey}
 use Rattle.places.specs.declared.Answer.{Answer}
 use Rattle.meaning.specs.declared.Fields.{Fields}
+use Rattle.meaning.specs.Numbers.{imageTooLong, imageShort, noTable, noElement, numbered}
 use Rattle.places.specs.declared.Found.{Found}
 use Rattle.places.specs.declared.Walk.{Walk}
 use Rattle.places.specs.declared.Aim.{Aim}
@@ -53,11 +54,11 @@ found-is r Nowhere p Nowhere h k = refl
 found-is r Nowhere p (At o n) h k = let e : min (p + o) 18446744073709551615 ≡ p + o = omega arith in rw e
 
 -- as the replies have it
-element-is : (q : ElementName) (es : List Placed) → q .count ≤ 4 → placeAt Refusal.NoElement (seen (q .item) (leftOf q 0) es) ≡ elementPlace (elementIn q es)
-unfolding elementIn leftOf placeAt spotOf elementPlace
+element-is : (q : ElementName) (es : List Placed) → q .count ≤ 4 → placeAt noElement (seen (q .item) (leftOf q 0) es) ≡ placedPlace (elementIn q es)
+unfolding elementIn leftOf placeAt spotOf placedPlace
 element-is q es h = rw (le-leb (q .count) 4 h) (go (elementNamed (q .item) (leftOf q 0) es))
   where
-    go : (e : Option Placed) → placeAt Refusal.NoElement (spotOf e) ≡ elementPlace e
+    go : (e : Option Placed) → placeAt noElement (spotOf e) ≡ placedPlace e
     go none = refl
     go (some e) = refl
 
@@ -125,11 +126,11 @@ pub set-out : (d img : List ℕ) (q : Asked) (p : ℕ) → p ≡ 0 → Passes d
       start = record { 0 = p };
       next = 0;
       table = No;
-      element = Place.Refused Refusal.NoElement;
+      element = Place.Refused noElement;
       held = false;
       verdict = Verdict.Passed;
     })
-unfolding layout treeOf numberOf placeAt tableNamed tableFound
+unfolding layOut treeOf numberOf placeAt tableNamed tableFound
 set-out d img q p e h =
     let z : itemCount d - 0 ≡ itemCount d = omega arith in
     record {
@@ -142,7 +143,7 @@ set-out d img q p e h =
       ordered = omega arith;
       inside = omega arith;
       table = refl;
-      element = ap (placeAt Refusal.NoElement) (sym (seen-none (q .name .item) (leftOf (q .name) 0)));
+      element = ap (placeAt noElement) (sym (seen-none (q .name .item) (leftOf (q .name) 0)));
       held = sym (holds-none (q .from .0) (q .octets));
     }
 
@@ -153,7 +154,7 @@ isPassed Verdict.Passed = true
 isPassed (Verdict.Refused r) = false
 
 abbrev refusalOf : Verdict → Refusal
-refusalOf Verdict.Passed = Refusal.NoTable
+refusalOf Verdict.Passed = noTable
 refusalOf (Verdict.Refused r) = r
 
 module _ (d img : List ℕ) (q : Asked) (s : Survey) (ready : TableReady d img q s) (h : Fields) (hd : h ≡ fieldsAt d (s .next)) where
@@ -215,7 +216,7 @@ module _ (d img : List ℕ) (q : Asked) (s : Survey) (ready : TableReady d img q
   pub table-few : s .next + 1 + h .first ≤ 512
   table-few = omega (arith, few, passed-laws d (ready .ready .passes) .few, ready .more)
 
-  whole-is : layout d img ≡ beforeAll (g .seats) (g .elements) (seated (s .next) (h .manufacturer) (h .number) (s .start .0) (layBody body img false [] (g .slots) (s .start .0)) (λ t x. layTables rest img t x))
+  whole-is : layOut d img ≡ beforeAll (g .seats) (g .elements) (seated (s .next) (h .manufacturer) (h .number) (s .start .0) (layBody body img false [] (g .slots) (s .start .0)) (λ t x. layTables rest img t x))
   unfolding layTables
   whole-is = g .whole ∙ ap (λ (x : Tables). beforeAll (g .seats) (g .elements) (layTables x img (g .slots) (s .start .0))) is-table
 
@@ -230,12 +231,12 @@ module _ (d img : List ℕ) (q : Asked) (s : Survey) (ready : TableReady d img q
     unfolding verdictOf
     verdict-going e = verdict ∙ rw e
 
-    verdict-short : w .short ≡ true → r .verdict ≡ Verdict.Refused (Refusal.ImageShort (w .next) (record { 0 = s .start .0 + w .octets }))
+    verdict-short : w .short ≡ true → r .verdict ≡ Verdict.Refused (imageShort (w .next) (s .start .0 + w .octets))
     unfolding verdictOf
     verdict-short e = let m : min (s .start .0 + w .octets) 18446744073709551615 ≡ s .start .0 + w .octets = omega (arith, walks .inside, ready .ready .small) in verdict ∙ rw (e, m)
 
     laid-on : (ps : List Placed) (t : Slots) (x : ℕ) → Ends aim none-here w (laid ps t x)
-        → layout d img ≡ beforeAll (g .seats) (g .elements) (seated (s .next) (h .manufacturer) (h .number) (s .start .0) (laid ps t x) (λ t x. layTables rest img t x)) → Surveyed d img q r
+        → layOut d img ≡ beforeAll (g .seats) (g .elements) (seated (s .next) (h .manufacturer) (h .number) (s .start .0) (laid ps t x) (λ t x. layTables rest img t x)) → Surveyed d img q r
     unfolding seated FitTables orElse further
     laid-on ps t x e wh =
         let t0 : Seat = record { item = s .next; manufacturer = h .manufacturer; number = h .number; start = s .start .0; size = x - s .start .0 } in
@@ -257,19 +258,19 @@ module _ (d img : List ℕ) (q : Asked) (s : Survey) (ready : TableReady d img q
           inside = omega (arith, st, e .1, walks .inside);
           table = seat ∙ ap₂ firstTable (g .table) (rw sz (sym (seat-one q h (s .next) (x - s .start .0) (s .start)))) ∙ sym (seat-append (q .manufacturer) (q .number) (g .seats) (t0 ∷ []));
           element = element ∙ ap (λ (y : Place). firstFound y (s .start .0) (w .found .spot)) (g .element) ∙ found-is _ _ _ _ le (walks .found)
-              ∙ ap (placeAt Refusal.NoElement) (ap (orElse (seen (q .name .item) (leftOf (q .name) 0) (g .elements))) (e .3 .spot) ∙ sym (seen-append _ _ (g .elements) ps));
-          held = held ∙ e .3 .held ∙ ap (λ (y : Bool). y || holdsDimension ps (q .from .0) (q .octets)) (g .held) ∙ sym (holds-append (q .from .0) (q .octets) (g .elements) ps);
+              ∙ ap (placeAt noElement) (ap (orElse (seen (q .name .item) (leftOf (q .name) 0) (g .elements))) (e .3 .spot) ∙ sym (seen-append _ _ (g .elements) ps));
+          held = held ∙ e .3 .held ∙ ap (λ (y : Bool). y || anyDimension ps (q .from .0) (q .octets)) (g .held) ∙ sym (holds-append (q .from .0) (q .octets) (g .elements) ps);
         }
 
     short-here : (ps : List Placed) (i x : ℕ) → Ends aim none-here w (stopped ps (short i x))
-        → layout d img ≡ beforeAll (g .seats) (g .elements) (seated (s .next) (h .manufacturer) (h .number) (s .start .0) (stopped ps (short i x)) (λ t x. layTables rest img t x))
-        → openLaid (layout d img) ≡ refused (refusalOf (r .verdict))
+        → layOut d img ≡ beforeAll (g .seats) (g .elements) (seated (s .next) (h .manufacturer) (h .number) (s .start .0) (stopped ps (short i x)) (λ t x. layTables rest img t x))
+        → openLaid (layOut d img) ≡ refused (refusalOf (r .verdict))
     unfolding seated beforeAll openLaid stopRefusal
     short-here ps i x e wh = ap openLaid wh ∙ sym (ap (λ (v : Verdict). refused (refusalOf v)) (verdict-short (e .0)) ∙ rw (e .1, e .2))
 
     -- what a passed description never meets
     never : (ps : List Placed) (x : Stop) → (Lays (stoppedAt (g .elements ++ ps) x) → ⊥)
-        → layout d img ≡ beforeAll (g .seats) (g .elements) (seated (s .next) (h .manufacturer) (h .number) (s .start .0) (stopped ps x) (λ t x. layTables rest img t x)) → ⊥
+        → layOut d img ≡ beforeAll (g .seats) (g .elements) (seated (s .next) (h .manufacturer) (h .number) (s .start .0) (stopped ps x) (λ t x. layTables rest img t x)) → ⊥
     unfolding seated beforeAll
     never ps x clash wh = clash (subst Lays wh (passed-lays d img (ready .ready .passes)))
 
@@ -278,7 +279,7 @@ module _ (d img : List ℕ) (q : Asked) (s : Survey) (ready : TableReady d img q
     table-as = go (layBody body img false [] (g .slots) (s .start .0)) ends whole-is
       where
         go : (o : Laid) → Ends aim none-here w o
-            → layout d img ≡ beforeAll (g .seats) (g .elements) (seated (s .next) (h .manufacturer) (h .number) (s .start .0) o (λ t x. layTables rest img t x)) → TableAs d img q s r
+            → layOut d img ≡ beforeAll (g .seats) (g .elements) (seated (s .next) (h .manufacturer) (h .number) (s .start .0) o (λ t x. layTables rest img t x)) → TableAs d img q s r
         go (laid ps t x) e wh = record {
           passed = λ v. (laid-on ps t x e wh, omega (arith, next));
           stopped = λ y v. absurd (false≢true (sym (ap isPassed v) ∙ ap isPassed (verdict-going (e .0))));
@@ -294,31 +295,31 @@ module _ (d img : List ℕ) (q : Asked) (s : Survey) (ready : TableReady d img q
 
 -- AT THE END
 pub laid-all : (d img : List ℕ) (q : Asked) (s : Survey) → Surveyed d img q s → itemCount d ≤ s .next → q .name .count ≤ 4 → (total : ℕ) → total ≡ s .start .0
-    → record { verdict = Verdict.Passed; total = total; table = s .table; element = s .element; held = s .held } ≡ answerTo q (openLaid (layout d img))
+    → record { verdict = Verdict.Passed; total = total; table = s .table; element = s .element; held = s .held } ≡ answerTo q (openLaid (layOut d img))
 unfolding layTables beforeAll openLaid answerTo
 laid-all d img q s g le h total e =
     let z : itemCount d - s .next ≡ 0 = omega arith in
     let none : tablesOf d (itemCount d - s .next) 0 (s .next) ≡ noMore = ap (λ (x : ℕ). tablesOf d x 0 (s .next)) z ∙ tables-none d (s .next) in
-    let w : layout d img ≡ laidOut (g .seats) (g .elements) (g .slots) (s .start .0) = g .whole
+    let w : layOut d img ≡ laidOut (g .seats) (g .elements) (g .slots) (s .start .0) = g .whole
     ∙ ap (λ (x : Tables). beforeAll (g .seats) (g .elements) (layTables x img (g .slots) (s .start .0))) none
     ∙ ap₂ (λ (a : List Seat) (b : List Placed). laidOut a b (g .slots) (s .start .0)) (append-nil (g .seats)) (append-nil (g .elements)) in
     rw (w, e, g .table, g .element, g .held, element-is (q .name) (g .elements) h)
 
 -- 1 TO 9 COME FIRST
 module _ (d img : List ℕ) (q : Asked) (r : Answer) where
-  pub opened-refused : (x : Refusal) → soundness d ≡ Verdict.Refused x → r ≡ refusedBy x → r ≡ answerTo q (openImage d img)
+  pub opened-refused : (x : Refusal) → checkReply d ≡ Verdict.Refused x → r ≡ refusedBy x → r ≡ answerTo q (openImage d img)
   unfolding openImage openSound answerTo
   opened-refused x e h = rw e h
 
-  pub opened-long : soundness d ≡ Verdict.Passed → 65535 < length img → r ≡ refusedBy Refusal.ImageTooLong → r ≡ answerTo q (openImage d img)
+  pub opened-long : checkReply d ≡ Verdict.Passed → 65535 < length img → r ≡ refusedBy imageTooLong → r ≡ answerTo q (openImage d img)
   unfolding openImage openSound answerTo
   opened-long e l h = rw (e, lt-ltb 65535 (length img) l) h
 
-  pub opened-laid : soundness d ≡ Verdict.Passed → length img ≤ 65535 → r ≡ answerTo q (openLaid (layout d img)) → r ≡ answerTo q (openImage d img)
+  pub opened-laid : checkReply d ≡ Verdict.Passed → length img ≤ 65535 → r ≡ answerTo q (openLaid (layOut d img)) → r ≡ answerTo q (openImage d img)
   unfolding openImage openSound
   opened-laid e l h = rw (e, le-ltb 65535 (length img) l) h
 
   -- the refusal that laying out comes to
-  pub laid-refused : (x : Refusal) → openLaid (layout d img) ≡ refused x → r ≡ refusedBy x → r ≡ answerTo q (openLaid (layout d img))
+  pub laid-refused : (x : Refusal) → openLaid (layOut d img) ≡ refused x → r ≡ refusedBy x → r ≡ answerTo q (openLaid (layOut d img))
   unfolding answerTo
   laid-refused x e h = rw e h

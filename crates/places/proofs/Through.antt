@@ -7,7 +7,8 @@ use mathlib.Core.List.{List, [], _++_}
 use native.Mathlib.Omega.{arith}
 use Rattle.meaning.specs.Description.{itemAt}
 use Rattle.meaning.specs.Layout.{Body, done, more, Placed, Slots, holds, unreadDimension, bitOutside, unequalElements, short, noItem, Laid, laid, stopped, also, andThen, layBody, nested, bodyAt}
-use Rattle.meaning.specs.Refusals.{holdsDimension}
+use Rattle.meaning.specs.Refusals.{anyDimension}
+use Rattle.meaning.specs.Numbers.{numbered}
 use Rattle.laying.specs.declared.Spot.{Spot}
 use Rattle.laying.specs.Sizes.{Numbers, orElse, further, seen}
 use Rattle.laying.specs.Sound.{FitBody}
@@ -35,8 +36,8 @@ finds-append a b c f ps qs h k = record {
   spot = k .spot ∙ ap (λ (x : Spot). orElse x (seen (a .name .item) (leftOf (a .name) 0) qs)) (h .spot)
       ∙ or-assoc (further (a .start .0) (b .spot)) (seen (a .name .item) (leftOf (a .name) 0) ps) (seen (a .name .item) (leftOf (a .name) 0) qs)
       ∙ ap (orElse (further (a .start .0) (b .spot))) (sym (seen-append (a .name .item) (leftOf (a .name) 0) ps qs));
-  held = k .held ∙ ap (λ (x : Bool). x || holdsDimension qs (a .from .0) (a .octets)) (h .held)
-      ∙ bool.or-assoc (b .held) (holdsDimension ps (a .from .0) (a .octets)) (holdsDimension qs (a .from .0) (a .octets))
+  held = k .held ∙ ap (λ (x : Bool). x || anyDimension qs (a .from .0) (a .octets)) (h .held)
+      ∙ bool.or-assoc (b .held) (anyDimension ps (a .from .0) (a .octets)) (anyDimension qs (a .from .0) (a .octets))
       ∙ ap (λ (x : Bool). b .held || x) (sym (holds-append (a .from .0) (a .octets) ps qs));
 }
 

@@ -6,7 +6,7 @@ use Rattle.meaning.specs.declared.Place.{Place}
 use Rattle.meaning.specs.declared.Refusal.{Refusal}
 use Rattle.meaning.specs.declared.Verdict.{Verdict}
 use Rattle.meaning.specs.Layout.{Seat, tableNamed}
-use Rattle.meaning.specs.Refusals.{Opened, opened, refused, elementIn, elementPlace, holdsDimension}
+use Rattle.meaning.specs.Refusals.{Opened, opened, refused, elementIn, placedPlace, anyDimension}
 use Rattle.places.specs.declared.Asked.{Asked}
 use Rattle.places.specs.declared.Answer.{Answer}
 use Rattle.places.specs.declared.TableFound.{TableFound}
@@ -31,7 +31,7 @@ answerTo q (opened ts es s n) = record {
   verdict = Verdict.Passed;
   total = n;
   table = tableFound (tableNamed (q .manufacturer) (q .number) ts);
-  element = elementPlace (elementIn (q .name) es);
-  held = holdsDimension es (q .from .0) (q .octets);
+  element = placedPlace (elementIn (q .name) es);
+  held = anyDimension es (q .from .0) (q .octets);
 }
 answerTo q (refused r) = refusedBy r

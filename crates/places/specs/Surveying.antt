@@ -11,8 +11,9 @@ use Rattle.meaning.specs.declared.Refusal.{Refusal}
 use Rattle.meaning.specs.declared.Verdict.{Verdict}
 use Rattle.meaning.specs.Description.{itemCount}
 use Rattle.meaning.specs.Passed.{Passes}
-use Rattle.meaning.specs.Layout.{Placed, Seat, Slots, Layout, laidOut, stoppedAt, layTables, layout, tablesOf, tableNamed}
-use Rattle.meaning.specs.Refusals.{refused, openLaid, holdsDimension}
+use Rattle.meaning.specs.Layout.{Placed, Seat, Slots, Layout, laidOut, stoppedAt, layTables, layOut, tablesOf, tableNamed}
+use Rattle.meaning.specs.Refusals.{refused, openLaid, anyDimension}
+use Rattle.meaning.specs.Numbers.{imageShort, noTable, noElement, numbered}
 use Rattle.laying.specs.declared.Spot.{Spot}
 use Rattle.laying.specs.declared.Spot.the-variants.{Nowhere, At}
 use Rattle.laying.specs.Sizes.{seen}
@@ -67,13 +68,13 @@ pub record Surveyed (d img : List ℕ) (q : Asked) (s : Survey) : Type 0 where
   pub elements : List Placed
   pub slots : Slots
   pub numbered : Numbered slots (numbersIn (s .numbers))
-  pub whole : layout d img ≡ beforeAll seats elements (layTables (tablesOf d (itemCount d - s .next) 0 (s .next)) img slots (s .start .0))
+  pub whole : layOut d img ≡ beforeAll seats elements (layTables (tablesOf d (itemCount d - s .next) 0 (s .next)) img slots (s .start .0))
   pub fit : FitTables (tablesOf d (itemCount d - s .next) 0 (s .next))
   pub ordered : s .next ≤ itemCount d
   pub inside : s .start .0 ≤ length img
   pub table : s .table ≡ tableFound (tableNamed (q .manufacturer) (q .number) seats)
-  pub element : s .element ≡ placeAt Refusal.NoElement (seen (q .name .item) (leftOf (q .name) 0) elements)
-  pub held : s .held ≡ holdsDimension elements (q .from .0) (q .octets)
+  pub element : s .element ≡ placeAt noElement (seen (q .name .item) (leftOf (q .name) 0) elements)
+  pub held : s .held ≡ anyDimension elements (q .from .0) (q .octets)
 
 pub record TableReady (d img : List ℕ) (q : Asked) (s : Survey) : Type 0 where
   pub ready : SurveyReady d img q
@@ -83,13 +84,13 @@ pub record TableReady (d img : List ℕ) (q : Asked) (s : Survey) : Type 0 where
 -- whether the walk over the table at p came to its end
 unfoldable pub verdictOf : (p : ℕ) → Walk → Verdict
 verdictOf p w =
-    if w .short then Verdict.Refused (Refusal.ImageShort (w .next) (record { 0 = min (p + w .octets) 18446744073709551615 }))
+    if w .short then Verdict.Refused (imageShort (w .next) (min (p + w .octets) 18446744073709551615))
     else Verdict.Passed
 
 -- one table more, or the refusal that laying out comes to
 pub record TableAs (d img : List ℕ) (q : Asked) (s : Survey) (r : Survey) : Type 0 where
   pub passed : r .verdict ≡ Verdict.Passed → Surveyed d img q r × (s .next < r .next)
-  pub stopped : (x : Refusal) → r .verdict ≡ Verdict.Refused x → openLaid (layout d img) ≡ refused x
+  pub stopped : (x : Refusal) → r .verdict ≡ Verdict.Refused x → openLaid (layOut d img) ≡ refused x
 
 -- THE ANSWER
 -- the verdict's refusal, or else the place given
@@ -99,9 +100,9 @@ refusalOr (Verdict.Refused r) p = Place.Refused r
 
 -- the same answer to one who asks for an element that can't be named
 unfoldable pub unnamedOf : Answer → Answer
-unnamedOf r = record { verdict = r .verdict; total = r .total; table = r .table; element = refusalOr (r .verdict) (Place.Refused Refusal.NoElement); held = r .held }
+unnamedOf r = record { verdict = r .verdict; total = r .total; table = r .table; element = refusalOr (r .verdict) (Place.Refused noElement); held = r .held }
 
 -- where the table found is, or none
-unfoldable pub tablePlace : TableFound → Place
-tablePlace No = Place.Refused Refusal.NoTable
-tablePlace (Yes i s n) = Place.At (record { 0 = s .0 }) n
+unfoldable pub foundPlace : TableFound → Place
+foundPlace No = Place.Refused noTable
+foundPlace (Yes i s n) = Place.At (record { 0 = s .0 }) n

@@ -7,7 +7,8 @@ use lib.ListN.{length, set}
 use Rattle.meaning.specs.Basics.{if_then_else_, _=?_, _≤?_}
 use Rattle.meaning.specs.Description.{itemCount, itemAt}
 use Rattle.meaning.specs.Layout.{Placed, Slots, unreadDimension, bitOutside, unequalElements, short, noItem, Laid, laid, stopped, layBody, layNode, numberAt, nested, bodyAt}
-use Rattle.meaning.specs.Refusals.{holdsDimension}
+use Rattle.meaning.specs.Refusals.{anyDimension}
+use Rattle.meaning.specs.Numbers.{numbered}
 use Rattle.laying.specs.declared.Spot.{Spot}
 use Rattle.laying.specs.declared.Spot.the-variants.{Nowhere, At}
 use Rattle.laying.specs.Sizes.{orElse, further, seen}
@@ -69,7 +70,7 @@ atItem w next = record { numbers = w .numbers; octets = w .octets; found = w .fo
 -- what was found before, and what of that asked for is among the elements ps, come to f
 pub record Finds (a : Aim) (before : Found) (ps : List Placed) (f : Found) : Type 0 where
   pub spot : further (a .start .0) (f .spot) ≡ orElse (further (a .start .0) (before .spot)) (seen (a .name .item) (leftOf (a .name) 0) ps)
-  pub held : f .held ≡ (before .held || holdsDimension ps (a .from .0) (a .octets))
+  pub held : f .held ≡ (before .held || anyDimension ps (a .from .0) (a .octets))
 
 -- from a walk that had found `before`, r stands where laying out ends, with its slots, and has found what is asked for in its elements; or at the item and octet
 -- that are short. Of what a passed description never meets it says nothing

@@ -17,7 +17,7 @@ use meaning::Item;
 use meaning::Place;
 use meaning::Reference;
 use meaning::Refusal;
-use meaning::Total;
+use meaning::Reply;
 use meaning::Verdict;
 use offsets::ImageOffset;
 use offsets::TableOffset;
@@ -27,14 +27,14 @@ ghost use Prim.Native.Nat.{_+_, _<_, _≤_};
 ghost use lib.ListN.{length};
 ghost use Rattle.meaning.specs.Ranges.{ReferenceRange};
 ghost use Rattle.meaning.specs.Description.{itemCount, fieldsAt};
-ghost use Rattle.meaning.specs.Layout.{setOctets, layout};
-ghost use Rattle.meaning.specs.Refusals.{openLaid, openImage, totalReply, tableReply, whereReply};
+ghost use Rattle.meaning.specs.Layout.{setOctets, layOut};
+ghost use Rattle.meaning.specs.Refusals.{openLaid, openImage, layoutReply, tablePlaceReply, elementPlaceReply};
 ghost use Rattle.laying.specs.Sizes.{value, orElse, leafSpot};
 ghost use Rattle.laying.specs.Dimensions.{dimensionAt};
 ghost use Rattle.places.specs.Parts.{numbersIn, branchOf, cut, cutFurther, leftOf, bodiesSpot, bodiesSpan, withItem, NameReady, OpenedAs, BodyReady, ItemReady, SpanAs, BodyAs, ItemAs};
 ghost use Rattle.places.specs.Walking.{Readable, noted, StepReady, stepOf, atItem, WalkItemReady, WalksItem, WalkBodyReady, WalksBody};
 ghost use Rattle.places.specs.Opening.{refusedBy, answerTo, nothingAsked};
-ghost use Rattle.places.specs.Surveying.{seatIn, firstTable, inTable, firstFound, verdictOf, TableReady, TableAs, SurveyReady, refusalOr, unnamedOf, tablePlace};
+ghost use Rattle.places.specs.Surveying.{seatIn, firstTable, inTable, firstFound, verdictOf, TableReady, TableAs, SurveyReady, refusalOr, unnamedOf, foundPlace};
 
 // WHAT AN ITEM COMES TO
 // The value of a reference, where slots have these numbers.
@@ -682,9 +682,11 @@ fn verdict_of(start: TableStart, w: Walk) -> Verdict
 {
     if w.short {
         let walked = w.octets;
-        return Verdict::Refused(Refusal::ImageShort {
-            item: w.next,
-            octet: start.in_image(TableOffset::new(walked)),
+        let octet = start.in_image(TableOffset::new(walked));
+        return Verdict::Refused(Refusal {
+            number: 9,
+            item: w.next as u64,
+            octet: octet.octet() as u64,
         });
     }
     Verdict::Passed
@@ -706,7 +708,7 @@ fn refused(r: Refusal) -> Answer
 // All tables laid, one after another from octet 0.
 fn survey_image(d: &[u8], image: &[u8], asked: Asked) -> Answer
     requires { ⌜ SurveyReady (now d) (now image) asked ⌝ }
-    ensures { λ r. ⌜ r ≡ answerTo asked (openLaid (layout (now (d .entry)) (now (image .entry)))) ⌝ }
+    ensures { λ r. ⌜ r ≡ answerTo asked (openLaid (layOut (now (d .entry)) (now (image .entry)))) ⌝ }
 {
     let items = d.len() / 4;
     let mut s = Survey {
@@ -714,7 +716,7 @@ fn survey_image(d: &[u8], image: &[u8], asked: Asked) -> Answer
         start: TableStart::first(),
         next: 0,
         table: TableFound::No,
-        element: Place::Refused(Refusal::NoElement),
+        element: Place::Refused(Refusal::NO_ELEMENT),
         held: false,
         verdict: Verdict::Passed,
     };
@@ -753,7 +755,7 @@ fn open_named(d: &[u8], image: &[u8], asked: Asked) -> Answer
         Verdict::Refused(r) => refused(r),
         Verdict::Passed => {
             if 65535 < image.len() {
-                return refused(Refusal::ImageTooLong);
+                return refused(Refusal::IMAGE_TOO_LONG);
             }
             survey_image(d, image, asked)
         }
@@ -780,17 +782,17 @@ fn unnamed(answer: Answer) -> Answer
         verdict,
         total: answer.total,
         table,
-        element: refusal_or(verdict, Place::Refused(Refusal::NoElement)),
+        element: refusal_or(verdict, Place::Refused(Refusal::NO_ELEMENT)),
         held: answer.held,
     }
 }
 
 // Where the table found is, or none.
 fn place_of_table(table: TableFound) -> Place
-    ensures { λ r. ⌜ r ≡ tablePlace table ⌝ }
+    ensures { λ r. ⌜ r ≡ foundPlace table ⌝ }
 {
     match table {
-        TableFound::No => Place::Refused(Refusal::NoTable),
+        TableFound::No => Place::Refused(Refusal::NO_TABLE),
         TableFound::Yes {
             item: _,
             start,
@@ -843,20 +845,20 @@ pub fn open_image(description: &[u8], image: &[u8], asked: Asked) -> Answer
 }
 
 // Lays the image out: the total of octets used.
-pub fn total(description: &[u8], image: &[u8]) -> Total
-    ensures { λ r. ⌜ r ≡ totalReply (now (description .entry)) (now (image .entry)) ⌝ }
+pub fn layout(description: &[u8], image: &[u8]) -> Reply
+    ensures { λ r. ⌜ r ≡ layoutReply (now (description .entry)) (now (image .entry)) ⌝ }
 {
     let answer = open_image(description, image, nothing_asked());
     let verdict = answer.verdict;
     match verdict {
-        Verdict::Refused(r) => Total::Refused(r),
-        Verdict::Passed => Total::Octets(answer.total),
+        Verdict::Refused(r) => Reply::Refused(r),
+        Verdict::Passed => Reply::Total(answer.total),
     }
 }
 
 // Where a table starts, and how long it is.
 pub fn table_place(description: &[u8], image: &[u8], manufacturer: u32, number: u32) -> Place
-    ensures { λ r. ⌜ r ≡ tableReply (now (description .entry)) (now (image .entry)) manufacturer number ⌝ }
+    ensures { λ r. ⌜ r ≡ tablePlaceReply (now (description .entry)) (now (image .entry)) manufacturer number ⌝ }
 {
     let nothing = nothing_asked();
     let name = nothing.name;
@@ -876,7 +878,7 @@ pub fn table_place(description: &[u8], image: &[u8], manufacturer: u32, number: 
 
 // Where an element is: its first octet in the image, and its length.
 pub fn element_place(description: &[u8], image: &[u8], name: ElementName) -> Place
-    ensures { λ r. ⌜ r ≡ whereReply (now (description .entry)) (now (image .entry)) name ⌝ }
+    ensures { λ r. ⌜ r ≡ elementPlaceReply (now (description .entry)) (now (image .entry)) name ⌝ }
 {
     let nothing = nothing_asked();
     let from = nothing.from;

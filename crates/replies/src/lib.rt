@@ -1,103 +1,86 @@
-// An answer as the paper's numbers, for callers that know no enum: a line of text, or C. What they
-// ask by a number is turned into its value here too.
+// A reply as the paper's numbers, for callers that know no enum: a line of text, or C. What they ask by a
+// number is turned into its value here too.
 //
-// A refusal is three numbers: its own, then the item and the octet that it reports, each 0 where it
-// reports none. An answer starts with those three, all 0 where nothing is refused.
-use meaning::Number;
+// What is told is a refusal, all 0 where nothing is refused, and two numbers of the answer's own.
 use meaning::Place;
 use meaning::Quantity;
 use meaning::Refusal;
-use meaning::Tier;
-use meaning::Total;
+use meaning::Reply;
+use meaning::Told;
 use meaning::Verdict;
 ghost use mathlib.Core.Path.{_≡_};
 ghost use mathlib.Core.List.{flatten};
-ghost use Rattle.meaning.specs.Refusals.{reported, verdictValues, totalValues, placeValues, numberValues, tierValues};
+ghost use Rattle.meaning.specs.Refusals.{refusedWith, answered, toldBy, toldNumbers, verdictReply, placeReply};
 ghost use Rattle.replies.specs.Asked.{quantityOf};
 
-// A refusal's number, item and octet.
-pub fn reported(r: Refusal) -> [u64; 3]
-    ensures { λ s. ⌜ s ≡ reported r ⌝ }
+// Nothing is told but the refusal.
+fn refused_with(refusal: Refusal) -> Told
+    ensures { λ r. ⌜ r ≡ refusedWith refusal ⌝ }
 {
-    match r {
-        Refusal::BadLength => [1, 0, 0],
-        Refusal::BreaksRule { rule, item } => [rule as u64, item as u64, 0],
-        Refusal::ImageTooLong => [8, 0, 0],
-        Refusal::ImageShort { item, octet } => [9, item as u64, octet.octet() as u64],
-        Refusal::NoTable => [10, 0, 0],
-        Refusal::NoElement => [11, 0, 0],
-        Refusal::OutsideTable => [12, 0, 0],
-        Refusal::NotWritable => [13, 0, 0],
-        Refusal::HoldsDimension => [14, 0, 0],
-        Refusal::WrongSize => [15, 0, 0],
-        Refusal::NotADate => [16, 0, 0],
-        Refusal::NoSeason => [17, 0, 0],
-        Refusal::SeasonChangeArmed => [18, 0, 0],
-        Refusal::NoRowOrColumn => [19, 0, 0],
-        Refusal::NotACalendar => [20, 0, 0],
+    Told {
+        refusal,
+        first: 0,
+        second: 0,
     }
 }
 
-// Whether a question was granted, or why not.
-pub fn verdict_values(v: Verdict) -> [u64; 3]
-    ensures { λ r. ⌜ r ≡ verdictValues v ⌝ }
+// Nothing is refused.
+fn answered(first: u64, second: u64) -> Told
+    ensures { λ r. ⌜ r ≡ answered first second ⌝ }
 {
-    match v {
-        Verdict::Passed => [0, 0, 0],
-        Verdict::Refused(r) => reported(r),
+    Told {
+        refusal: Refusal::NONE,
+        first,
+        second,
     }
 }
 
-// The total, behind a refusal's three numbers.
-pub fn total_values(t: Total) -> [u64; 4]
-    ensures { λ r. ⌜ r ≡ totalValues t ⌝ }
+// A reply in numbers.
+pub fn told(reply: Reply) -> Told
+    ensures { λ r. ⌜ r ≡ toldBy reply ⌝ }
 {
-    match t {
-        Total::Octets(n) => [0, 0, 0, n as u64],
-        Total::Refused(r) => {
-            let s = reported(r);
-            [s[0], s[1], s[2], 0]
-        }
+    match reply {
+        Reply::Refused(r) => refused_with(r),
+        Reply::Passed => answered(0, 0),
+        Reply::Total(n) => answered(n as u64, 0),
+        Reply::At { start, length } => answered(start.octet() as u64, length as u64),
+        Reply::Number(n) => answered(n, 0),
+        Reply::Tier(t) => answered(0, t as u64),
+        Reply::NoneYet => answered(1, 0),
     }
 }
 
-// The first octet in the image and the length, behind a refusal's three numbers.
-pub fn place_values(p: Place) -> [u64; 5]
-    ensures { λ r. ⌜ r ≡ placeValues p ⌝ }
+// One after another: the refusal's numbers, then the answer's own.
+pub fn numbers(told: Told) -> [u64; 5]
+    ensures { λ r. ⌜ r ≡ toldNumbers told ⌝ }
 {
-    match p {
-        Place::At { start, length } => [0, 0, 0, start.octet() as u64, length as u64],
-        Place::Refused(r) => {
-            let s = reported(r);
-            [s[0], s[1], s[2], 0, 0]
-        }
+    let refusal = told.refusal;
+    [
+        refusal.number,
+        refusal.item,
+        refusal.octet,
+        told.first,
+        told.second,
+    ]
+}
+
+// A verdict in numbers.
+pub fn verdict_told(verdict: Verdict) -> Told
+    ensures { λ r. ⌜ r ≡ toldBy (verdictReply verdict) ⌝ }
+{
+    match verdict {
+        Verdict::Passed => told(Reply::Passed),
+        Verdict::Refused(r) => told(Reply::Refused(r)),
     }
 }
 
-// An element's number, behind a refusal's three numbers.
-pub fn number_values(x: Number) -> [u64; 4]
-    ensures { λ r. ⌜ r ≡ numberValues x ⌝ }
+// A place in numbers.
+pub fn place_told(place: Place) -> Told
+    ensures { λ r. ⌜ r ≡ toldBy (placeReply place) ⌝ }
 {
-    match x {
-        Number::Is(n) => [0, 0, 0, n],
-        Number::Refused(r) => {
-            let s = reported(r);
-            [s[0], s[1], s[2], 0]
-        }
-    }
-}
-
-// 1 for "none yet today", and the tier, behind a refusal's three numbers.
-pub fn tier_values(t: Tier) -> [u64; 5]
-    ensures { λ r. ⌜ r ≡ tierValues t ⌝ }
-{
-    match t {
-        Tier::Is(tier) => [0, 0, 0, 0, tier as u64],
-        Tier::NoneYet => [0, 0, 0, 1, 0],
-        Tier::Refused(r) => {
-            let s = reported(r);
-            [s[0], s[1], s[2], 0, 0]
-        }
+    match place {
+        Place::At { start, length } => told(Reply::At { start, length }),
+        Place::Refused(r) => told(Reply::Refused(r)),
     }
 }
 

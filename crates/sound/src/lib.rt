@@ -17,7 +17,7 @@ ghost use Prim.Native.Nat.{_+_, _<_, _≤_};
 ghost use lib.ListN.{length, getD};
 ghost use Rattle.meaning.specs.Basics.{if_then_else_};
 ghost use Rattle.meaning.specs.Ranges.{FieldsRange};
-ghost use Rattle.meaning.specs.Description.{itemCount, isTable, nests, isDimension, isTableNamed, isTable00, isDataOrder, misplaced, count, inside, tableGiven, breaks1, breaks2, breaks3, breaks4, breaks5, breaks6, breaks7, lowestBroken, soundness};
+ghost use Rattle.meaning.specs.Description.{itemCount, isTable, nests, isDimension, isTableNamed, isTable00, isDataOrder, misplaced, count, inside, tableGiven, breaks1, breaks2, breaks3, breaks4, breaks5, breaks6, breaks7, lowestBroken, checkReply};
 ghost use Rattle.sound.specs.Walk.{There, Known, noted, Before, JudgedAs, CheckedAs};
 
 // 1 where it holds.
@@ -323,10 +323,10 @@ fn breaks1(d: &[u8]) -> bool
 
 // Whether a description is sound. Nothing is asked of its octets.
 pub fn check(description: &[u8]) -> Verdict
-    ensures { λ x. ⌜ x ≡ soundness (now (description .entry)) ⌝ }
+    ensures { λ x. ⌜ x ≡ checkReply (now (description .entry)) ⌝ }
 {
     if breaks1(description) {
-        return Verdict::Refused(Refusal::BadLength);
+        return Verdict::Refused(Refusal::DESCRIPTION_LENGTH);
     }
     let top = Round {
         limit: description.len() / 4,
@@ -339,8 +339,9 @@ pub fn check(description: &[u8]) -> Verdict
         return Verdict::Passed;
     }
     let place = checked.place;
-    Verdict::Refused(Refusal::BreaksRule {
-        rule,
-        item: place.at,
+    Verdict::Refused(Refusal {
+        number: rule as u64,
+        item: place.at as u64,
+        octet: 0,
     })
 }

@@ -2,5 +2,6 @@ pub mod NumberLaws
 pub mod HexLaws
 pub mod PutLaws
 pub mod LineLaws
+pub mod IndexLaws
 pub mod ReadBack
 pub mod Unique

@@ -13,7 +13,7 @@ use lib.ListN.{length, getD, set, take, drop, replicate, length-drop, List·getD
 use lib.Seq.{sets, sets-eq, take-length, take-all, drop-drop, length-take-le}
 use Rattle.bytes.specs.Bytes.{slice, indexOf, indexAfter}
 use Rattle.words.specs.declared.types.Words.{Words}
-use Rattle.words.specs.Line.{longer, wordsOf, noneEmpty, startsFrom, endsFrom, twenty, lineWords, placesOf, splitOf, partOf, wordIn, isName}
+use Rattle.words.specs.Line.{longer, wordsOf, noneEmpty, startsFrom, endsFrom, forty, lineWords, placesOf, splitOf, partOf, wordIn, isName}
 
 -- THE FIRST WORD. What stands before the first space, with what its place in the line is
 first-more : (xs : List ℕ) → indexOf 32 xs < length xs → wordsOf xs ≡ take (indexOf 32 xs) xs ∷ wordsOf (drop (suc (indexOf 32 xs)) xs)
@@ -57,9 +57,9 @@ drop-zeros n zero = let e : n - 0 ≡ n = omega arith in rw e
 drop-zeros zero (suc k) = let e : 0 - suc k ≡ 0 = omega arith in rw e
 drop-zeros (suc n) (suc k) = let e : suc n - suc k ≡ n - k = omega arith in rw e (drop-zeros n k)
 
-stored : (places : List ℕ) → length places ≤ 20 → twenty places ≡ sets (replicate 20 0) 0 places
-unfolding twenty
-stored places h = sym (sets-eq places (replicate 20 0) 0 (omega arith) ∙ rw (zero-add (length places), drop-zeros 20 (length places)))
+stored : (places : List ℕ) → length places ≤ 40 → forty places ≡ sets (replicate 40 0) 0 places
+unfolding forty
+stored places h = sym (sets-eq places (replicate 40 0) 0 (omega arith) ∙ rw (zero-add (length places), drop-zeros 40 (length places)))
 
 starts-length : (at : ℕ) (ws : List (List ℕ)) → length (startsFrom at ws) ≡ length ws
 unfolding startsFrom
@@ -74,25 +74,25 @@ ends-length at (w ∷ ws) = ap suc (ends-length (at + length w + 1) ws)
 -- THE SEARCH. What the words ws, the first at `at`, make of n places found
 pub finish : List ℕ → List ℕ → ℕ → ℕ → List (List ℕ) → Words
 finish starts ends n at ws =
-    cond (noneEmpty ws && leb (n + length ws) 20)
+    cond (noneEmpty ws && leb (n + length ws) 40)
     (record { count = n + length ws; starts = sets starts n (startsFrom at ws); ends = sets ends n (endsFrom at ws) })
     (placesOf [])
 
-finish-none : (line : List ℕ) → splitOf line ≡ finish (replicate 20 0) (replicate 20 0) 0 0 (wordsOf line)
+finish-none : (line : List ℕ) → splitOf line ≡ finish (replicate 40 0) (replicate 40 0) 0 0 (wordsOf line)
 unfolding finish splitOf lineWords placesOf
-finish-none line = go (wordsOf line) (noneEmpty (wordsOf line)) (leb (length (wordsOf line)) 20) refl
+finish-none line = go (wordsOf line) (noneEmpty (wordsOf line)) (leb (length (wordsOf line)) 40) refl
   where
-    go : (ws : List (List ℕ)) (s t : Bool) → leb (length ws) 20 ≡ t
+    go : (ws : List (List ℕ)) (s t : Bool) → leb (length ws) 40 ≡ t
         → placesOf (cond (s && t) ws [])
-        ≡ cond (s && leb (0 + length ws) 20)
+        ≡ cond (s && leb (0 + length ws) 40)
         (record {
           count = 0 + length ws;
-          starts = sets (replicate 20 0) 0 (startsFrom 0 ws);
-          ends = sets (replicate 20 0) 0 (endsFrom 0 ws);
+          starts = sets (replicate 40 0) 0 (startsFrom 0 ws);
+          ends = sets (replicate 40 0) 0 (endsFrom 0 ws);
         })
         (placesOf [])
     go ws true true e =
-        let h : length ws ≤ 20 = leb-true _ _ e in
+        let h : length ws ≤ 40 = leb-true _ _ e in
         rw (
           zero-add (length ws),
           e,
@@ -113,23 +113,23 @@ finish-empty : (starts ends : List ℕ) (n at : ℕ) (w : List ℕ) (ws : List (
 unfolding finish noneEmpty
 finish-empty starts ends n at w ws h = rw h
 
-finish-many : (starts ends : List ℕ) (n at : ℕ) (ws : List (List ℕ)) → 20 < n + length ws → finish starts ends n at ws ≡ placesOf []
+finish-many : (starts ends : List ℕ) (n at : ℕ) (ws : List (List ℕ)) → 40 < n + length ws → finish starts ends n at ws ≡ placesOf []
 unfolding finish
-finish-many starts ends n at ws h = rw (lt-leb (n + length ws) 20 h, and-false (noneEmpty ws))
+finish-many starts ends n at ws h = rw (lt-leb (n + length ws) 40 h, and-false (noneEmpty ws))
 
-finish-end : (starts ends : List ℕ) (n at : ℕ) → n ≤ 20 → finish starts ends n at [] ≡ record { count = n; starts = starts; ends = ends }
+finish-end : (starts ends : List ℕ) (n at : ℕ) → n ≤ 40 → finish starts ends n at [] ≡ record { count = n; starts = starts; ends = ends }
 unfolding finish noneEmpty startsFrom endsFrom
-finish-end starts ends n at h = rw (add-zero n, le-leb n 20 h)
+finish-end starts ends n at h = rw (add-zero n, le-leb n 40 h)
 
 pub record Splitting (line starts ends : List ℕ) (from n : ℕ) : Type 0 where
-  pub few : n ≤ 20
+  pub few : n ≤ 40
   pub within : from ≤ length line
   pub left : splitOf line ≡ finish starts ends n from (wordsOf (drop from line))
 
-pub split-none : (line : List ℕ) → Splitting line (replicate 20 0) (replicate 20 0) 0 0
+pub split-none : (line : List ℕ) → Splitting line (replicate 40 0) (replicate 40 0) 0 0
 split-none line = record { few = zero-le; within = zero-le; left = finish-none line }
 
-pub split-many : {line starts ends : List ℕ} {from n : ℕ} → Splitting line starts ends from n → 20 ≤ n → placesOf [] ≡ splitOf line
+pub split-many : {line starts ends : List ℕ} {from n : ℕ} → Splitting line starts ends from n → 40 ≤ n → placesOf [] ≡ splitOf line
 split-many {line} {starts} {ends} {from} {n} s h =
     sym (s .left ∙ finish-many starts ends n from (wordsOf (drop from line)) (omega (arith, one-word (drop from line))))
 
@@ -158,7 +158,7 @@ module _ {line starts ends : List ℕ} {from n : ℕ} (end : ℕ) (s : Splitting
   next-last : end ≡ length line → splitOf line ≡ finish starts ends n from (drop from line ∷ [])
   next-last h = s .left ∙ ap (finish starts ends n from) (first-last (drop from line) (omega (arith, at-end, left-long)))
 
-  pub split-more : end < length line → (end ≡ from → ⊥) → n < 20 → Splitting line (set starts n from) (set ends n end) (end + 1) (n + 1)
+  pub split-more : end < length line → (end ≡ from → ⊥) → n < 40 → Splitting line (set starts n from) (set ends n end) (end + 1) (n + 1)
   split-more h e l =
       let w : List ℕ = take (end - from) (drop from line) in
       let k : length w ≡ end - from = length-take-le _ _ (omega (arith, left-long)) in
@@ -172,7 +172,7 @@ module _ {line starts ends : List ℕ} {from n : ℕ} (end : ℕ) (s : Splitting
             ∙ rw d;
       }
 
-  pub split-last : end ≡ length line → (end ≡ from → ⊥) → n < 20
+  pub split-last : end ≡ length line → (end ≡ from → ⊥) → n < 40
       → _≡_ {A = Words} (record { count = n + 1; starts = set starts n from; ends = set ends n end }) (splitOf line)
   split-last h e l =
       let d : from + length (drop from line) ≡ end = omega (arith, left-long, s .within) in
@@ -240,20 +240,20 @@ lie (suc m) line at f h = go (ltb (indexOf 32 (drop at line)) (length (drop at l
 
 words-lie : (line : List ℕ) → LieFrom line 0 (lineWords line)
 unfolding lineWords
-words-lie line = go (noneEmpty (wordsOf line) && leb (length (wordsOf line)) 20)
+words-lie line = go (noneEmpty (wordsOf line) && leb (length (wordsOf line)) 40)
   where
     go : (t : Bool) → LieFrom line 0 (cond t (wordsOf line) [])
     go true = lie (length line) line 0 (omega arith) zero-le
     go false = λ k m. absurd (not-suc-le-zero m)
 
 -- a place that is kept, and a place that is filled up with 0
-kept : (places : List ℕ) (k : ℕ) → k < length places → getD (twenty places) k 0 ≡ getD places k 0
-unfolding twenty
-kept places k h = List·getD-append places (replicate (20 - length places) 0) 0 k h
+kept : (places : List ℕ) (k : ℕ) → k < length places → getD (forty places) k 0 ≡ getD places k 0
+unfolding forty
+kept places k h = List·getD-append places (replicate (40 - length places) 0) 0 k h
 
-filled : (places : List ℕ) (k : ℕ) → length places ≤ k → getD (twenty places) k 0 ≡ 0
-unfolding twenty
-filled places k h = go places (20 - length places) k h
+filled : (places : List ℕ) (k : ℕ) → length places ≤ k → getD (forty places) k 0 ≡ 0
+unfolding forty
+filled places k h = go places (40 - length places) k h
   where
     zero-at : (m k : ℕ) → getD {A = ℕ} (replicate m 0) k 0 ≡ 0
     zero-at zero k = refl

@@ -72,6 +72,15 @@ laid-long out at text h =
     length-append (take at out ++ text) (drop (at + length text) out)
     ∙ omega (arith, length-append (take at out) text, length-take-le at out (omega arith), length-drop (at + length text) out)
 
+-- FOR CALLERS: memory is as long as it was
+pub put-long : {out : List ℕ} {at : ℕ} {text later : List ℕ} {next : ℕ} → IsPut out at text later next → length later ≡ length out
+unfolding fits
+put-long {out} {at} {text} {later} {next} p = go (leb (at + length text) (length out)) refl
+  where
+    go : (t : Bool) → leb (at + length text) (length out) ≡ t → length later ≡ length out
+    go true e = let l : at + length text ≤ length out = leb-true _ _ e in ap length (put-memory p l) ∙ laid-long out at text l
+    go false e = let q : later ≡ out = p .memory ∙ rw e in ap length q
+
 -- FOR CALLERS: two texts put one after the other, with room for both, are their join
 laid-twice : (out : List ℕ) (at : ℕ) (a b : List ℕ) → at + length a + length b ≤ length out
     → laid (laid out at a) (at + length a) b ≡ laid out at (a ++ b)

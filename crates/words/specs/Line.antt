@@ -1,6 +1,6 @@
--- The words of a line. A line is words with exactly one space between, none of them empty; at most twenty are taken. A space is 32.
+-- The words of a line. A line is words with exactly one space between, none of them empty; at most forty are taken. A space is 32.
 -- Assumes nothing.
-use Prim.Native.Nat.{ℕ, _+_, _-_}
+use Prim.Native.Nat.{ℕ, suc, _+_, _-_}
 use mathlib.Core.List.{List, [], _∷_, _++_}
 use mathlib.Core.Bool.{Bool, true, false, cond, _&&_}
 use lib.Dec.{leb, eqb}
@@ -32,17 +32,17 @@ unfoldable pub endsFrom : ℕ → List (List ℕ) → List ℕ
 endsFrom at [] = []
 endsFrom at (word ∷ words) = (at + length word) ∷ endsFrom (at + length word + 1) words
 
--- filled up with zeros to twenty
-unfoldable pub twenty : List ℕ → List ℕ
-twenty places = places ++ replicate (20 - length places) 0
+-- filled up with zeros to forty
+unfoldable pub forty : List ℕ → List ℕ
+forty places = places ++ replicate (40 - length places) 0
 
--- the words of a line; none at all where one of them is empty or there are more than twenty
+-- the words of a line; none at all where one of them is empty or there are more than forty
 unfoldable pub lineWords : List ℕ → List (List ℕ)
-lineWords line = cond (noneEmpty (wordsOf line) && leb (length (wordsOf line)) 20) (wordsOf line) []
+lineWords line = cond (noneEmpty (wordsOf line) && leb (length (wordsOf line)) 40) (wordsOf line) []
 
 -- where given words are
 unfoldable pub placesOf : List (List ℕ) → Words
-placesOf words = record { count = length words; starts = twenty (startsFrom 0 words); ends = twenty (endsFrom 0 words) }
+placesOf words = record { count = length words; starts = forty (startsFrom 0 words); ends = forty (endsFrom 0 words) }
 
 -- where the words of a line are
 unfoldable pub splitOf : List ℕ → Words
@@ -62,3 +62,8 @@ isName [] [] = true
 isName [] (c ∷ name) = false
 isName (b ∷ word) [] = false
 isName (b ∷ word) (c ∷ name) = eqb b c && isName word name
+
+-- which word a name is, counted from 0; how many words there are where it is none of them
+unfoldable pub wordIndex : (name : List ℕ) → (words : List (List ℕ)) → ℕ
+wordIndex name [] = 0
+wordIndex name (word ∷ words) = cond (isName name word) 0 (suc (wordIndex name words))

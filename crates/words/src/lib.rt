@@ -14,6 +14,7 @@ mod types;
 
 pub use decimal::number;
 pub use hex::octets;
+pub use line::index_of;
 pub use line::split;
 pub use line::word;
 pub use reply::put_number;

@@ -1,7 +1,7 @@
 // A line as words.
 use crate::types::Words;
 ghost use mathlib.Core.Path.{_≡_};
-ghost use Rattle.words.specs.Line.{splitOf, placesOf, partOf, wordIn};
+ghost use Rattle.words.specs.Line.{lineWords, splitOf, placesOf, partOf, wordIn, wordIndex};
 ghost use mathlib.Core.List.{[]};
 
 // The answer for what is not a line of words.
@@ -10,21 +10,21 @@ fn no_words() -> Words
 {
     Words {
         count: 0,
-        starts: [0usize; 20],
-        ends: [0usize; 20],
+        starts: [0usize; 40],
+        ends: [0usize; 40],
     }
 }
 
-// Where the line's words are; no words where one of them is empty or there are more than twenty. One
+// Where the line's words are; no words where one of them is empty or there are more than forty. One
 // turn finds one word.
 pub fn split(line: &[u8]) -> Words
     ensures { λ r. ⌜ r ≡ splitOf (now (line .entry)) ⌝ }
 {
-    let mut starts = [0usize; 20];
-    let mut ends = [0usize; 20];
+    let mut starts = [0usize; 40];
+    let mut ends = [0usize; 40];
     let mut from = 0;
     let mut n = 0;
-    while n < 20 {
+    while n < 40 {
         let end = bytes::scan::find(line, from, line.len(), b' ');
         if end == from {
             return no_words();
@@ -61,7 +61,7 @@ fn part(line: &[u8], start: usize, end: usize) -> &[u8]
 pub fn word(line: &[u8], places: Words, k: usize) -> &[u8]
     ensures { λ r. ⌜ now r ≡ wordIn (now (line .entry)) places k ⌝ }
 {
-    if k < 20 {
+    if k < 40 {
         let starts = places.starts;
         let ends = places.ends;
         let start = starts[k];
@@ -69,4 +69,20 @@ pub fn word(line: &[u8], places: Words, k: usize) -> &[u8]
         return part(line, start, end);
     }
     part(line, 0, 0)
+}
+
+// Which word of a text a name is, counted from 0; how many words the text has where it is none.
+pub fn index_of(name: &[u8], text: &[u8]) -> usize
+    ensures { λ r. ⌜ r ≡ wordIndex (now (name .entry)) (lineWords (now (text .entry))) ⌝ }
+{
+    let places = split(text);
+    let count = places.count;
+    let mut k = 0;
+    while k < count {
+        if check::same(name, word(text, places, k)) {
+            return k;
+        }
+        k += 1;
+    }
+    count
 }

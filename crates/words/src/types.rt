@@ -16,6 +16,6 @@ pub enum Octets {
 // past count is 0.
 pub struct Words {
     pub count: usize,
-    pub starts: [usize; 20],
-    pub ends: [usize; 20],
+    pub starts: [usize; 40],
+    pub ends: [usize; 40],
 }

@@ -7,17 +7,8 @@ use Rattle.access.proofs.Laws.{not-writable, holds-one, may-write, held
 use Rattle.access.proofs.allowed_at.Statement.{statement}
 use Rattle.access.proofs.allowed_at.Tie as tie
 
-is-writable-requires : tie.Need-is-writable-requires
-is-writable-requires c κs = search needs
-
 returns : tie.Need-returns
 returns c = not-writable _ _ _ _ _ _ (sym (c .before .is-writable .ensures) ∙ not-true _ (c .if1 .taken))
-
-nothing-asked-requires : tie.Need-nothing-asked-requires
-nothing-asked-requires c κs = search needs
-
-open-image-requires : tie.Need-open-image-requires
-open-image-requires c κs = search needs
 
 returns-2 : tie.Need-returns-2
 returns-2 c = holds-one _ _ _ _ _ _ (sym (c .before .before .before .before .before .is-writable .ensures) ∙ not-false _ (c .before .before .before .before .if1 .left)) (sym (ap (λ (x : Answer). x .held) (c .before .open-image .ensures) ∙ held-told _ _) ∙ c .if2 .taken)
@@ -29,9 +20,9 @@ pub allowed-at-spec : {M : Type 1} → statement M
 allowed-at-spec =
     tie.close
     (tie.spec
-    is-writable-requires
+    (λ c κs. search needs)
     returns
-    nothing-asked-requires
-    open-image-requires
+    (λ c κs. search needs)
+    (λ c κs. search needs)
     returns-2
     returns-3)

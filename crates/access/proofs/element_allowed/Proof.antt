@@ -6,12 +6,6 @@ use Rattle.access.proofs.Laws.{element-at, element-refused}
 use Rattle.access.proofs.element_allowed.Statement.{statement}
 use Rattle.access.proofs.element_allowed.Tie as tie
 
-enum-told : tie.Need-enum-told
-enum-told c = search needs
-
-enum-known-place : tie.Need-enum-known-place
-enum-known-place c = search needs
-
 table-around-requires : tie.Need-table-around-requires
 table-around-requires c κs = subst (WholeAt (c .before .before .before .before .before .args .description .now)) (c .before .place .given .1) (c .before .before .before .before .before .pre)
 
@@ -28,8 +22,8 @@ pub element-allowed-spec : {M : Type 1} → statement M
 element-allowed-spec =
     tie.close
     (tie.spec
-    enum-told
-    enum-known-place
+    (λ c. search needs)
+    (λ c. search needs)
     table-around-requires
     allowed-at-requires
     returns

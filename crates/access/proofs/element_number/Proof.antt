@@ -6,18 +6,6 @@ use Rattle.access.proofs.Inside.{read-integer}
 use Rattle.access.proofs.element_number.Statement.{statement}
 use Rattle.access.proofs.element_number.Tie as tie
 
-integer-place-requires : tie.Need-integer-place-requires
-integer-place-requires c κs = search needs
-
-enum-known-place : tie.Need-enum-known-place
-enum-known-place c = search needs
-
-enum-known-place-2 : tie.Need-enum-known-place-2
-enum-known-place-2 c = search needs
-
-number-at-requires : tie.Need-number-at-requires
-number-at-requires c κs = search needs
-
 returns : tie.Need-returns
 returns c = number-refused _ _ _ _ _ (c .before .before .before .integer-place .ensures) (c .before .place .given .1)
 
@@ -28,9 +16,9 @@ pub element-number-spec : {M : Type 1} → statement M
 element-number-spec =
     tie.close
     (tie.spec
-    integer-place-requires
-    enum-known-place
-    enum-known-place-2
-    number-at-requires
+    (λ c κs. search needs)
+    (λ c. search needs)
+    (λ c. search needs)
+    (λ c κs. search needs)
     returns
     returns-2)

@@ -8,14 +8,8 @@ use Rattle.access.proofs.fits_in.Tie as tie
 returns : tie.Need-returns
 returns c = let a = c .before .args in fits-eight (a .value) (a .octets) (omega (arith, c .before .fits .value)) (c .if1 .taken)
 
-mul-result : tie.Need-mul-result
-mul-result c = search needs
-
-shr-result : tie.Need-shr-result
-shr-result c = search needs
-
 returns-2 : tie.Need-returns-2
 returns-2 c = let a = c .before .args in fits-fewer (a .value) (a .octets)
 
 pub fits-in-spec : {M : Type 1} → statement M
-fits-in-spec = tie.close (tie.spec returns mul-result shr-result returns-2)
+fits-in-spec = tie.close (tie.spec returns (λ c. search needs) (λ c. search needs) returns-2)

@@ -6,15 +6,6 @@ use Rattle.access.proofs.Inside.{stands}
 use Rattle.access.proofs.integer_place.Statement.{statement}
 use Rattle.access.proofs.integer_place.Tie as tie
 
-element-place-requires : tie.Need-element-place-requires
-element-place-requires c κs = search needs
-
-enum-told : tie.Need-enum-told
-enum-told c = search needs
-
-enum-told-2 : tie.Need-enum-told-2
-enum-told-2 c = search needs
-
 fields-at-requires : tie.Need-fields-at-requires
 fields-at-requires c κs = let a = c .before .before .before .before .before .args in stands (a .description .now) (a .image .now) (a .name) _ _ (sym (c .before .before .element-place .ensures) ∙ c .enum-told2 .given .1) .whole
 
@@ -31,9 +22,9 @@ pub integer-place-spec : {M : Type 1} → statement M
 integer-place-spec =
     tie.close
     (tie.spec
-    element-place-requires
-    enum-told
-    enum-told-2
+    (λ c κs. search needs)
+    (λ c. search needs)
+    (λ c. search needs)
     fields-at-requires
     returns
     returns-2

@@ -7,12 +7,9 @@ use Rattle.meaning.specs.Refusals.{writable}
 use Rattle.access.proofs.is_writable.Statement.{statement}
 use Rattle.access.proofs.is_writable.Tie as tie
 
-fields-at-requires : tie.Need-fields-at-requires
-fields-at-requires c κs = search needs
-
 returns : tie.Need-returns
 unfolding writable
 returns c = ap (λ (f : Fields). f .writable =? 1) (c .before .fields-at .ensures)
 
 pub is-writable-spec : {M : Type 1} → statement M
-is-writable-spec = tie.close (tie.spec fields-at-requires returns)
+is-writable-spec = tie.close (tie.spec (λ c κs. search needs) returns)

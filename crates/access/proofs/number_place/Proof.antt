@@ -6,20 +6,8 @@ use Rattle.access.proofs.Inside.{whole-integer}
 use Rattle.access.proofs.number_place.Statement.{statement}
 use Rattle.access.proofs.number_place.Tie as tie
 
-integer-place-requires : tie.Need-integer-place-requires
-integer-place-requires c κs = search needs
-
 element-allowed-requires : tie.Need-element-allowed-requires
 element-allowed-requires c κs = whole-integer _ _ _ _ (c .integer-place .ensures)
-
-enum-told : tie.Need-enum-told
-enum-told c = search needs
-
-enum-known-place : tie.Need-enum-known-place
-enum-known-place c = search needs
-
-fits-in-requires : tie.Need-fits-in-requires
-fits-in-requires c κs = search needs
 
 returns : tie.Need-returns
 returns c = fits-there _ _ _ _ (c .before .before .before .place .given .1) (sym (c .before .fits-in .ensures) ∙ c .if1 .taken) ∙ number-place-is _ _ _ _ _ _ (c .before .before .before .before .before .before .integer-place .ensures) (c .before .before .before .before .before .element-allowed .ensures)
@@ -34,11 +22,11 @@ pub number-place-spec : {M : Type 1} → statement M
 number-place-spec =
     tie.close
     (tie.spec
-    integer-place-requires
+    (λ c κs. search needs)
     element-allowed-requires
-    enum-told
-    enum-known-place
-    fits-in-requires
+    (λ c. search needs)
+    (λ c. search needs)
+    (λ c κs. search needs)
     returns
     returns-2
     returns-3)

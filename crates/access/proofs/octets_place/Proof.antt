@@ -7,17 +7,8 @@ use Rattle.access.proofs.Inside.{whole-at}
 use Rattle.access.proofs.octets_place.Statement.{statement}
 use Rattle.access.proofs.octets_place.Tie as tie
 
-element-place-requires : tie.Need-element-place-requires
-element-place-requires c κs = search needs
-
 element-allowed-requires : tie.Need-element-allowed-requires
 element-allowed-requires c κs = whole-at _ _ _ _ (c .element-place .ensures)
-
-enum-told : tie.Need-enum-told
-enum-told c = search needs
-
-enum-known-place : tie.Need-enum-known-place
-enum-known-place c = search needs
 
 returns : tie.Need-returns
 returns c = fits-there _ _ _ _ (c .before .before .place .given .1) (eq-eqb _ _ (c .if1 .taken)) ∙ octets-is _ _ _ _ _ _ (c .before .before .before .before .before .element-place .ensures) (c .before .before .before .before .element-allowed .ensures)
@@ -32,10 +23,10 @@ pub octets-place-spec : {M : Type 1} → statement M
 octets-place-spec =
     tie.close
     (tie.spec
-    element-place-requires
+    (λ c κs. search needs)
     element-allowed-requires
-    enum-told
-    enum-known-place
+    (λ c. search needs)
+    (λ c. search needs)
     returns
     returns-2
     returns-3)

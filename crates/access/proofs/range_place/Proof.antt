@@ -7,33 +7,6 @@ use Rattle.access.proofs.Inside.{table-stands}
 use Rattle.access.proofs.range_place.Statement.{statement}
 use Rattle.access.proofs.range_place.Tie as tie
 
-nothing-asked-requires : tie.Need-nothing-asked-requires
-nothing-asked-requires c κs = search needs
-
-open-image-requires : tie.Need-open-image-requires
-open-image-requires c κs = search needs
-
-enum-known-verdict : tie.Need-enum-known-verdict
-enum-known-verdict c = search needs
-
-enum-told : tie.Need-enum-told
-enum-told c = search needs
-
-enum-told-2 : tie.Need-enum-told-2
-enum-told-2 c = search needs
-
-enum-known-table : tie.Need-enum-known-table
-enum-known-table c = search needs
-
-octets-requires : tie.Need-octets-requires
-octets-requires c κs = search needs
-
-ends-within-requires : tie.Need-ends-within-requires
-ends-within-requires c κs = search needs
-
-in-image-requires : tie.Need-in-image-requires
-in-image-requires c κs = search needs
-
 allowed-at-requires : tie.Need-allowed-at-requires
 allowed-at-requires c κs = table-stands _ _ _ _ _ _ (sym (ap (λ (x : Answer). x .table) (c .before .before .before .before .before .before .before .before .before .open-image .ensures)) ∙ c .before .before .before .before .before .table .given .1) .whole
 
@@ -56,15 +29,15 @@ pub range-place-spec : {M : Type 1} → statement M
 range-place-spec =
     tie.close
     (tie.spec
-    nothing-asked-requires
-    open-image-requires
-    enum-known-verdict
-    enum-told
-    enum-told-2
-    enum-known-table
-    octets-requires
-    ends-within-requires
-    in-image-requires
+    (λ c κs. search needs)
+    (λ c κs. search needs)
+    (λ c. search needs)
+    (λ c. search needs)
+    (λ c. search needs)
+    (λ c. search needs)
+    (λ c κs. search needs)
+    (λ c κs. search needs)
+    (λ c κs. search needs)
     allowed-at-requires
     returns
     returns-2

@@ -7,20 +7,8 @@ use Rattle.access.proofs.Laws.{kept-refused, put-there}
 use Rattle.access.proofs.write_at.Statement.{statement}
 use Rattle.access.proofs.write_at.Tie as tie
 
-enum-known-place : tie.Need-enum-known-place
-enum-known-place c = search needs
-
-enum-known-place-2 : tie.Need-enum-known-place-2
-enum-known-place-2 c = search needs
-
-put-octets-requires : tie.Need-put-octets-requires
-put-octets-requires c κs = search needs
-
 returns : tie.Need-returns
 returns c = kept-refused _ _ _ _ (c .before .place .given .1)
-
-same-length : tie.Need-same-length
-same-length c = search needs
 
 returns-2 : tie.Need-returns-2
 returns-2 c = put-there _ _ _ _ _ _ (c .before .before .before .before .before .place2 .given .1) (subst (FitsAt (c .before .before .before .before .before .before .before .before .before .args .image .now) (length (c .before .before .before .before .before .before .before .before .before .args .new .now))) (c .before .before .before .before .before .place2 .given .1) (c .before .before .before .before .before .before .before .before .before .pre)) (c .before .before .put-octets .ensures)
@@ -29,9 +17,9 @@ pub write-at-spec : {M : Type 1} → statement M
 write-at-spec =
     tie.close
     (tie.spec
-    enum-known-place
-    enum-known-place-2
-    put-octets-requires
+    (λ c. search needs)
+    (λ c. search needs)
+    (λ c κs. search needs)
     returns
-    same-length
+    (λ c. search needs)
     returns-2)

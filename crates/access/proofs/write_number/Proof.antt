@@ -8,27 +8,9 @@ use Rattle.access.proofs.Inside.{number-fits}
 use Rattle.access.proofs.write_number.Statement.{statement}
 use Rattle.access.proofs.write_number.Tie as tie
 
-number-place-requires : tie.Need-number-place-requires
-number-place-requires c κs = search needs
-
-enum-known-place : tie.Need-enum-known-place
-enum-known-place c = search needs
-
-enum-known-place-2 : tie.Need-enum-known-place-2
-enum-known-place-2 c = search needs
-
-put-number-requires : tie.Need-put-number-requires
-put-number-requires c κs = search needs
-
-same-length : tie.Need-same-length
-same-length c = search needs
-
 returns : tie.Need-returns
 unfolding writeNumberReply writeNumberImage
 returns c = rw (← c .before .before .before .number-place .ensures) (number-kept _ _ _ _ (c .before .place .given .1))
-
-same-length-2 : tie.Need-same-length-2
-same-length-2 c = search needs
 
 returns-2 : tie.Need-returns-2
 unfolding writeNumberReply writeNumberImage
@@ -38,11 +20,11 @@ pub write-number-spec : {M : Type 1} → statement M
 write-number-spec =
     tie.close
     (tie.spec
-    number-place-requires
-    enum-known-place
-    enum-known-place-2
-    put-number-requires
-    same-length
+    (λ c κs. search needs)
+    (λ c. search needs)
+    (λ c. search needs)
+    (λ c κs. search needs)
+    (λ c. search needs)
     returns
-    same-length-2
+    (λ c. search needs)
     returns-2)

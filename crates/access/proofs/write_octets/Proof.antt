@@ -6,14 +6,8 @@ use Rattle.access.proofs.Inside.{octets-fits}
 use Rattle.access.proofs.write_octets.Statement.{statement}
 use Rattle.access.proofs.write_octets.Tie as tie
 
-octets-place-requires : tie.Need-octets-place-requires
-octets-place-requires c κs = search needs
-
 write-at-requires : tie.Need-write-at-requires
 write-at-requires c κs = octets-fits _ _ _ _ _ (c .before .octets-place .ensures)
-
-same-length : tie.Need-same-length
-same-length c = search needs
 
 returns : tie.Need-returns
 unfolding writeOctetsReply writeOctetsImage
@@ -21,4 +15,4 @@ returns c = (c .before .before .write-at .ensures .0 ∙ rw (c .before .before .
 
 pub write-octets-spec : {M : Type 1} → statement M
 write-octets-spec =
-    tie.close (tie.spec octets-place-requires write-at-requires same-length returns)
+    tie.close (tie.spec (λ c κs. search needs) write-at-requires (λ c. search needs) returns)

@@ -6,18 +6,12 @@ use Rattle.access.proofs.Inside.{range-fits}
 use Rattle.access.proofs.write_range.Statement.{statement}
 use Rattle.access.proofs.write_range.Tie as tie
 
-range-place-requires : tie.Need-range-place-requires
-range-place-requires c κs = search needs
-
 write-at-requires : tie.Need-write-at-requires
 write-at-requires c κs = range-fits _ _ _ _ _ _ _ (c .before .range-place .ensures)
-
-same-length : tie.Need-same-length
-same-length c = search needs
 
 returns : tie.Need-returns
 unfolding writeRangeReply writeRangeImage
 returns c = (c .before .before .write-at .ensures .0 ∙ rw (c .before .before .before .before .range-place .ensures), c .before .before .write-at .ensures .1 ∙ rw (c .before .before .before .before .range-place .ensures))
 
 pub write-range-spec : {M : Type 1} → statement M
-write-range-spec = tie.close (tie.spec range-place-requires write-at-requires same-length returns)
+write-range-spec = tie.close (tie.spec (λ c κs. search needs) write-at-requires (λ c. search needs) returns)

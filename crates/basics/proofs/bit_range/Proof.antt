@@ -12,17 +12,11 @@ use Rattle.basics.proofs.bit_range.Tie as tie
 returns : tie.Need-returns
 returns c = none-past (c .before .args .number) (c .before .args .low) (c .before .args .width) (omega arith) (c .if1 .taken)
 
-shr-above : tie.Need-shr-above
-shr-above c = search needs
-
 cast-result : tie.Need-cast-result
 cast-result c = omega (arith, div-le-self (c .before .before .args .number) (2 ^ c .before .before .args .low))
 
 returns-2 : tie.Need-returns-2
 returns-2 c = all-kept (c .before .before .args .number) (c .before .before .args .low) (c .before .before .args .width) (omega arith) (c .if2 .taken)
-
-shl-m : tie.Need-shl-m
-shl-m c = search needs
 
 rem-result : tie.Need-rem-result
 rem-result c = rw (shifted (c .before .before .args .width) (omega arith)) (pow-pos (c .before .before .args .width))
@@ -36,4 +30,4 @@ returns-3 c = rw (shifted (c .before .before .args .width) (omega arith))
 pub bit-range-spec : {M : Type 1} → statement M
 bit-range-spec =
     tie.close
-    (tie.spec returns shr-above cast-result returns-2 shl-m rem-result cast-result-2 returns-3)
+    (tie.spec returns (λ c. search needs) cast-result returns-2 (λ c. search needs) rem-result cast-result-2 returns-3)

@@ -1,25 +1,19 @@
--- `bilashonge_write_range`: the verdict as numbers, and the image that the write leaves. Assumes nothing.
+-- `bilashonge_write_range`: what the verdict tells, and the image that the write leaves. Assumes nothing.
 use borrow.Author.Needs.{needs}
-use Rattle.meaning.specs.Questions.{replyTo, numbersIn, numbersTo, imageAfter}
+use Rattle.meaning.specs.Questions.{outcomeOf, replyTo, toldTo, imageAfter}
 use Rattle.bilashonge.proofs.bilashonge_write_range.Statement.{statement}
 use Rattle.bilashonge.proofs.bilashonge_write_range.Tie as tie
 
-new-requires : tie.Need-new-requires
-new-requires c κs = search needs
-
-write-range-requires : tie.Need-write-range-requires
-write-range-requires c κs = search needs
-
-refusal-of-requires : tie.Need-refusal-of-requires
-refusal-of-requires c κs = search needs
-
-same-length : tie.Need-same-length
-same-length c = search needs
-
-returns : tie.Need-returns
-unfolding replyTo numbersIn numbersTo imageAfter
-returns c = (rw (c .refusal-of .ensures, c .before .before .before .write-range .ensures .0, c .before .before .before .before .before .new .ensures), rw (c .before .before .before .write-range .ensures .1, c .before .before .before .before .before .new .ensures))
-
 pub bilashonge-write-range-spec : {M : Type 1} → statement M
+unfolding outcomeOf replyTo toldTo imageAfter
 bilashonge-write-range-spec =
-    tie.close (tie.spec new-requires write-range-requires refusal-of-requires same-length returns)
+    tie.close
+    (tie.spec
+    (λ c κs. search needs)
+    (λ c κs. search needs)
+    (λ c κs. search needs)
+    (λ c. search needs)
+    (λ c.
+    let written = c .before .before .before .write-range .ensures in
+    let asked = c .before .before .before .before .before .new .ensures in
+    (rw (c .refusal-of .ensures, written .0, asked), rw (written .1, asked))))

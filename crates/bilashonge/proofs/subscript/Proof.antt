@@ -6,17 +6,8 @@ use borrow.Author.Needs.{needs}
 use Rattle.bilashonge.proofs.subscript.Statement.{statement}
 use Rattle.bilashonge.proofs.subscript.Tie as tie
 
-mul-result : tie.Need-mul-result
-mul-result c = search needs
-
-shared-slice-read-result : tie.Need-shared-slice-read-result
-shared-slice-read-result c = search needs
-
-returns : tie.Need-returns
-returns c = search needs
-
 returns-2 : tie.Need-returns-2
 returns-2 c = let a = c .before .args in sym (List·getD-eq-default (a .subscripts .now) 0 {n = a .k} (omega arith))
 
 pub subscript-spec : {M : Type 1} → statement M
-subscript-spec = tie.close (tie.spec mul-result shared-slice-read-result returns returns-2)
+subscript-spec = tie.close (tie.spec (λ c. search needs) (λ c. search needs) (λ c. search needs) returns-2)

@@ -4,30 +4,6 @@ use borrow.Author.Needs.{needs}
 use Rattle.calendar.proofs.calendar_at.Statement.{statement}
 use Rattle.calendar.proofs.calendar_at.Tie as tie
 
-table-place-requires : tie.Need-table-place-requires
-table-place-requires c κs = search needs
-
-table-place-requires-2 : tie.Need-table-place-requires-2
-table-place-requires-2 c κs = search needs
-
-enum-known-table51 : tie.Need-enum-known-table51
-enum-known-table51 c = search needs
-
-enum-known-table51-2 : tie.Need-enum-known-table51-2
-enum-known-table51-2 c = search needs
-
-enum-known-table54 : tie.Need-enum-known-table54
-enum-known-table54 c = search needs
-
-enum-known-table54-2 : tie.Need-enum-known-table54-2
-enum-known-table54-2 c = search needs
-
-part-requires : tie.Need-part-requires
-part-requires c κs = search needs
-
-sized-requires : tie.Need-sized-requires
-sized-requires c κs = search needs
-
 returns : tie.Need-returns
 returns c = (no-51 _ _ _ _ (c .before .before .before .before .table-place .ensures) (c .before .before .before .table-place2 .ensures) _ (c .before .table51 .given .1), tt)
 
@@ -43,14 +19,14 @@ pub calendar-at-spec : {M : Type 1} → statement M
 calendar-at-spec =
     tie.close
     (tie.spec
-    table-place-requires
-    table-place-requires-2
-    enum-known-table51
-    enum-known-table51-2
-    enum-known-table54
-    enum-known-table54-2
-    part-requires
-    sized-requires
+    (λ c κs. search needs)
+    (λ c κs. search needs)
+    (λ c. search needs)
+    (λ c. search needs)
+    (λ c. search needs)
+    (λ c. search needs)
+    (λ c κs. search needs)
+    (λ c κs. search needs)
     returns
     returns-2
     returns-3)

@@ -7,9 +7,6 @@ use borrow.Author.Needs.{needs}
 use Rattle.calendar.proofs.cell_at.Statement.{statement}
 use Rattle.calendar.proofs.cell_at.Tie as tie
 
-sections-of-requires : tie.Need-sections-of-requires
-sections-of-requires c κs = search needs
-
 mul-wide : tie.Need-mul-wide
 mul-wide c = rw (width-is _ _ (c .before .sections-of .ensures)) (omega (arith, has-cell _ _ _ _ (c .before .before .before .pre)))
 
@@ -25,9 +22,6 @@ shared-slice-read-wide : tie.Need-shared-slice-read-wide
 shared-slice-read-wide c = rw (width-is _ _ (c .before .before .before .sections-of .ensures), matrix-stands _ _ (c .before .before .before .sections-of .ensures))
     (has-cell _ _ _ _ (c .before .before .before .before .before .pre))
 
-wide-requires : tie.Need-wide-requires
-wide-requires c κs = search needs
-
 returns : tie.Need-returns
 unfolding cellAt
 returns c = c .wide .ensures .0 ∙ rw
@@ -37,10 +31,10 @@ pub cell-at-spec : {M : Type 1} → statement M
 cell-at-spec =
     tie.close
     (tie.spec
-    sections-of-requires
+    (λ c κs. search needs)
     mul-wide
     add-wide
     add-wide-2
     shared-slice-read-wide
-    wide-requires
+    (λ c κs. search needs)
     returns)

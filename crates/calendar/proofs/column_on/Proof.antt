@@ -7,24 +7,6 @@ use borrow.Author.Needs.{needs}
 use Rattle.calendar.proofs.column_on.Statement.{statement}
 use Rattle.calendar.proofs.column_on.Tie as tie
 
-enum-told : tie.Need-enum-told
-enum-told c = search needs
-
-weekday-requires : tie.Need-weekday-requires
-weekday-requires c κs = search needs
-
-day-column-requires : tie.Need-day-column-requires
-day-column-requires c κs = search needs
-
-enum-known-special : tie.Need-enum-known-special
-enum-known-special c = search needs
-
-day-columns-requires : tie.Need-day-columns-requires
-day-columns-requires c κs = search needs
-
-cast-result : tie.Need-cast-result
-cast-result c = search needs
-
 add-result : tie.Need-add-result
 add-result c = omega (arith, c .day-columns .ensures, days-most (c .before .before .before .before .args .controls))
 
@@ -40,12 +22,12 @@ pub column-on-spec : {M : Type 1} → statement M
 column-on-spec =
     tie.close
     (tie.spec
-    enum-told
-    weekday-requires
-    day-column-requires
-    enum-known-special
-    day-columns-requires
-    cast-result
+    (λ c. search needs)
+    (λ c κs. search needs)
+    (λ c κs. search needs)
+    (λ c. search needs)
+    (λ c κs. search needs)
+    (λ c. search needs)
     add-result
     returns
     returns-2)

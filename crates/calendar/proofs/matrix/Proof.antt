@@ -8,18 +8,6 @@ use borrow.Author.Needs.{needs}
 use Rattle.calendar.proofs.matrix.Statement.{statement}
 use Rattle.calendar.proofs.matrix.Tie as tie
 
-calendar-at-requires : tie.Need-calendar-at-requires
-calendar-at-requires c κs = search needs
-
-enum-told : tie.Need-enum-told
-enum-told c = search needs
-
-enum-known-calendar : tie.Need-enum-known-calendar
-enum-known-calendar c = search needs
-
-part-requires : tie.Need-part-requires
-part-requires c κs = search needs
-
 rows-of-requires : tie.Need-rows-of-requires
 rows-of-requires c κs = rw (c .part .ensures)
     (subst (Stands (c .before .before .before .before .before .before .before .args .image .now)) (c .before .before .calendar .given .1) (c .before .before .before .before .calendar-at .ensures .1))
@@ -37,10 +25,10 @@ pub matrix-spec : {M : Type 1} → statement M
 matrix-spec =
     tie.close
     (tie.spec
-    calendar-at-requires
-    enum-told
-    enum-known-calendar
-    part-requires
+    (λ c κs. search needs)
+    (λ c. search needs)
+    (λ c. search needs)
+    (λ c κs. search needs)
     rows-of-requires
     returns
     returns-2)

@@ -5,15 +5,6 @@ use borrow.Author.Needs.{needs}
 use Rattle.calendar.proofs.matrix_verdict.Statement.{statement}
 use Rattle.calendar.proofs.matrix_verdict.Tie as tie
 
-calendar-at-requires : tie.Need-calendar-at-requires
-calendar-at-requires c κs = search needs
-
-enum-known-calendar : tie.Need-enum-known-calendar
-enum-known-calendar c = search needs
-
-enum-told : tie.Need-enum-told
-enum-told c = search needs
-
 returns : tie.Need-returns
 unfolding matrixVerdict matrixVerdictIn
 returns c = refused-told matrixVerdictIn _ _ _ (c .before .before .before .calendar-at .ensures .0) _ (c .before .calendar .given .1)
@@ -24,4 +15,4 @@ returns-2 c = found-told matrixVerdictIn _ _ _ (c .before .before .calendar-at .
 
 pub matrix-verdict-spec : {M : Type 1} → statement M
 matrix-verdict-spec =
-    tie.close (tie.spec calendar-at-requires enum-known-calendar enum-told returns returns-2)
+    tie.close (tie.spec (λ c κs. search needs) (λ c. search needs) (λ c. search needs) returns returns-2)

@@ -28,9 +28,6 @@ array-write-row c = omega (arith, c .before .before .before .pre .fits)
 add-column : tie.Need-add-column Inv-loop μ-loop
 add-column c = omega (arith, c .before .before .before .pre .fits)
 
-loop-less : tie.Need-loop-less Inv-loop μ-loop
-loop-less c = omega arith
-
 loop-again : tie.Need-loop-again Inv-loop μ-loop
 loop-again c = (omega arith, fill-step _ (c .before .before .loop .inv .1) (omega (arith, c .before .before .before .pre .fits)) (octet-in _ _ _ _ (c .before .loop-test .taken)))
 
@@ -49,6 +46,6 @@ row-at-spec =
     shared-slice-read-row
     array-write-row
     add-column
-    loop-less
+    (λ c. omega arith)
     loop-again
     returns)

@@ -40,9 +40,6 @@ add-at c = let i = rows-inside _ _ (c .before .before .before .before .before .p
 add-row : tie.Need-add-row Inv-loop μ-loop
 add-row c = omega (arith, c .before .before .before .before .before .pre .small .few-seasons)
 
-loop-less : tie.Need-loop-less Inv-loop μ-loop
-loop-less c = omega arith
-
 loop-again : tie.Need-loop-again Inv-loop μ-loop
 loop-again c =
     (omega arith, rw (c .before .before .loop .inv .1) (next-row _ _ _), fill-step _ (c .before .before .loop .inv .2) (omega (arith, c .before .before .before .before .before .pre .small .few-seasons)) (c .row-at .ensures ∙ rw (c .before .before .loop .inv .1) (row-in _ _ _ _ _ (c .before .loop-test .taken))))
@@ -63,6 +60,6 @@ rows-of-spec =
     array-set-from-rows
     add-at
     add-row
-    loop-less
+    (λ c. omega arith)
     loop-again
     returns)

@@ -5,30 +5,15 @@ use borrow.Author.Needs.{needs}
 use Rattle.calendar.proofs.sections_of.Statement.{statement}
 use Rattle.calendar.proofs.sections_of.Tie as tie
 
-dates-at-requires : tie.Need-dates-at-requires
-dates-at-requires c κs = search needs
-
-mul-switches : tie.Need-mul-switches
-mul-switches c = search needs
-
 add-switches : tie.Need-add-switches
 add-switches c = omega (arith, records-few (c .before .before .args .controls) _ (c .before .before .pre) (c .before .dates-at .ensures))
-
-mul-switches-2 : tie.Need-mul-switches-2
-mul-switches-2 c = search needs
 
 add-switches-2 : tie.Need-add-switches-2
 add-switches-2 c = omega (arith, records-few (c .before .before .before .args .controls) _ (c .before .before .before .pre) (c .before .before .dates-at .ensures))
 
-mul-matrix : tie.Need-mul-matrix
-mul-matrix c = search needs
-
 add-matrix : tie.Need-add-matrix
 add-matrix c = omega
     (arith, records-few (c .before .before .before .before .args .controls) _ (c .before .before .before .before .pre) (c .before .before .before .dates-at .ensures))
-
-day-columns-requires : tie.Need-day-columns-requires
-day-columns-requires c κs = search needs
 
 add-width : tie.Need-add-width
 add-width c = omega
@@ -49,14 +34,14 @@ pub sections-of-spec : {M : Type 1} → statement M
 sections-of-spec =
     tie.close
     (tie.spec
-    dates-at-requires
-    mul-switches
+    (λ c κs. search needs)
+    (λ c. search needs)
     add-switches
-    mul-switches-2
+    (λ c. search needs)
     add-switches-2
-    mul-matrix
+    (λ c. search needs)
     add-matrix
-    day-columns-requires
+    (λ c κs. search needs)
     add-width
     mul-size
     add-size

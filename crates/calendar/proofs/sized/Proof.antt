@@ -7,18 +7,6 @@ use Rattle.calendar.proofs.sized.Tie as tie
 returns : tie.Need-returns
 returns c = (not-nine _ _ _ _ (c .if1 .taken), tt)
 
-data-order-requires : tie.Need-data-order-requires
-data-order-requires c κs = search needs
-
-controls-of-requires : tie.Need-controls-of-requires
-controls-of-requires c κs = search needs
-
-sections-of-requires : tie.Need-sections-of-requires
-sections-of-requires c κs = search needs
-
-part-requires : tie.Need-part-requires
-part-requires c κs = search needs
-
 returns-2 : tie.Need-returns-2
 returns-2 c =
     (not-that-size _ _ _ _ (c .before .before .before .before .before .before .if1 .left) _ _ _ _ (c .before .before .before .before .before .data-order .ensures) (c .before .before .before .before .controls-of .ensures .0) (c .before .before .before .sections-of .ensures) (c .before .before .part .ensures) (c .if2 .taken), tt)
@@ -32,9 +20,9 @@ sized-spec =
     tie.close
     (tie.spec
     returns
-    data-order-requires
-    controls-of-requires
-    sections-of-requires
-    part-requires
+    (λ c κs. search needs)
+    (λ c κs. search needs)
+    (λ c κs. search needs)
+    (λ c κs. search needs)
     returns-2
     returns-3)

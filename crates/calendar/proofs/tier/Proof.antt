@@ -7,21 +7,6 @@ use borrow.Author.Needs.{needs}
 use Rattle.calendar.proofs.tier.Statement.{statement}
 use Rattle.calendar.proofs.tier.Tie as tie
 
-calendar-at-requires : tie.Need-calendar-at-requires
-calendar-at-requires c κs = search needs
-
-enum-known-calendar : tie.Need-enum-known-calendar
-enum-known-calendar c = search needs
-
-enum-known-calendar-2 : tie.Need-enum-known-calendar-2
-enum-known-calendar-2 c = search needs
-
-data-order-requires : tie.Need-data-order-requires
-data-order-requires c κs = search needs
-
-part-requires : tie.Need-part-requires
-part-requires c κs = search needs
-
 tier-in-requires : tie.Need-tier-in-requires
 tier-in-requires c κs = rw (c .part .ensures)
     (subst (Stands (c .before .before .before .before .before .before .before .before .args .image .now)) (c .before .before .before .calendar2 .given .1) (c .before .before .before .before .before .calendar-at .ensures .1))
@@ -39,11 +24,11 @@ pub tier-spec : {M : Type 1} → statement M
 tier-spec =
     tie.close
     (tie.spec
-    calendar-at-requires
-    enum-known-calendar
-    enum-known-calendar-2
-    data-order-requires
-    part-requires
+    (λ c κs. search needs)
+    (λ c. search needs)
+    (λ c. search needs)
+    (λ c κs. search needs)
+    (λ c κs. search needs)
     tier-in-requires
     returns
     returns-2)

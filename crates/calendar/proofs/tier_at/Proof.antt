@@ -4,9 +4,6 @@ use borrow.Author.Needs.{needs}
 use Rattle.calendar.proofs.tier_at.Statement.{statement}
 use Rattle.calendar.proofs.tier_at.Tie as tie
 
-sections-of-requires : tie.Need-sections-of-requires
-sections-of-requires c κs = search needs
-
 sub-latest : tie.Need-sub-latest
 sub-latest c = let a = c .before .before .args in switches-inside (a .order) (a .controls) (a .table .now) (c .before .before .pre) _ (c .sections-of .ensures) .0
 
@@ -15,15 +12,6 @@ part-latest-start c = let a = c .before .before .args in switches-inside (a .ord
 
 part-latest-end : tie.Need-part-latest-end
 part-latest-end c = let a = c .before .before .args in switches-inside (a .order) (a .controls) (a .table .now) (c .before .before .pre) _ (c .sections-of .ensures) .1
-
-latest-requires : tie.Need-latest-requires
-latest-requires c κs = search needs
-
-enum-told : tie.Need-enum-told
-enum-told c = search needs
-
-enum-known-switch : tie.Need-enum-known-switch
-enum-known-switch c = search needs
 
 returns : tie.Need-returns
 returns c = let a = c .before .before .before .before .before .before .args in none-yet (a .order) (a .controls) (a .table .now) _ _ _ _
@@ -39,12 +27,12 @@ pub tier-at-spec : {M : Type 1} → statement M
 tier-at-spec =
     tie.close
     (tie.spec
-    sections-of-requires
+    (λ c κs. search needs)
     sub-latest
     part-latest-start
     part-latest-end
-    latest-requires
-    enum-told
-    enum-known-switch
+    (λ c κs. search needs)
+    (λ c. search needs)
+    (λ c. search needs)
     returns
     returns-2)

@@ -5,34 +5,13 @@ use borrow.Author.Needs.{needs}
 use Rattle.calendar.proofs.tier_day.Statement.{statement}
 use Rattle.calendar.proofs.tier_day.Tie as tie
 
-sections-of-requires : tie.Need-sections-of-requires
-sections-of-requires c κs = search needs
-
-mul-end : tie.Need-mul-end
-mul-end c = search needs
-
 add-end : tie.Need-add-end
 add-end c = let a = c .before .before .before .args in omega
     (arith, dates-inside (a .order) (a .controls) (a .table .now) (c .before .before .before .pre) _ (c .before .sections-of .ensures))
 
-sub-dates : tie.Need-sub-dates
-sub-dates c = search needs
-
-part-dates-start : tie.Need-part-dates-start
-part-dates-start c = search needs
-
 part-dates-end : tie.Need-part-dates-end
 part-dates-end c = let a = c .before .before .before .args in dates-inside (a .order) (a .controls) (a .table .now) (c .before .before .before .pre) _
     (c .before .sections-of .ensures)
-
-latest-requires : tie.Need-latest-requires
-latest-requires c κs = search needs
-
-latest-requires-2 : tie.Need-latest-requires-2
-latest-requires-2 c κs = search needs
-
-tier-on-requires : tie.Need-tier-on-requires
-tier-on-requires c κs = search needs
 
 returns : tie.Need-returns
 returns c = let a = c .before .before .before .before .before .before .before .args in
@@ -45,13 +24,13 @@ pub tier-day-spec : {M : Type 1} → statement M
 tier-day-spec =
     tie.close
     (tie.spec
-    sections-of-requires
-    mul-end
+    (λ c κs. search needs)
+    (λ c. search needs)
     add-end
-    sub-dates
-    part-dates-start
+    (λ c. search needs)
+    (λ c. search needs)
     part-dates-end
-    latest-requires
-    latest-requires-2
-    tier-on-requires
+    (λ c κs. search needs)
+    (λ c κs. search needs)
+    (λ c κs. search needs)
     returns)

@@ -6,20 +6,8 @@ use borrow.Author.Needs.{needs}
 use Rattle.calendar.proofs.tier_in.Statement.{statement}
 use Rattle.calendar.proofs.tier_in.Tie as tie
 
-is-time-requires : tie.Need-is-time-requires
-is-time-requires c κs = search needs
-
 returns : tie.Need-returns
 returns c = no-time _ _ _ _ _ _ (c .before .is-time .ensures) (not-true _ (c .if1 .taken))
-
-day-of-requires : tie.Need-day-of-requires
-day-of-requires c κs = search needs
-
-enum-told : tie.Need-enum-told
-enum-told c = search needs
-
-enum-known-day : tie.Need-enum-known-day
-enum-known-day c = search needs
 
 returns-2 : tie.Need-returns-2
 returns-2 c = armed-so _ _ _ _ _ _ (c .before .before .before .before .before .before .is-time .ensures) _ (c .before .before .before .before .day-of .ensures) _
@@ -33,9 +21,6 @@ add-minute : tie.Need-add-minute
 add-minute c = omega
     (arith, few-minutes (c .before .before .before .before .before .before .before .before .before .before .args .moment) _ (c .before .before .before .before .before .before .before .before .is-time .ensures) (not-false _ (c .before .before .before .before .before .before .before .if1 .left)))
 
-tier-day-requires : tie.Need-tier-day-requires
-tier-day-requires c κs = search needs
-
 returns-3 : tie.Need-returns-3
 returns-3 c = no-date _ _ _ _ _ _ (c .before .before .before .before .is-time .ensures) _ (c .before .before .day-of .ensures) (c .enum-told .given .1)
 
@@ -48,14 +33,14 @@ pub tier-in-spec : {M : Type 1} → statement M
 tier-in-spec =
     tie.close
     (tie.spec
-    is-time-requires
+    (λ c κs. search needs)
     returns
-    day-of-requires
-    enum-told
-    enum-known-day
+    (λ c κs. search needs)
+    (λ c. search needs)
+    (λ c. search needs)
     returns-2
     mul-minute
     add-minute
-    tier-day-requires
+    (λ c κs. search needs)
     returns-3
     returns-4)

@@ -7,9 +7,6 @@ use borrow.Author.Needs.{needs}
 use Rattle.dates.proofs.day_of.Statement.{statement}
 use Rattle.dates.proofs.day_of.Tie as tie
 
-is-real-requires : tie.Need-is-real-requires
-is-real-requires c κs = search needs
-
 sub-year-days : tie.Need-sub-year-days
 sub-year-days c = real _ _ _ (sym (c .before .is-real .ensures) ∙ c .if1 .taken) .from
 
@@ -40,7 +37,7 @@ pub day-of-spec : {M : Type 1} → statement M
 day-of-spec =
     tie.close
     (tie.spec
-    is-real-requires
+    (λ c κs. search needs)
     sub-year-days
     year-days-requires
     month-days-requires

@@ -4,15 +4,9 @@ use borrow.Author.Needs.{needs}
 use Rattle.dates.proofs.is_leap.Statement.{statement}
 use Rattle.dates.proofs.is_leap.Tie as tie
 
-either-requires : tie.Need-either-requires
-either-requires c κs = search needs
-
-both-requires : tie.Need-both-requires
-both-requires c κs = search needs
-
 returns : tie.Need-returns
 unfolding leap
 returns c = cc
 
 pub is-leap-spec : {M : Type 1} → statement M
-is-leap-spec = tie.close (tie.spec either-requires both-requires returns)
+is-leap-spec = tie.close (tie.spec (λ c κs. search needs) (λ c κs. search needs) returns)

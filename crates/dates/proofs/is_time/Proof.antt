@@ -4,12 +4,9 @@ use borrow.Author.Needs.{needs}
 use Rattle.dates.proofs.is_time.Statement.{statement}
 use Rattle.dates.proofs.is_time.Tie as tie
 
-both-requires : tie.Need-both-requires
-both-requires c κs = search needs
-
 returns : tie.Need-returns
 unfolding realTime
 returns c = cc
 
 pub is-time-spec : {M : Type 1} → statement M
-is-time-spec = tie.close (tie.spec both-requires returns)
+is-time-spec = tie.close (tie.spec (λ c κs. search needs) returns)

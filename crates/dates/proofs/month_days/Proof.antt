@@ -18,20 +18,11 @@ abbrev μ-loop : tie.MeasureT-loop
 loop-holds : tie.Need-loop-holds Inv-loop μ-loop
 loop-holds c = (omega arith, months-zero _)
 
-month-length-requires : tie.Need-month-length-requires Inv-loop μ-loop
-month-length-requires c κs = search needs
-
 add-days : tie.Need-add-days Inv-loop μ-loop
 add-days c =
     let k = c .before .before .loop .k in
     let y = c .before .before .before .args .year in
     omega (arith, c .month-length .ensures, month-most y k, months-most y k)
-
-add-k : tie.Need-add-k Inv-loop μ-loop
-add-k c = omega arith
-
-loop-less : tie.Need-loop-less Inv-loop μ-loop
-loop-less c = omega arith
 
 loop-again : tie.Need-loop-again Inv-loop μ-loop
 loop-again c = (omega arith, rw (c .before .before .loop .inv .1, c .month-length .ensures) (months-more _ _))
@@ -46,9 +37,9 @@ month-days-spec =
     Inv-loop
     μ-loop
     loop-holds
-    month-length-requires
+    (λ c κs. search needs)
     add-days
-    add-k
-    loop-less
+    (λ c. omega arith)
+    (λ c. omega arith)
     loop-again
     returns)

@@ -10,20 +10,11 @@ use Rattle.dates.proofs.month_length.Tie as tie
 returns : tie.Need-returns
 returns c = sym (no-month _ _ (omega arith))
 
-is-leap-requires : tie.Need-is-leap-requires
-is-leap-requires c κs = search needs
-
 returns-2 : tie.Need-returns-2
 returns-2 c = february _ _ true (omega arith) (sym (c .before .is-leap .ensures) ∙ c .if3 .taken)
 
 returns-3 : tie.Need-returns-3
 returns-3 c = february _ _ false (omega arith) (sym (c .before .is-leap .ensures) ∙ c .if3 .left)
-
-mul-result : tie.Need-mul-result
-mul-result c = search needs
-
-array-read-result : tie.Need-array-read-result
-array-read-result c = search needs
 
 returns-4 : tie.Need-returns-4
 returns-4 c = other-month _ _ (c .if2 .left)
@@ -31,4 +22,4 @@ returns-4 c = other-month _ _ (c .if2 .left)
 pub month-length-spec : {M : Type 1} → statement M
 month-length-spec =
     tie.close
-    (tie.spec returns is-leap-requires returns-2 returns-3 mul-result array-read-result returns-4)
+    (tie.spec returns (λ c κs. search needs) returns-2 returns-3 (λ c. search needs) (λ c. search needs) returns-4)

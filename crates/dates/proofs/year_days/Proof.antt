@@ -20,23 +20,11 @@ abbrev μ-loop : tie.MeasureT-loop
 loop-holds : tie.Need-loop-holds Inv-loop μ-loop
 loop-holds c = (omega arith, years-zero)
 
-add-is-leap : tie.Need-add-is-leap Inv-loop μ-loop
-add-is-leap c = omega arith
-
-is-leap-requires : tie.Need-is-leap-requires Inv-loop μ-loop
-is-leap-requires c κs = search needs
-
 add-days : tie.Need-add-days Inv-loop μ-loop
 add-days c = omega (arith, years-most (c .before .before .before .loop .k))
 
 add-days-2 : tie.Need-add-days-2 Inv-loop μ-loop
 add-days-2 c = omega (arith, years-most (c .before .before .before .loop .k))
-
-add-k : tie.Need-add-k Inv-loop μ-loop
-add-k c = omega arith
-
-loop-less : tie.Need-loop-less Inv-loop μ-loop
-loop-less c = omega arith
 
 loop-again : tie.Need-loop-again Inv-loop μ-loop
 loop-again c =
@@ -57,11 +45,11 @@ year-days-spec =
     Inv-loop
     μ-loop
     loop-holds
-    add-is-leap
-    is-leap-requires
+    (λ c. omega arith)
+    (λ c κs. search needs)
     add-days
     add-days-2
-    add-k
-    loop-less
+    (λ c. omega arith)
+    (λ c. omega arith)
     loop-again
     returns)

@@ -4,21 +4,6 @@ use Rattle.meaning.specs.Description.{arrayOf}
 use Rattle.items.proofs.array_of.Statement.{statement}
 use Rattle.items.proofs.array_of.Tie as tie
 
-bits-requires : tie.Need-bits-requires
-bits-requires c κs = search needs
-
-names-slot-requires : tie.Need-names-slot-requires
-names-slot-requires c κs = search needs
-
-both-requires : tie.Need-both-requires
-both-requires c κs = search needs
-
-reference-of-requires : tie.Need-reference-of-requires
-reference-of-requires c κs = search needs
-
-cast-t7 : tie.Need-cast-t7
-cast-t7 c = search needs
-
 returns : tie.Need-returns
 unfolding arrayOf
 returns c = rw (← c .before .before .before .names-slot .ensures, ← c .before .before .before .before .bits .ensures, ← c .before .before .both .ensures, c .before .if1 .taken, c .reference-of .ensures)
@@ -31,10 +16,10 @@ pub array-of-spec : {M : Type 1} → statement M
 array-of-spec =
     tie.close
     (tie.spec
-    bits-requires
-    names-slot-requires
-    both-requires
-    reference-of-requires
-    cast-t7
+    (λ c κs. search needs)
+    (λ c κs. search needs)
+    (λ c κs. search needs)
+    (λ c κs. search needs)
+    (λ c. search needs)
     returns
     returns-2)

@@ -7,35 +7,14 @@ use Rattle.meaning.specs.Ranges.{Ranged}
 use Rattle.items.proofs.fields_of.Statement.{statement}
 use Rattle.items.proofs.fields_of.Tie as tie
 
-enum-known-item : tie.Need-enum-known-item
-enum-known-item c = search needs
-
-enum-known-item-2 : tie.Need-enum-known-item-2
-enum-known-item-2 c = search needs
-
-enum-told : tie.Need-enum-told
-enum-told c = search needs
-
-enum-known-item-3 : tie.Need-enum-known-item-3
-enum-known-item-3 c = search needs
-
 add-t15 : tie.Need-add-t15
 add-t15 c = let h = subst Ranged (c .before .before .item3 .given .1) (c .before .before .before .before .pre) in omega arith
-
-enum-known-item-4 : tie.Need-enum-known-item-4
-enum-known-item-4 c = search needs
 
 add-t16 : tie.Need-add-t16
 add-t16 c = let h = subst Ranged (c .before .before .item4 .given .1) (c .before .before .before .before .pre) in omega arith
 
-enum-known-item-5 : tie.Need-enum-known-item-5
-enum-known-item-5 c = search needs
-
 add-t17 : tie.Need-add-t17
 add-t17 c = let h = subst Ranged (c .before .before .item5 .given .1) (c .before .before .before .before .pre) in omega arith
-
-enum-told-2 : tie.Need-enum-told-2
-enum-told-2 c = search needs
 
 returns : tie.Need-returns
 unfolding fieldsOf
@@ -69,16 +48,16 @@ pub fields-of-spec : {M : Type 1} → statement M
 fields-of-spec =
     tie.close
     (tie.spec
-    enum-known-item
-    enum-known-item-2
-    enum-told
-    enum-known-item-3
+    (λ c. search needs)
+    (λ c. search needs)
+    (λ c. search needs)
+    (λ c. search needs)
     add-t15
-    enum-known-item-4
+    (λ c. search needs)
     add-t16
-    enum-known-item-5
+    (λ c. search needs)
     add-t17
-    enum-told-2
+    (λ c. search needs)
     returns
     returns-2
     returns-3

@@ -5,27 +5,6 @@ use Rattle.meaning.specs.Description.{itemOf}
 use Rattle.items.proofs.item_of.Statement.{statement}
 use Rattle.items.proofs.item_of.Tie as tie
 
-bits-requires : tie.Need-bits-requires
-bits-requires c κs = search needs
-
-table-of-requires : tie.Need-table-of-requires
-table-of-requires c κs = search needs
-
-uint-of-requires : tie.Need-uint-of-requires
-uint-of-requires c κs = search needs
-
-block-of-requires : tie.Need-block-of-requires
-block-of-requires c κs = search needs
-
-set-of-requires : tie.Need-set-of-requires
-set-of-requires c κs = search needs
-
-array-of-requires : tie.Need-array-of-requires
-array-of-requires c κs = search needs
-
-if-of-requires : tie.Need-if-of-requires
-if-of-requires c κs = search needs
-
 returns : tie.Need-returns
 unfolding itemOf
 returns c = rw (← c .before .before .bits .ensures, c .before .match .keys1, c .table-of .ensures)
@@ -58,13 +37,13 @@ pub item-of-spec : {M : Type 1} → statement M
 item-of-spec =
     tie.close
     (tie.spec
-    bits-requires
-    table-of-requires
-    uint-of-requires
-    block-of-requires
-    set-of-requires
-    array-of-requires
-    if-of-requires
+    (λ c κs. search needs)
+    (λ c κs. search needs)
+    (λ c κs. search needs)
+    (λ c κs. search needs)
+    (λ c κs. search needs)
+    (λ c κs. search needs)
+    (λ c κs. search needs)
     returns
     returns-2
     returns-3

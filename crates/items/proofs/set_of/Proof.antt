@@ -4,21 +4,6 @@ use Rattle.meaning.specs.Description.{setOf}
 use Rattle.items.proofs.set_of.Statement.{statement}
 use Rattle.items.proofs.set_of.Tie as tie
 
-names-slot-requires : tie.Need-names-slot-requires
-names-slot-requires c κs = search needs
-
-bits-requires : tie.Need-bits-requires
-bits-requires c κs = search needs
-
-both-requires : tie.Need-both-requires
-both-requires c κs = search needs
-
-reference-of-requires : tie.Need-reference-of-requires
-reference-of-requires c κs = search needs
-
-bits-requires-2 : tie.Need-bits-requires-2
-bits-requires-2 c κs = search needs
-
 returns : tie.Need-returns
 unfolding setOf
 returns c = rw (← c .before .before .before .before .before .names-slot .ensures, ← c .before .before .before .before .bits .ensures, ← c .before .before .before .both .ensures, c .before .before .if1 .taken, c .before .reference-of .ensures, c .bits2 .ensures)
@@ -31,10 +16,10 @@ pub set-of-spec : {M : Type 1} → statement M
 set-of-spec =
     tie.close
     (tie.spec
-    names-slot-requires
-    bits-requires
-    both-requires
-    reference-of-requires
-    bits-requires-2
+    (λ c κs. search needs)
+    (λ c κs. search needs)
+    (λ c κs. search needs)
+    (λ c κs. search needs)
+    (λ c κs. search needs)
     returns
     returns-2)

@@ -8,17 +8,11 @@ use Rattle.lines.proofs.InputLaws.{memory-of}
 use Rattle.lines.proofs.main.Statement.{statement}
 use Rattle.lines.proofs.main.Tie as tie
 
-large-buffer-requires : tie.Need-large-buffer-requires
-large-buffer-requires c κs = search needs
-
-slice-aggregate-run : tie.Need-slice-aggregate-run
-slice-aggregate-run c = search needs
-
 slice-aggregate-run-2 : tie.Need-slice-aggregate-run-2
 slice-aggregate-run-2 c = sym (length-replicate {A = ℕ} 300001 0)
 
 slice-aggregate-run-3 : tie.Need-slice-aggregate-run-3
-slice-aggregate-run-3 c = sym (length-replicate {A = ℕ} 300726 0)
+slice-aggregate-run-3 c = sym (length-replicate {A = ℕ} 600770 0)
 
 slice-aggregate-run-4 : tie.Need-slice-aggregate-run-4
 slice-aggregate-run-4 c = sym (length-replicate {A = ℕ} 150000 0)
@@ -30,21 +24,18 @@ slice-aggregate-run-6 : tie.Need-slice-aggregate-run-6
 slice-aggregate-run-6 c = sym (length-replicate {A = ℕ} 150000 0)
 
 run-requires : tie.Need-run-requires
-run-requires c κs = memory-of 300726 150000 150000 150000 (omega arith) (omega arith) (omega arith) (omega arith)
-
-returns : tie.Need-returns
-returns c = search needs
+run-requires c κs = memory-of 600770 150000 150000 150000 (omega arith) (omega arith) (omega arith) (omega arith)
 
 pub main-spec : {M : Type 1} → statement M
 main-spec =
     tie.close
     (tie.spec
-    large-buffer-requires
-    slice-aggregate-run
+    (λ c κs. search needs)
+    (λ c. search needs)
     slice-aggregate-run-2
     slice-aggregate-run-3
     slice-aggregate-run-4
     slice-aggregate-run-5
     slice-aggregate-run-6
     run-requires
-    returns)
+    (λ c. search needs))

@@ -27,12 +27,6 @@ mul-number c = omega (arith, counted-room _ _ _ _ (c .before .before .loop .inv)
 shared-slice-read-wide : tie.Need-shared-slice-read-wide Inv-loop μ-loop
 shared-slice-read-wide c = c .before .place-of .ensures .1
 
-wide-requires : tie.Need-wide-requires Inv-loop μ-loop
-wide-requires c κs = search needs
-
-cast-number : tie.Need-cast-number Inv-loop μ-loop
-cast-number c = search needs
-
 add-number : tie.Need-add-number Inv-loop μ-loop
 add-number c = omega (arith, c .wide .ensures .1, counted-room _ _ _ _ (c .before .before .before .before .loop .inv) (c .before .before .before .loop-test .taken))
 
@@ -58,8 +52,8 @@ counted-spec =
     place-of-requires
     mul-number
     shared-slice-read-wide
-    wide-requires
-    cast-number
+    (λ c κs. search needs)
+    (λ c. search needs)
     add-number
     add-i
     loop-less

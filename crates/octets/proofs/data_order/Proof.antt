@@ -7,14 +7,8 @@ use Rattle.octets.proofs.data_order.Tie as tie
 returns : tie.Need-returns
 returns c = order-empty _ (c .if1 .taken)
 
-shared-slice-read-wide : tie.Need-shared-slice-read-wide
-shared-slice-read-wide c = search needs
-
-wide-requires : tie.Need-wide-requires
-wide-requires c κs = search needs
-
 returns-2 : tie.Need-returns-2
 returns-2 c = order-first _ _ (c .wide .ensures .0)
 
 pub data-order-spec : {M : Type 1} → statement M
-data-order-spec = tie.close (tie.spec returns shared-slice-read-wide wide-requires returns-2)
+data-order-spec = tie.close (tie.spec returns (λ c. search needs) (λ c κs. search needs) returns-2)

@@ -4,20 +4,8 @@ use Rattle.octets.proofs.fill.Statement.{statement}
 use Rattle.octets.proofs.Filled.{order-least, order-most}
 use Rattle.octets.proofs.fill.Tie as tie
 
-least-first-requires : tie.Need-least-first-requires
-least-first-requires c κs = search needs
-
-reverse-requires : tie.Need-reverse-requires
-reverse-requires c κs = search needs
-
-same-length : tie.Need-same-length
-same-length c = search needs
-
 returns : tie.Need-returns
 returns c = let a = c .before .before .before .before .before .before .before .before .before .before .args in order-most (a .octets .now) _ _ (a .order) (a .value) (c .before .before .before .before .if1 .taken) (c .before .before .before .before .before .before .before .least-first .ensures) (c .before .before .reverse .ensures)
-
-same-length-2 : tie.Need-same-length-2
-same-length-2 c = search needs
 
 returns-2 : tie.Need-returns-2
 returns-2 c = let a = c .before .before .before .before .before .before .args in order-least (a .octets .now) _ (a .order) (a .value) (c .if1 .left) (c .before .before .before .least-first .ensures)
@@ -25,4 +13,4 @@ returns-2 c = let a = c .before .before .before .before .before .before .args in
 pub fill-spec : {M : Type 1} → statement M
 fill-spec =
     tie.close
-    (tie.spec least-first-requires reverse-requires same-length returns same-length-2 returns-2)
+    (tie.spec (λ c κs. search needs) (λ c κs. search needs) (λ c. search needs) returns (λ c. search needs) returns-2)

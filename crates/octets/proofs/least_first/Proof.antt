@@ -18,12 +18,6 @@ abbrev μ-loop : tie.MeasureT-loop
 loop-holds : tie.Need-loop-holds Inv-loop μ-loop
 loop-holds c = filled-none _ _
 
-cast-octets : tie.Need-cast-octets Inv-loop μ-loop
-cast-octets c = omega arith
-
-slice-write-octets : tie.Need-slice-write-octets Inv-loop μ-loop
-slice-write-octets c = search needs
-
 add-i : tie.Need-add-i Inv-loop μ-loop
 add-i c = omega (arith, c .loop-test .taken)
 
@@ -46,8 +40,8 @@ least-first-spec =
     Inv-loop
     μ-loop
     loop-holds
-    cast-octets
-    slice-write-octets
+    (λ c. omega arith)
+    (λ c. search needs)
     add-i
     loop-less
     loop-again

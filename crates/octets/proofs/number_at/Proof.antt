@@ -6,29 +6,11 @@ use borrow.Author.Needs.{needs}
 use Rattle.octets.proofs.number_at.Statement.{statement}
 use Rattle.octets.proofs.number_at.Tie as tie
 
-octet-requires : tie.Need-octet-requires
-octet-requires c κs = search needs
-
-ends-within-requires : tie.Need-ends-within-requires
-ends-within-requires c κs = search needs
-
 add-end : tie.Need-add-end
 add-end c = let a = c .before .before .before .before .args in let h = inside-true (a .image .now) _ (a .octets) _ (c .before .ends-within .ensures) (c .if1 .taken) in omega (arith, h)
 
-sub-number-in : tie.Need-sub-number-in
-sub-number-in c = search needs
-
-part-number-in-start : tie.Need-part-number-in-start
-part-number-in-start c = search needs
-
 part-number-in-end : tie.Need-part-number-in-end
 part-number-in-end c = let a = c .before .before .before .before .args in let h = inside-true (a .image .now) _ (a .octets) _ (c .before .ends-within .ensures) (c .if1 .taken) in omega (arith, h)
-
-data-order-requires : tie.Need-data-order-requires
-data-order-requires c κs = search needs
-
-number-in-requires : tie.Need-number-in-requires
-number-in-requires c κs = search needs
 
 returns : tie.Need-returns
 returns c = let a = c .before .before .before .before .before .before .before .args in
@@ -42,13 +24,13 @@ pub number-at-spec : {M : Type 1} → statement M
 number-at-spec =
     tie.close
     (tie.spec
-    octet-requires
-    ends-within-requires
+    (λ c κs. search needs)
+    (λ c κs. search needs)
     add-end
-    sub-number-in
-    part-number-in-start
+    (λ c. search needs)
+    (λ c. search needs)
     part-number-in-end
-    data-order-requires
-    number-in-requires
+    (λ c κs. search needs)
+    (λ c κs. search needs)
     returns
     returns-2)

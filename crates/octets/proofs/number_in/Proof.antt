@@ -8,11 +8,8 @@ use Rattle.octets.proofs.number_in.Tie as tie
 returns : tie.Need-returns
 returns c = number-many _ _ (c .if1 .taken)
 
-counted-requires : tie.Need-counted-requires
-counted-requires c κs = search needs
-
 returns-2 : tie.Need-returns-2
 returns-2 c = (c .counted .ensures .0 ∙ number-few _ _ (c .before .if1 .left), c .counted .ensures .1)
 
 pub number-in-spec : {M : Type 1} → statement M
-number-in-spec = tie.close (tie.spec returns counted-requires returns-2)
+number-in-spec = tie.close (tie.spec returns (λ c κs. search needs) returns-2)

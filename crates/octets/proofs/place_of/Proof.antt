@@ -6,12 +6,6 @@ use Rattle.octets.specs.Octets.{placeOf}
 use Rattle.octets.proofs.place_of.Statement.{statement}
 use Rattle.octets.proofs.place_of.Tie as tie
 
-sub-result : tie.Need-sub-result
-sub-result c = search needs
-
-sub-result-2 : tie.Need-sub-result-2
-sub-result-2 c = search needs
-
 returns : tie.Need-returns
 unfolding placeOf
 returns c = (rw (eq-eqb _ _ (c .if1 .taken)), omega (arith, c .before .pre))
@@ -21,4 +15,4 @@ unfolding placeOf
 returns-2 c = (rw (ne-eqb _ _ (c .if1 .left)), c .before .pre)
 
 pub place-of-spec : {M : Type 1} → statement M
-place-of-spec = tie.close (tie.spec sub-result sub-result-2 returns returns-2)
+place-of-spec = tie.close (tie.spec (λ c. search needs) (λ c. search needs) returns returns-2)

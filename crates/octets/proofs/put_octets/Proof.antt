@@ -7,29 +7,11 @@ use Rattle.octets.proofs.Laws.{put-inside, put-outside, inside-true, co
 use Rattle.octets.proofs.put_octets.Statement.{statement}
 use Rattle.octets.proofs.put_octets.Tie as tie
 
-octet-requires : tie.Need-octet-requires
-octet-requires c κs = search needs
-
-ends-within-requires : tie.Need-ends-within-requires
-ends-within-requires c κs = search needs
-
 add-end : tie.Need-add-end
 add-end c = let a = c .before .before .before .before .before .args in let h = inside-true (a .image .now) _ (length (a .new .now)) _ (c .before .ends-within .ensures) (c .if1 .taken) in omega (arith, h)
 
-sub-copy : tie.Need-sub-copy
-sub-copy c = search needs
-
-part-copy-start : tie.Need-part-copy-start
-part-copy-start c = search needs
-
 part-copy-end : tie.Need-part-copy-end
 part-copy-end c = let a = c .before .before .before .before .before .args in let h = inside-true (a .image .now) _ (length (a .new .now)) _ (c .before .ends-within .ensures) (c .if1 .taken) in omega (arith, h)
-
-copy-requires : tie.Need-copy-requires
-copy-requires c κs = search needs
-
-same-length : tie.Need-same-length
-same-length c = search needs
 
 returns : tie.Need-returns
 returns c = let a = c .before .before .before .before .before .before .before .before .before .args in
@@ -44,13 +26,13 @@ pub put-octets-spec : {M : Type 1} → statement M
 put-octets-spec =
     tie.close
     (tie.spec
-    octet-requires
-    ends-within-requires
+    (λ c κs. search needs)
+    (λ c κs. search needs)
     add-end
-    sub-copy
-    part-copy-start
+    (λ c. search needs)
+    (λ c. search needs)
     part-copy-end
-    copy-requires
-    same-length
+    (λ c κs. search needs)
+    (λ c. search needs)
     returns
     returns-2)

@@ -9,15 +9,9 @@ use Rattle.places.proofs.bodies_span.Tie as tie
 mul-cut : tie.Need-mul-cut
 mul-cut c = omega (arith, product-few _ _ (c .pre .1) (c .pre .2))
 
-cut-requires : tie.Need-cut-requires
-cut-requires c κs = search needs
-
-bodies-spot-requires : tie.Need-bodies-spot-requires
-bodies-spot-requires c κs = search needs
-
 returns : tie.Need-returns
 unfolding bodiesSpan
 returns c = rw (c .before .cut .ensures, c .bodies-spot .ensures)
 
 pub bodies-span-spec : {M : Type 1} → statement M
-bodies-span-spec = tie.close (tie.spec mul-cut cut-requires bodies-spot-requires returns)
+bodies-span-spec = tie.close (tie.spec mul-cut (λ c κs. search needs) (λ c κs. search needs) returns)

@@ -15,12 +15,6 @@ returns-2 : tie.Need-returns-2
 unfolding bodiesSpot
 returns-2 c = rw (ne-eqb _ _ (c .before .before .if1 .left), le-leb _ _ (c .if2 .taken))
 
-mul-subscript : tie.Need-mul-subscript
-mul-subscript c = search needs
-
-array-read-subscript : tie.Need-array-read-subscript
-array-read-subscript c = search needs
-
 returns-3 : tie.Need-returns-3
 unfolding bodiesSpot
 returns-3 c = rw (ne-eqb _ _ (c .before .before .before .before .if1 .left), lt-leb _ _ (c .before .before .if2 .left), le-leb _ _ (c .if3 .taken))
@@ -41,8 +35,8 @@ bodies-spot-spec =
     (tie.spec
     returns
     returns-2
-    mul-subscript
-    array-read-subscript
+    (λ c. search needs)
+    (λ c. search needs)
     returns-3
     mul-further
     further-requires

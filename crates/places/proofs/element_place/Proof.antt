@@ -4,14 +4,8 @@ use borrow.Author.Needs.{needs}
 use Rattle.places.proofs.element_place.Statement.{statement}
 use Rattle.places.proofs.element_place.Tie as tie
 
-nothing-asked-requires : tie.Need-nothing-asked-requires
-nothing-asked-requires c κs = search needs
-
-open-image-requires : tie.Need-open-image-requires
-open-image-requires c κs = search needs
-
 returns : tie.Need-returns
 returns c = element-told _ _ _ _ (c .open-image .ensures)
 
 pub element-place-spec : {M : Type 1} → statement M
-element-place-spec = tie.close (tie.spec nothing-asked-requires open-image-requires returns)
+element-place-spec = tie.close (tie.spec (λ c κs. search needs) (λ c κs. search needs) returns)

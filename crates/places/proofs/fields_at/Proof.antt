@@ -4,11 +4,8 @@ use Rattle.items.proofs.ReadLaws.{fields-read}
 use Rattle.places.proofs.fields_at.Statement.{statement}
 use Rattle.places.proofs.fields_at.Tie as tie
 
-read-requires : tie.Need-read-requires
-read-requires c κs = search needs
-
 returns : tie.Need-returns
 returns c = fields-read _ _ (c .before .before .before .pre) (c .before .read .ensures)
 
 pub fields-at-spec : {M : Type 1} → statement M
-fields-at-spec = tie.close (tie.spec read-requires returns)
+fields-at-spec = tie.close (tie.spec (λ c κs. search needs) returns)

@@ -4,12 +4,6 @@ use borrow.Author.Needs.{needs}
 use Rattle.places.proofs.first_table.Statement.{statement}
 use Rattle.places.proofs.first_table.Tie as tie
 
-enum-told : tie.Need-enum-told
-enum-told c = search needs
-
-enum-told-2 : tie.Need-enum-told-2
-enum-told-2 c = search needs
-
 returns : tie.Need-returns
 unfolding firstTable
 returns c = rw (c .enum-told .given .1)
@@ -19,4 +13,4 @@ unfolding firstTable
 returns-2 c = rw (c .enum-told2 .given .1)
 
 pub first-table-spec : {M : Type 1} → statement M
-first-table-spec = tie.close (tie.spec enum-told enum-told-2 returns returns-2)
+first-table-spec = tie.close (tie.spec (λ c. search needs) (λ c. search needs) returns returns-2)

@@ -5,21 +5,6 @@ use borrow.Author.Needs.{needs}
 use Rattle.places.proofs.further.Statement.{statement}
 use Rattle.places.proofs.further.Tie as tie
 
-enum-told : tie.Need-enum-told
-enum-told c = search needs
-
-enum-known-spot : tie.Need-enum-known-spot
-enum-known-spot c = search needs
-
-cut-requires : tie.Need-cut-requires
-cut-requires c κs = search needs
-
-add-cut : tie.Need-add-cut
-add-cut c = search needs
-
-cut-requires-2 : tie.Need-cut-requires-2
-cut-requires-2 c κs = search needs
-
 returns : tie.Need-returns
 unfolding cutSpot further
 returns c = rw (c .enum-told .given .1)
@@ -31,4 +16,4 @@ returns-2 c = rw (c .before .before .before .spot .given .1, c .cut2 .ensures, c
 pub further-spec : {M : Type 1} → statement M
 further-spec =
     tie.close
-    (tie.spec enum-told enum-known-spot cut-requires add-cut cut-requires-2 returns returns-2)
+    (tie.spec (λ c. search needs) (λ c. search needs) (λ c κs. search needs) (λ c. search needs) (λ c κs. search needs) returns returns-2)

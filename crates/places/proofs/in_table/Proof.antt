@@ -4,18 +4,6 @@ use borrow.Author.Needs.{needs}
 use Rattle.places.proofs.in_table.Statement.{statement}
 use Rattle.places.proofs.in_table.Tie as tie
 
-enum-told : tie.Need-enum-told
-enum-told c = search needs
-
-enum-known-spot : tie.Need-enum-known-spot
-enum-known-spot c = search needs
-
-new-requires : tie.Need-new-requires
-new-requires c κs = search needs
-
-in-image-requires : tie.Need-in-image-requires
-in-image-requires c κs = search needs
-
 returns : tie.Need-returns
 unfolding inTable
 returns c = rw (c .enum-told .given .1)
@@ -26,4 +14,4 @@ returns-2 c = rw (c .before .before .before .spot .given .1, ← c .before .new 
 
 pub in-table-spec : {M : Type 1} → statement M
 in-table-spec =
-    tie.close (tie.spec enum-told enum-known-spot new-requires in-image-requires returns returns-2)
+    tie.close (tie.spec (λ c. search needs) (λ c. search needs) (λ c κs. search needs) (λ c κs. search needs) returns returns-2)

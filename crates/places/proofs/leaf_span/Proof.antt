@@ -5,20 +5,11 @@ use borrow.Author.Needs.{needs}
 use Rattle.places.proofs.leaf_span.Statement.{statement}
 use Rattle.places.proofs.leaf_span.Tie as tie
 
-both-requires : tie.Need-both-requires
-both-requires c κs = search needs
-
-cut-requires : tie.Need-cut-requires
-cut-requires c κs = search needs
-
 returns : tie.Need-returns
 returns c = leaf-as _ _ _ _ (c .before .before .both .result) _ (c .before .before .before .before .before .pre) (c .before .before .both .ensures) (c .cut .ensures) (rw (c .before .if1 .taken))
-
-cut-requires-2 : tie.Need-cut-requires-2
-cut-requires-2 c κs = search needs
 
 returns-2 : tie.Need-returns-2
 returns-2 c = leaf-as _ _ _ _ (c .before .before .both .result) _ (c .before .before .before .before .before .pre) (c .before .before .both .ensures) (c .cut2 .ensures) (rw (c .before .if1 .left))
 
 pub leaf-span-spec : {M : Type 1} → statement M
-leaf-span-spec = tie.close (tie.spec both-requires cut-requires returns cut-requires-2 returns-2)
+leaf-span-spec = tie.close (tie.spec (λ c κs. search needs) (λ c κs. search needs) returns (λ c κs. search needs) returns-2)

@@ -13,17 +13,8 @@ returns : tie.Need-returns
 unfolding noted
 returns c = (rw (eq-eqb _ _ (c .if1 .taken)), search needs)
 
-number-at-requires : tie.Need-number-at-requires
-number-at-requires c κs = search needs
-
 cast-later : tie.Need-cast-later
 cast-later c = let r = c .before .before .before .pre .1 (omega (arith, c .before .if1 .left)) in let m : 256 ^ (c .before .before .before .args .octets) ≤ 256 ^ 4 = pow-le-pow-right (omega arith) (r .few) in omega (arith, c .number-at .ensures .1)
-
-mul-later : tie.Need-mul-later
-mul-later c = search needs
-
-array-write-later : tie.Need-array-write-later
-array-write-later c = search needs
 
 returns-2 : tie.Need-returns-2
 unfolding noted
@@ -32,4 +23,4 @@ returns-2 c = let r = c .before .before .before .pre .1 (omega (arith, c .before
 pub noted-spec : {M : Type 1} → statement M
 noted-spec =
     tie.close
-    (tie.spec returns number-at-requires cast-later mul-later array-write-later returns-2)
+    (tie.spec returns (λ c κs. search needs) cast-later (λ c. search needs) (λ c. search needs) returns-2)

@@ -6,18 +6,9 @@ use borrow.Author.Needs.{needs}
 use Rattle.places.proofs.nothing_asked.Statement.{statement}
 use Rattle.places.proofs.nothing_asked.Tie as tie
 
-first-requires : tie.Need-first-requires
-first-requires c κs = search needs
-
-new-requires : tie.Need-new-requires
-new-requires c κs = search needs
-
-in-image-requires : tie.Need-in-image-requires
-in-image-requires c κs = search needs
-
 returns : tie.Need-returns
 unfolding nothingAsked
 returns c = let e : c .in-image .result .0 ≡ 0 = omega (arith, c .in-image .ensures, c .before .new .ensures, c .before .before .first .ensures) in rw (← e)
 
 pub nothing-asked-spec : {M : Type 1} → statement M
-nothing-asked-spec = tie.close (tie.spec first-requires new-requires in-image-requires returns)
+nothing-asked-spec = tie.close (tie.spec (λ c κs. search needs) (λ c κs. search needs) (λ c κs. search needs) returns)

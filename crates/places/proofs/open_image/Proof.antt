@@ -5,20 +5,11 @@ use borrow.Author.Needs.{needs}
 use Rattle.places.proofs.open_image.Statement.{statement}
 use Rattle.places.proofs.open_image.Tie as tie
 
-nothing-asked-requires : tie.Need-nothing-asked-requires
-nothing-asked-requires c κs = search needs
-
 open-named-requires : tie.Need-open-named-requires
 open-named-requires c κs = rw (c .before .before .nothing-asked .ensures) nothing-ready
 
-unnamed-requires : tie.Need-unnamed-requires
-unnamed-requires c κs = search needs
-
 returns : tie.Need-returns
 returns c = c .unnamed .ensures ∙ rw (c .before .open-named .ensures) (unnamed-in _ _ _ (c .before .before .before .before .before .if1 .taken))
-
-open-named-requires-2 : tie.Need-open-named-requires-2
-open-named-requires-2 c κs = search needs
 
 returns-2 : tie.Need-returns-2
 returns-2 c = c .open-named2 .ensures
@@ -27,9 +18,9 @@ pub open-image-spec : {M : Type 1} → statement M
 open-image-spec =
     tie.close
     (tie.spec
-    nothing-asked-requires
+    (λ c κs. search needs)
     open-named-requires
-    unnamed-requires
+    (λ c κs. search needs)
     returns
-    open-named-requires-2
+    (λ c κs. search needs)
     returns-2)

@@ -6,44 +6,16 @@ use mathlib.Core.Path.{refl, subst}
 use native.Mathlib.Omega.{arith}
 use Rattle.meaning.specs.Ranges.{Ranged}
 use Rattle.meaning.specs.Layout.{nested}
-use Rattle.items.proofs.ReadLaws.{ranged-read}
 use Rattle.places.specs.Parts.{partOf}
 use borrow.Author.Needs.{needs}
 use Rattle.places.proofs.open_item.Statement.{statement}
 use Rattle.places.proofs.open_item.Tie as tie
 
-read-requires : tie.Need-read-requires
-read-requires c κs = search needs
-
-enum-told : tie.Need-enum-told
-enum-told c = search needs
-
-enum-known-item : tie.Need-enum-known-item
-enum-known-item c = search needs
-
-enum-known-item-2 : tie.Need-enum-known-item-2
-enum-known-item-2 c = search needs
-
-enum-known-item-3 : tie.Need-enum-known-item-3
-enum-known-item-3 c = search needs
-
 value-requires : tie.Need-value-requires
 value-requires c κs = subst Ranged (c .before .item3 .given .1) (ranged-read _ _ (c .before .before .before .read .ensures)) .0
 
-set-octets-requires : tie.Need-set-octets-requires
-set-octets-requires c κs = search needs
-
-enum-known-item-4 : tie.Need-enum-known-item-4
-enum-known-item-4 c = search needs
-
 value-requires-2 : tie.Need-value-requires-2
 value-requires-2 c κs = subst Ranged (c .before .item4 .given .1) (ranged-read _ _ (c .before .before .before .read .ensures)) .0
-
-add-t25 : tie.Need-add-t25
-add-t25 c = search needs
-
-enum-known-item-5 : tie.Need-enum-known-item-5
-enum-known-item-5 c = search needs
 
 value-requires-3 : tie.Need-value-requires-3
 value-requires-3 c κs = subst Ranged (c .before .item5 .given .1) (ranged-read _ _ (c .before .before .before .read .ensures)) .0
@@ -53,9 +25,6 @@ branch-requires c κs = let h = subst Ranged (c .before .before .item5 .given .1
 
 add-t29 : tie.Need-add-t29
 add-t29 c = let h = subst Ranged (c .before .before .before .item5 .given .1) (ranged-read _ _ (c .before .before .before .before .before .read .ensures)) in omega (arith, h .2, h .3)
-
-enum-told-2 : tie.Need-enum-told-2
-enum-told-2 c = search needs
 
 returns : tie.Need-returns
 unfolding partOf nested
@@ -89,21 +58,21 @@ pub open-item-spec : {M : Type 1} → statement M
 open-item-spec =
     tie.close
     (tie.spec
-    read-requires
-    enum-told
-    enum-known-item
-    enum-known-item-2
-    enum-known-item-3
+    (λ c κs. search needs)
+    (λ c. search needs)
+    (λ c. search needs)
+    (λ c. search needs)
+    (λ c. search needs)
     value-requires
-    set-octets-requires
-    enum-known-item-4
+    (λ c κs. search needs)
+    (λ c. search needs)
     value-requires-2
-    add-t25
-    enum-known-item-5
+    (λ c. search needs)
+    (λ c. search needs)
     value-requires-3
     branch-requires
     add-t29
-    enum-told-2
+    (λ c. search needs)
     returns
     returns-2
     returns-3

@@ -5,21 +5,6 @@ use borrow.Author.Needs.{needs}
 use Rattle.places.proofs.open_named.Statement.{statement}
 use Rattle.places.proofs.open_named.Tie as tie
 
-check-requires : tie.Need-check-requires
-check-requires c κs = search needs
-
-enum-known-verdict : tie.Need-enum-known-verdict
-enum-known-verdict c = search needs
-
-refused-requires : tie.Need-refused-requires
-refused-requires c κs = search needs
-
-enum-told : tie.Need-enum-told
-enum-told c = search needs
-
-refused-requires-2 : tie.Need-refused-requires-2
-refused-requires-2 c κs = search needs
-
 returns : tie.Need-returns
 returns c = opened-long _ _ _ _ (sym (c .before .before .before .before .check .ensures) ∙ c .before .before .enum-told .given .1) (c .before .if1 .taken) (c .refused2 .ensures)
 
@@ -36,11 +21,11 @@ pub open-named-spec : {M : Type 1} → statement M
 open-named-spec =
     tie.close
     (tie.spec
-    check-requires
-    enum-known-verdict
-    refused-requires
-    enum-told
-    refused-requires-2
+    (λ c κs. search needs)
+    (λ c. search needs)
+    (λ c κs. search needs)
+    (λ c. search needs)
+    (λ c κs. search needs)
     returns
     survey-image-requires
     returns-2

@@ -4,12 +4,6 @@ use borrow.Author.Needs.{needs}
 use Rattle.places.proofs.refusal_or.Statement.{statement}
 use Rattle.places.proofs.refusal_or.Tie as tie
 
-enum-known-verdict : tie.Need-enum-known-verdict
-enum-known-verdict c = search needs
-
-enum-told : tie.Need-enum-told
-enum-told c = search needs
-
 returns : tie.Need-returns
 unfolding refusalOr
 returns c = rw (c .before .verdict .given .1)
@@ -19,4 +13,4 @@ unfolding refusalOr
 returns-2 c = rw (c .enum-told .given .1)
 
 pub refusal-or-spec : {M : Type 1} → statement M
-refusal-or-spec = tie.close (tie.spec enum-known-verdict enum-told returns returns-2)
+refusal-or-spec = tie.close (tie.spec (λ c. search needs) (λ c. search needs) returns returns-2)

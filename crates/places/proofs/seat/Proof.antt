@@ -4,9 +4,6 @@ use borrow.Author.Needs.{needs}
 use Rattle.places.proofs.seat.Statement.{statement}
 use Rattle.places.proofs.seat.Tie as tie
 
-both-requires : tie.Need-both-requires
-both-requires c κs = search needs
-
 returns : tie.Need-returns
 unfolding seatIn
 returns c = rw (← c .before .both .ensures, c .if1 .taken)
@@ -16,4 +13,4 @@ unfolding seatIn
 returns-2 c = rw (← c .before .both .ensures, c .if1 .left)
 
 pub seat-spec : {M : Type 1} → statement M
-seat-spec = tie.close (tie.spec both-requires returns returns-2)
+seat-spec = tie.close (tie.spec (λ c κs. search needs) returns returns-2)

@@ -9,12 +9,9 @@ returns : tie.Need-returns
 unfolding setOctets
 returns c = rw (eq-eqb _ _ (c .if1 .taken))
 
-add-result : tie.Need-add-result
-add-result c = search needs
-
 returns-2 : tie.Need-returns-2
 unfolding setOctets
 returns-2 c = rw (ne-eqb _ _ (c .if1 .left))
 
 pub set-octets-spec : {M : Type 1} → statement M
-set-octets-spec = tie.close (tie.spec returns add-result returns-2)
+set-octets-spec = tie.close (tie.spec returns (λ c. search needs) returns-2)

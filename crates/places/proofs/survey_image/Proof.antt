@@ -14,41 +14,20 @@ Inv-loop d image asked items s₀ s = Surveyed d image asked s
 abbrev μ-loop : tie.MeasureT-loop
 μ-loop d image asked items s₀ s = items - s .next
 
-first-requires : tie.Need-first-requires Inv-loop μ-loop
-first-requires c κs = search needs
-
 loop-holds : tie.Need-loop-holds Inv-loop μ-loop
 loop-holds c = set-out _ _ _ _ (c .first .ensures) (c .before .before .before .pre .passes)
 
 survey-table-requires : tie.Need-survey-table-requires Inv-loop μ-loop
 survey-table-requires c κs = record { ready = c .before .before .before .before .before .before .pre; surveyed = c .before .before .loop .inv; more = c .if1 .taken }
 
-enum-known-verdict : tie.Need-enum-known-verdict Inv-loop μ-loop
-enum-known-verdict c = search needs
-
-refused-requires : tie.Need-refused-requires Inv-loop μ-loop
-refused-requires c κs = search needs
-
 returns : tie.Need-returns Inv-loop μ-loop
 returns c = laid-refused _ _ _ _ _ (c .before .before .before .before .survey-table .ensures .stopped _ (c .before .before .verdict .given .1)) (c .refused .ensures)
-
-enum-told : tie.Need-enum-told Inv-loop μ-loop
-enum-told c = search needs
 
 loop-less : tie.Need-loop-less Inv-loop μ-loop
 loop-less c = let m = c .before .before .survey-table .ensures .passed (c .enum-told .given .1) .1 in omega (arith, m)
 
 loop-again : tie.Need-loop-again Inv-loop μ-loop
 loop-again c = c .before .before .survey-table .ensures .passed (c .enum-told .given .1) .0
-
-new-requires : tie.Need-new-requires Inv-loop μ-loop
-new-requires c κs = search needs
-
-in-image-requires : tie.Need-in-image-requires Inv-loop μ-loop
-in-image-requires c κs = search needs
-
-octet-requires : tie.Need-octet-requires Inv-loop μ-loop
-octet-requires c κs = search needs
 
 returns-2 : tie.Need-returns-2 Inv-loop μ-loop
 returns-2 c = laid-all _ _ _ _ (c .before .before .before .before .before .before .loop .inv) (c .before .before .before .before .if1 .left) (c .before .before .before .before .before .before .before .before .before .before .pre .name .few) _ (omega (arith, c .octet .ensures, c .before .in-image .ensures, c .before .before .new .ensures, c .before .before .before .before .before .before .loop .inv .inside))
@@ -59,16 +38,16 @@ survey-image-spec =
     (tie.spec
     Inv-loop
     μ-loop
-    first-requires
+    (λ c κs. search needs)
     loop-holds
     survey-table-requires
-    enum-known-verdict
-    refused-requires
+    (λ c. search needs)
+    (λ c κs. search needs)
     returns
-    enum-told
+    (λ c. search needs)
     loop-less
     loop-again
-    new-requires
-    in-image-requires
-    octet-requires
+    (λ c κs. search needs)
+    (λ c κs. search needs)
+    (λ c κs. search needs)
     returns-2)

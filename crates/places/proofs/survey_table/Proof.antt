@@ -6,32 +6,11 @@ use borrow.Author.Needs.{needs}
 use Rattle.places.proofs.survey_table.Statement.{statement}
 use Rattle.places.proofs.survey_table.Tie as tie
 
-fields-at-requires : tie.Need-fields-at-requires
-fields-at-requires c κs = search needs
-
-add-first : tie.Need-add-first
-add-first c = search needs
-
 walk-body-requires : tie.Need-walk-body-requires
 walk-body-requires c κs = table-ready _ _ _ _ (c .before .before .before .before .before .before .before .pre) _ (c .before .before .before .before .fields-at .ensures)
 
-after-requires : tie.Need-after-requires
-after-requires c κs = search needs
-
 add-t24 : tie.Need-add-t24
 add-t24 c = omega (arith, table-few _ _ _ _ (c .before .before .before .before .before .before .before .before .before .before .before .before .pre) _ (c .before .before .before .before .before .before .before .before .before .fields-at .ensures))
-
-seat-requires : tie.Need-seat-requires
-seat-requires c κs = search needs
-
-first-table-requires : tie.Need-first-table-requires
-first-table-requires c κs = search needs
-
-first-found-requires : tie.Need-first-found-requires
-first-found-requires c κs = search needs
-
-verdict-of-requires : tie.Need-verdict-of-requires
-verdict-of-requires c κs = search needs
 
 returns : tie.Need-returns
 returns c = table-as _ _ _ _ (c .before .before .before .before .before .before .before .before .before .before .before .before .before .before .before .before .pre) _ (c .before .before .before .before .before .before .before .before .before .before .before .before .before .fields-at .ensures) _ (c .before .before .before .before .before .before .before .before .walk-body .ensures) _ refl (c .before .before .before .before .before .after .ensures) refl (rw (c .before .before .first-table .ensures, c .before .before .before .seat .ensures)) (c .before .first-found .ensures) refl (c .verdict-of .ensures)
@@ -40,13 +19,13 @@ pub survey-table-spec : {M : Type 1} → statement M
 survey-table-spec =
     tie.close
     (tie.spec
-    fields-at-requires
-    add-first
+    (λ c κs. search needs)
+    (λ c. search needs)
     walk-body-requires
-    after-requires
+    (λ c κs. search needs)
     add-t24
-    seat-requires
-    first-table-requires
-    first-found-requires
-    verdict-of-requires
+    (λ c κs. search needs)
+    (λ c κs. search needs)
+    (λ c κs. search needs)
+    (λ c κs. search needs)
     returns)

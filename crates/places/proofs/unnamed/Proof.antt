@@ -4,12 +4,9 @@ use borrow.Author.Needs.{needs}
 use Rattle.places.proofs.unnamed.Statement.{statement}
 use Rattle.places.proofs.unnamed.Tie as tie
 
-refusal-or-requires : tie.Need-refusal-or-requires
-refusal-or-requires c κs = search needs
-
 returns : tie.Need-returns
 unfolding unnamedOf
 returns c = rw (c .refusal-or .ensures)
 
 pub unnamed-spec : {M : Type 1} → statement M
-unnamed-spec = tie.close (tie.spec refusal-or-requires returns)
+unnamed-spec = tie.close (tie.spec (λ c κs. search needs) returns)

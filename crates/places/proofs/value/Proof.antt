@@ -8,22 +8,10 @@ use borrow.Author.Needs.{needs}
 use Rattle.places.proofs.value.Statement.{statement}
 use Rattle.places.proofs.value.Tie as tie
 
-mul-number : tie.Need-mul-number
-mul-number c = search needs
-
-array-read-number : tie.Need-array-read-number
-array-read-number c = search needs
-
-bit-range-requires : tie.Need-bit-range-requires
-bit-range-requires c κs = search needs
-
-cast-result : tie.Need-cast-result
-cast-result c = search needs
-
 returns : tie.Need-returns
 unfolding value bitRange
 returns c = rw (c .bit-range .ensures) (refl, value-few (numbersIn (c .before .args .t1)) (c .before .args .of) (c .before .pre))
 
 pub value-spec : {M : Type 1} → statement M
 value-spec =
-    tie.close (tie.spec mul-number array-read-number bit-range-requires cast-result returns)
+    tie.close (tie.spec (λ c. search needs) (λ c. search needs) (λ c κs. search needs) (λ c. search needs) returns)

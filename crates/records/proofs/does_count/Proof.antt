@@ -5,15 +5,9 @@ use borrow.Author.Needs.{needs}
 use Rattle.records.proofs.does_count.Statement.{statement}
 use Rattle.records.proofs.does_count.Tie as tie
 
-flagged-for-requires : tie.Need-flagged-for-requires
-flagged-for-requires c κs = search needs
-
-either-requires : tie.Need-either-requires
-either-requires c κs = search needs
-
 returns : tie.Need-returns
 unfolding counts
 returns c = c .either .ensures ∙ rw (c .before .flagged-for .ensures)
 
 pub does-count-spec : {M : Type 1} → statement M
-does-count-spec = tie.close (tie.spec flagged-for-requires either-requires returns)
+does-count-spec = tie.close (tie.spec (λ c κs. search needs) (λ c κs. search needs) returns)

@@ -4,12 +4,6 @@ use borrow.Author.Needs.{needs}
 use Rattle.records.proofs.flagged_for.Statement.{statement}
 use Rattle.records.proofs.flagged_for.Tie as tie
 
-enum-told : tie.Need-enum-told
-enum-told c = search needs
-
-enum-told-2 : tie.Need-enum-told-2
-enum-told-2 c = search needs
-
 returns : tie.Need-returns
 unfolding flaggedFor
 returns c = rw (c .enum-told .given .1)
@@ -19,4 +13,4 @@ unfolding flaggedFor
 returns-2 c = rw (c .enum-told2 .given .1)
 
 pub flagged-for-spec : {M : Type 1} → statement M
-flagged-for-spec = tie.close (tie.spec enum-told enum-told-2 returns returns-2)
+flagged-for-spec = tie.close (tie.spec (λ c. search needs) (λ c. search needs) returns returns-2)

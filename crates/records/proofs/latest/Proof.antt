@@ -25,12 +25,6 @@ mul-triple-at c = omega (arith, record-inside _ _ _ _ _ (c .before .loop .inv) (
 triple-at-requires : tie.Need-triple-at-requires Inv-loop μ-loop
 triple-at-requires c κs = record-inside _ _ _ _ _ (c .before .loop .inv) (c .loop-test .taken)
 
-brought-to-requires : tie.Need-brought-to-requires Inv-loop μ-loop
-brought-to-requires c κs = search needs
-
-or-later-requires : tie.Need-or-later-requires Inv-loop μ-loop
-or-later-requires c κs = search needs
-
 loop-less : tie.Need-loop-less Inv-loop μ-loop
 loop-less c = omega (arith, c .before .before .before .loop-test .taken)
 
@@ -51,8 +45,8 @@ latest-spec =
     sub-left
     mul-triple-at
     triple-at-requires
-    brought-to-requires
-    or-later-requires
+    (λ c κs. search needs)
+    (λ c κs. search needs)
     loop-less
     loop-again
     returns)

@@ -7,18 +7,6 @@ use borrow.Author.Needs.{needs}
 use Rattle.records.proofs.or_later.Statement.{statement}
 use Rattle.records.proofs.or_later.Tie as tie
 
-enum-told : tie.Need-enum-told
-enum-told c = search needs
-
-enum-known-earlier : tie.Need-enum-known-earlier
-enum-known-earlier c = search needs
-
-enum-told-2 : tie.Need-enum-told-2
-enum-told-2 c = search needs
-
-enum-known-later : tie.Need-enum-known-later
-enum-known-later c = search needs
-
 returns : tie.Need-returns
 returns c = let a = c .before .before .before .before .before .earlier .given in
     let b = c .before .before .later .given in
@@ -39,10 +27,10 @@ pub or-later-spec : {M : Type 1} → statement M
 or-later-spec =
     tie.close
     (tie.spec
-    enum-told
-    enum-known-earlier
-    enum-told-2
-    enum-known-later
+    (λ c. search needs)
+    (λ c. search needs)
+    (λ c. search needs)
+    (λ c. search needs)
     returns
     returns-2
     returns-3

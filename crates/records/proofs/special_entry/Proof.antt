@@ -4,27 +4,6 @@ use borrow.Author.Needs.{needs}
 use Rattle.records.proofs.special_entry.Statement.{statement}
 use Rattle.records.proofs.special_entry.Tie as tie
 
-record-date-requires : tie.Need-record-date-requires
-record-date-requires c κs = search needs
-
-enum-told : tie.Need-enum-told
-enum-told c = search needs
-
-enum-known-date : tie.Need-enum-known-date
-enum-known-date c = search needs
-
-both-requires : tie.Need-both-requires
-both-requires c κs = search needs
-
-both-requires-2 : tie.Need-both-requires-2
-both-requires-2 c κs = search needs
-
-above-requires : tie.Need-above-requires
-above-requires c κs = search needs
-
-entry-if-requires : tie.Need-entry-if-requires
-entry-if-requires c κs = search needs
-
 returns : tie.Need-returns
 returns c = special-none _ _ _ (c .before .before .before .record-date .ensures) (c .enum-told .given .1)
 
@@ -37,12 +16,12 @@ pub special-entry-spec : {M : Type 1} → statement M
 special-entry-spec =
     tie.close
     (tie.spec
-    record-date-requires
-    enum-told
-    enum-known-date
-    both-requires
-    both-requires-2
-    above-requires
-    entry-if-requires
+    (λ c κs. search needs)
+    (λ c. search needs)
+    (λ c. search needs)
+    (λ c κs. search needs)
+    (λ c κs. search needs)
+    (λ c κs. search needs)
+    (λ c κs. search needs)
     returns
     returns-2)

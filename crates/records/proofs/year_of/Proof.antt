@@ -4,14 +4,8 @@ use borrow.Author.Needs.{needs}
 use Rattle.records.proofs.year_of.Statement.{statement}
 use Rattle.records.proofs.year_of.Tie as tie
 
-add-result : tie.Need-add-result
-add-result c = search needs
-
 returns : tie.Need-returns
 returns c = year-this _ (c .if1 .taken)
-
-add-result-2 : tie.Need-add-result-2
-add-result-2 c = search needs
 
 returns-2 : tie.Need-returns-2
 returns-2 c = year-last _ (c .before .if1 .left) (c .if2 .taken)
@@ -20,4 +14,4 @@ returns-3 : tie.Need-returns-3
 returns-3 c = year-none _ (c .before .if1 .left) (c .if2 .left)
 
 pub year-of-spec : {M : Type 1} → statement M
-year-of-spec = tie.close (tie.spec add-result returns add-result-2 returns-2 returns-3)
+year-of-spec = tie.close (tie.spec (λ c. search needs) returns (λ c. search needs) returns-2 returns-3)

@@ -4,15 +4,9 @@ use Rattle.meaning.specs.Description.{breaks5}
 use Rattle.sound.proofs.breaks5.Statement.{statement}
 use Rattle.sound.proofs.breaks5.Tie as tie
 
-nests-requires : tie.Need-nests-requires
-nests-requires c κs = search needs
-
-both-requires : tie.Need-both-requires
-both-requires c κs = search needs
-
 returns : tie.Need-returns
 unfolding breaks5
 returns c = cc
 
 pub breaks5-spec : {M : Type 1} → statement M
-breaks5-spec = tie.close (tie.spec nests-requires both-requires returns)
+breaks5-spec = tie.close (tie.spec (λ c κs. search needs) (λ c κs. search needs) returns)

@@ -8,21 +8,6 @@ use Rattle.sound.proofs.Laws.{known-test}
 use Rattle.sound.proofs.breaks6.Statement.{statement}
 use Rattle.sound.proofs.breaks6.Tie as tie
 
-is-dimension-requires : tie.Need-is-dimension-requires
-is-dimension-requires c κs = search needs
-
-octets-of-slot-requires : tie.Need-octets-of-slot-requires
-octets-of-slot-requires c κs = search needs
-
-both-requires : tie.Need-both-requires
-both-requires c κs = search needs
-
-table-twice-requires : tie.Need-table-twice-requires
-table-twice-requires c κs = search needs
-
-either-requires : tie.Need-either-requires
-either-requires c κs = search needs
-
 returns : tie.Need-returns
 unfolding breaks6
 returns c = c .either .ensures ∙ rw (c .before .table-twice .ensures, c .before .before .both .ensures, c .before .before .before .before .is-dimension .ensures, c .before .before .before .octets-of-slot .ensures .0, known-test _ _ _ (c .before .before .before .before .before .before .args .f .sets) (c .before .before .before .before .before .before .pre .2) (c .before .before .before .before .before .before .pre .1 .sets) (λ (x : ℕ). ltb 0 x))
@@ -31,9 +16,9 @@ pub breaks6-spec : {M : Type 1} → statement M
 breaks6-spec =
     tie.close
     (tie.spec
-    is-dimension-requires
-    octets-of-slot-requires
-    both-requires
-    table-twice-requires
-    either-requires
+    (λ c κs. search needs)
+    (λ c κs. search needs)
+    (λ c κs. search needs)
+    (λ c κs. search needs)
+    (λ c κs. search needs)
     returns)

@@ -8,18 +8,9 @@ use Rattle.sound.proofs.Laws.{known-test}
 use Rattle.sound.proofs.breaks7.Statement.{statement}
 use Rattle.sound.proofs.breaks7.Tie as tie
 
-octets-of-slot-requires : tie.Need-octets-of-slot-requires
-octets-of-slot-requires c κs = search needs
-
-mul-both : tie.Need-mul-both
-mul-both c = search needs
-
-both-requires : tie.Need-both-requires
-both-requires c κs = search needs
-
 returns : tie.Need-returns
 unfolding breaks7
 returns c = c .both .ensures ∙ rw (c .before .before .octets-of-slot .ensures .0) (known-test _ _ _ (c .before .before .before .before .args .f .slot) (c .before .before .before .before .pre .1) (c .before .before .before .before .pre .0 .slot) (λ (x : ℕ). ltb (8 * x) (c .before .before .before .before .args .f .bits)))
 
 pub breaks7-spec : {M : Type 1} → statement M
-breaks7-spec = tie.close (tie.spec octets-of-slot-requires mul-both both-requires returns)
+breaks7-spec = tie.close (tie.spec (λ c κs. search needs) (λ c. search needs) (λ c κs. search needs) returns)

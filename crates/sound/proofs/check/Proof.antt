@@ -6,9 +6,6 @@ use Rattle.meaning.proofs.Rules.{sound-length, sound-passed, sound-refused}
 use Rattle.sound.proofs.check.Statement.{statement}
 use Rattle.sound.proofs.check.Tie as tie
 
-breaks1-requires : tie.Need-breaks1-requires
-breaks1-requires c κs = search needs
-
 returns : tie.Need-returns
 returns c = sym (sound-length _ (sym (c .before .breaks1 .ensures) ∙ c .if1 .taken))
 
@@ -23,4 +20,4 @@ returns-3 c = let b = c .before .before .check-body .ensures .refused (c .before
     sym (sound-refused _ _ _ (sym (c .before .before .before .before .breaks1 .ensures) ∙ c .before .before .before .if1 .left) (b .fine) (b .breaks) (b .there) (c .before .if2 .left))
 
 pub check-spec : {M : Type 1} → statement M
-check-spec = tie.close (tie.spec breaks1-requires returns check-body-requires returns-2 returns-3)
+check-spec = tie.close (tie.spec (λ c κs. search needs) returns check-body-requires returns-2 (λ c. search needs) returns-3)

@@ -6,9 +6,6 @@ use Rattle.items.proofs.ReadLaws.{range-read}
 use Rattle.sound.proofs.judge.Statement.{statement}
 use Rattle.sound.proofs.judge.Tie as tie
 
-read-requires : tie.Need-read-requires
-read-requires c κs = search needs
-
 lowest-broken-requires : tie.Need-lowest-broken-requires
 lowest-broken-requires c κs = (omega arith, range-read _ _ (c .before .before .read .ensures), c .before .before .before .before .pre .1)
 
@@ -19,4 +16,4 @@ returns : tie.Need-returns
 returns c = judged-as _ _ _ _ (c .before .before .before .before .before .before .pre .1) (omega arith) (c .before .before .before .before .read .ensures) (c .before .lowest-broken .ensures) (c .noted .ensures)
 
 pub judge-spec : {M : Type 1} → statement M
-judge-spec = tie.close (tie.spec read-requires lowest-broken-requires noted-requires returns)
+judge-spec = tie.close (tie.spec (λ c κs. search needs) lowest-broken-requires noted-requires returns)

@@ -18,15 +18,6 @@ abbrev μ-loop : tie.MeasureT-loop
 loop-holds : tie.Need-loop-holds Inv-loop μ-loop
 loop-holds c = (omega arith, sym (given-none _ _ _))
 
-read-requires : tie.Need-read-requires Inv-loop μ-loop
-read-requires c κs = search needs
-
-is-table-named-requires : tie.Need-is-table-named-requires Inv-loop μ-loop
-is-table-named-requires c κs = search needs
-
-either-requires : tie.Need-either-requires Inv-loop μ-loop
-either-requires c κs = search needs
-
 loop-less : tie.Need-loop-less Inv-loop μ-loop
 loop-less c = let n = next-read _ _ (omega arith) (c .before .before .before .read .ensures) in omega arith
 
@@ -46,9 +37,9 @@ table-given-spec =
     Inv-loop
     μ-loop
     loop-holds
-    read-requires
-    is-table-named-requires
-    either-requires
+    (λ c κs. search needs)
+    (λ c κs. search needs)
+    (λ c κs. search needs)
     loop-less
     loop-again
     returns)

@@ -4,12 +4,6 @@ use borrow.Author.Needs.{needs}
 use Rattle.sound.proofs.table_twice.Statement.{statement}
 use Rattle.sound.proofs.table_twice.Tie as tie
 
-is-table-requires : tie.Need-is-table-requires
-is-table-requires c κs = search needs
-
-table-given-requires : tie.Need-table-given-requires
-table-given-requires c κs = search needs
-
 returns : tie.Need-returns
 returns c = rw (sym (c .before .before .is-table .ensures) ∙ c .before .if1 .taken) (c .table-given .ensures)
 
@@ -17,4 +11,4 @@ returns-2 : tie.Need-returns-2
 returns-2 c = rw (sym (c .before .is-table .ensures) ∙ c .if1 .left)
 
 pub table-twice-spec : {M : Type 1} → statement M
-table-twice-spec = tie.close (tie.spec is-table-requires table-given-requires returns returns-2)
+table-twice-spec = tie.close (tie.spec (λ c κs. search needs) (λ c κs. search needs) returns returns-2)

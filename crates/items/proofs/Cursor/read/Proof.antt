@@ -8,24 +8,12 @@ use borrow.Author.Needs.{needs}
 use Rattle.items.proofs.Cursor.read.Statement.{statement}
 use Rattle.items.proofs.Cursor.read.Tie as tie
 
-word-at-requires : tie.Need-word-at-requires
-word-at-requires c κs = search needs
-
-item-of-requires : tie.Need-item-of-requires
-item-of-requires c κs = search needs
-
 fields-of-requires : tie.Need-fields-of-requires
 fields-of-requires c κs = subst Ranged (sym (c .item-of .ensures)) (item-ranged _)
-
-add-t10 : tie.Need-add-t10
-add-t10 c = search needs
 
 returns : tie.Need-returns
 unfolding readAt
 returns c = rw (lt-ltb _ _ (c .before .before .before .if1 .taken)) (cc)
-
-fields-of-requires-2 : tie.Need-fields-of-requires-2
-fields-of-requires-2 c κs = search needs
 
 returns-2 : tie.Need-returns-2
 unfolding readAt
@@ -35,10 +23,10 @@ pub read-spec : {M : Type 1} → statement M
 read-spec =
     tie.close
     (tie.spec
-    word-at-requires
-    item-of-requires
+    (λ c κs. search needs)
+    (λ c κs. search needs)
     fields-of-requires
-    add-t10
+    (λ c. search needs)
     returns
-    fields-of-requires-2
+    (λ c κs. search needs)
     returns-2)

@@ -62,15 +62,6 @@ same-length-6 c =
     let loop = c .before .before .before .before .before .before .before .before .before .before .before .before .before .before .before .before .before .before .before .before .before .before .loop in
     read-some .kept .1 .1 .1 .1 .1 .1 .0 ∙ loop .inv .6
 
-returns : tie.Need-returns Inv-loop μ-loop
-returns c = tt
-
-sub-turns : tie.Need-sub-turns Inv-loop μ-loop
-sub-turns c = omega arith
-
-loop-less : tie.Need-loop-less Inv-loop μ-loop
-loop-less c = omega arith
-
 loop-again : tie.Need-loop-again Inv-loop μ-loop
 loop-again c =
     let read-some = c .before .before .before .before .before .before .before .before .before .before .before .before .before .before .read-some in
@@ -98,9 +89,6 @@ same-length-11 c = c .before .loop .inv .5
 same-length-12 : tie.Need-same-length-12 Inv-loop μ-loop
 same-length-12 c = c .before .loop .inv .6
 
-returns-2 : tie.Need-returns-2 Inv-loop μ-loop
-returns-2 c = tt
-
 pub run-spec : {M : Type 1} → statement M
 run-spec =
     tie.close
@@ -115,9 +103,9 @@ run-spec =
     same-length-4
     same-length-5
     same-length-6
-    returns
-    sub-turns
-    loop-less
+    (λ c. tt)
+    (λ c. omega arith)
+    (λ c. omega arith)
     loop-again
     same-length-7
     same-length-8
@@ -125,4 +113,4 @@ run-spec =
     same-length-10
     same-length-11
     same-length-12
-    returns-2)
+    (λ c. tt))

@@ -21,12 +21,6 @@ Inv-loop chunk line₀ held out₀ description₀ image₀ given₀ n₀ from₀
 abbrev μ-loop : tie.MeasureT-loop
 μ-loop chunk line₀ held out₀ description₀ image₀ given₀ n₀ from₀ line out description image given n from = length chunk - from
 
-loop-holds : tie.Need-loop-holds Inv-loop μ-loop
-loop-holds c = omega arith
-
-find-requires : tie.Need-find-requires Inv-loop μ-loop
-find-requires c κs = omega arith
-
 hold-requires : tie.Need-hold-requires Inv-loop μ-loop
 hold-requires c κs = (omega arith, (omega arith, omega arith))
 
@@ -44,12 +38,6 @@ same-length-4 c = c .before .before .before .before .before .before .before .loo
 
 same-length-5 : tie.Need-same-length-5 Inv-loop μ-loop
 same-length-5 c = c .before .before .before .before .before .before .before .loop .inv .6
-
-returns : tie.Need-returns Inv-loop μ-loop
-returns c = omega arith
-
-slice-reshare-prefix-give : tie.Need-slice-reshare-prefix-give Inv-loop μ-loop
-slice-reshare-prefix-give c = omega arith
 
 slice-aggregate-give : tie.Need-slice-aggregate-give Inv-loop μ-loop
 slice-aggregate-give c = sym (length-take-le _ _ (omega arith))
@@ -87,15 +75,6 @@ same-length-10 c =
     let loop = c .before .before .before .before .before .before .before .before .before .before .before .before .before .before .before .before .before .before .before .before .before .before .loop in
     give .kept .1 .1 .1 .1 .0 ∙ loop .inv .6
 
-returns-2 : tie.Need-returns-2 Inv-loop μ-loop
-returns-2 c = omega arith
-
-add-from : tie.Need-add-from Inv-loop μ-loop
-add-from c = omega arith
-
-loop-less : tie.Need-loop-less Inv-loop μ-loop
-loop-less c = omega arith
-
 loop-again : tie.Need-loop-again Inv-loop μ-loop
 loop-again c =
     let loop = c .before .before .before .before .before .before .before .before .before .before .before .before .before .before .before .before .before .before .before .before .before .before .loop in
@@ -120,25 +99,22 @@ same-length-14 c = c .before .loop .inv .5
 same-length-15 : tie.Need-same-length-15 Inv-loop μ-loop
 same-length-15 c = c .before .loop .inv .6
 
-returns-3 : tie.Need-returns-3 Inv-loop μ-loop
-returns-3 c = omega arith
-
 pub take-lines-spec : {M : Type 1} → statement M
 take-lines-spec =
     tie.close
     (tie.spec
     Inv-loop
     μ-loop
-    loop-holds
-    find-requires
+    (λ c. omega arith)
+    (λ c κs. omega arith)
     hold-requires
     same-length
     same-length-2
     same-length-3
     same-length-4
     same-length-5
-    returns
-    slice-reshare-prefix-give
+    (λ c. omega arith)
+    (λ c. omega arith)
     slice-aggregate-give
     give-requires
     same-length-6
@@ -146,13 +122,13 @@ take-lines-spec =
     same-length-8
     same-length-9
     same-length-10
-    returns-2
-    add-from
-    loop-less
+    (λ c. omega arith)
+    (λ c. omega arith)
+    (λ c. omega arith)
     loop-again
     same-length-11
     same-length-12
     same-length-13
     same-length-14
     same-length-15
-    returns-3)
+    (λ c. omega arith))

@@ -1,50 +1,38 @@
--- `lines::put::put_numbers`: the first number, then the others, each behind a space. Assumes nothing.
+-- `lines::put::put_numbers`: the loop's invariant, `Counted`: the first i numbers stand in `out`. The measure is how many are left. Assumes nothing.
+use Prim.Native.Nat.{_-_}
+use native.Mathlib.Omega.{arith}
+use lib.ListN.{length}
 use borrow.Author.Needs.{needs}
-use Rattle.lines.proofs.PutLaws.{rest-room, numbers-put}
+use mathlib.Core.Path.{_≡_}
+use Rattle.words.proofs.PutLaws.{put-long}
+use Rattle.lines.proofs.PutLaws.{Counted, counted-none, counted-room, counted-more, counted-all}
 use Rattle.lines.proofs.put.put_numbers.Statement.{statement}
 use Rattle.lines.proofs.put.put_numbers.Tie as tie
 
-shared-slice-read-put-number : tie.Need-shared-slice-read-put-number
-shared-slice-read-put-number c = search needs
+abbrev Inv-loop : tie.InvT-loop
+Inv-loop out₀ count numbers at₀ i₀ out at i = Counted out₀ numbers count out at i
 
-put-number-requires : tie.Need-put-number-requires
-put-number-requires c κs = search needs
+abbrev μ-loop : tie.MeasureT-loop
+μ-loop out₀ count numbers at₀ i₀ out at i = count - i
 
-sub-put-spaced : tie.Need-sub-put-spaced
-sub-put-spaced c = search needs
+loop-holds : tie.Need-loop-holds Inv-loop μ-loop
+loop-holds c = counted-none _ _ _ (search needs) (search needs) (search needs)
 
-part-put-spaced-start : tie.Need-part-put-spaced-start
-part-put-spaced-start c = search needs
-
-part-put-spaced-end : tie.Need-part-put-spaced-end
-part-put-spaced-end c = search needs
-
-put-spaced-requires : tie.Need-put-spaced-requires
-put-spaced-requires c κs =
-    let numbers = c .before .before .before .before .before .before .before .before .before .args .numbers .now in
-    let pre = c .before .before .before .before .before .before .before .before .before .pre in
-    let p = c .before .before .before .before .put-number in
-    rest-room numbers (pre .0) (pre .1) (p .ensures) (p .kept .0)
-
-same-length : tie.Need-same-length
-same-length c = search needs
-
-returns : tie.Need-returns
-returns c =
-    let numbers = c .before .before .before .before .before .before .before .before .before .before .before .before .args .numbers .now in
-    let pre = c .before .before .before .before .before .before .before .before .before .before .before .before .pre in
-    let p = c .before .before .before .before .before .before .before .put-number in
-    numbers-put numbers (pre .0) (pre .1) (p .ensures) (c .before .before .put-spaced .ensures)
+loop-again : tie.Need-loop-again Inv-loop μ-loop
+loop-again c = counted-more (c .before .before .before .before .before .loop .inv) (c .before .before .before .before .loop-test .taken) (c .before .before .put-number .ensures)
 
 pub put-numbers-spec : {M : Type 1} → statement M
 put-numbers-spec =
     tie.close
     (tie.spec
-    shared-slice-read-put-number
-    put-number-requires
-    sub-put-spaced
-    part-put-spaced-start
-    part-put-spaced-end
-    put-spaced-requires
-    same-length
-    returns)
+    Inv-loop
+    μ-loop
+    loop-holds
+    (λ c. omega arith)
+    (λ c. omega arith)
+    (λ c κs. counted-room (c .before .before .loop .inv) (c .before .loop-test .taken))
+    (λ c. omega arith)
+    (λ c. omega arith)
+    loop-again
+    (λ c. put-long (c .before .loop .inv .is))
+    (λ c. counted-all (c .before .loop .inv) (c .loop-test .left)))

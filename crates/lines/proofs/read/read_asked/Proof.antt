@@ -6,15 +6,6 @@ use Rattle.lines.proofs.ReadLaws.{asked-read}
 use Rattle.lines.proofs.read.read_asked.Statement.{statement}
 use Rattle.lines.proofs.read.read_asked.Tie as tie
 
-read-octets-requires : tie.Need-read-octets-requires
-read-octets-requires c κs = search needs
-
-read-octets-requires-2 : tie.Need-read-octets-requires-2
-read-octets-requires-2 c κs = search needs
-
-read-numbers-requires : tie.Need-read-numbers-requires
-read-numbers-requires c κs = search needs
-
 add-read-octets : tie.Need-add-read-octets
 add-read-octets c = omega (arith, c .before .before .before .before .before .before .before .before .before .before .before .before .before .before .pre .1 .1 .1 .1 .1 .few)
 
@@ -22,27 +13,6 @@ read-octets-requires-3 : tie.Need-read-octets-requires-3
 read-octets-requires-3 c κs =
     let pre = c .before .before .before .before .before .before .before .before .before .before .before .before .before .before .before .pre in
     (pre .0, (pre .1 .0, pre .1 .1 .1 .1 .0))
-
-both-requires : tie.Need-both-requires
-both-requires c κs = search needs
-
-both-requires-2 : tie.Need-both-requires-2
-both-requires-2 c κs = search needs
-
-both-requires-3 : tie.Need-both-requires-3
-both-requires-3 c κs = search needs
-
-both-requires-4 : tie.Need-both-requires-4
-both-requires-4 c κs = search needs
-
-same-length : tie.Need-same-length
-same-length c = search needs
-
-same-length-2 : tie.Need-same-length-2
-same-length-2 c = search needs
-
-same-length-3 : tie.Need-same-length-3
-same-length-3 c = search needs
 
 returns : tie.Need-returns
 returns c =
@@ -58,16 +28,16 @@ pub read-asked-spec : {M : Type 1} → statement M
 read-asked-spec =
     tie.close
     (tie.spec
-    read-octets-requires
-    read-octets-requires-2
-    read-numbers-requires
+    (λ c κs. search needs)
+    (λ c κs. search needs)
+    (λ c κs. search needs)
     add-read-octets
     read-octets-requires-3
-    both-requires
-    both-requires-2
-    both-requires-3
-    both-requires-4
-    same-length
-    same-length-2
-    same-length-3
+    (λ c κs. search needs)
+    (λ c κs. search needs)
+    (λ c κs. search needs)
+    (λ c κs. search needs)
+    (λ c. search needs)
+    (λ c. search needs)
+    (λ c. search needs)
     returns)

@@ -18,36 +18,6 @@ abbrev μ-loop : tie.MeasureT-loop
 loop-holds : tie.Need-loop-holds Inv-loop μ-loop
 loop-holds c = so-far-none _ _
 
-add-word : tie.Need-add-word Inv-loop μ-loop
-add-word c = omega arith
-
-word-requires : tie.Need-word-requires Inv-loop μ-loop
-word-requires c κs = search needs
-
-mul-number : tie.Need-mul-number Inv-loop μ-loop
-mul-number c = omega arith
-
-array-read-number : tie.Need-array-read-number Inv-loop μ-loop
-array-read-number c = omega arith
-
-number-requires : tie.Need-number-requires Inv-loop μ-loop
-number-requires c κs = search needs
-
-enum-known-read : tie.Need-enum-known-read Inv-loop μ-loop
-enum-known-read c = search needs
-
-mul-values : tie.Need-mul-values Inv-loop μ-loop
-mul-values c = omega arith
-
-array-write-values : tie.Need-array-write-values Inv-loop μ-loop
-array-write-values c = omega arith
-
-add-i : tie.Need-add-i Inv-loop μ-loop
-add-i c = omega arith
-
-loop-less : tie.Need-loop-less Inv-loop μ-loop
-loop-less c = omega arith
-
 loop-again : tie.Need-loop-again Inv-loop μ-loop
 loop-again c =
     let pre = c .before .before .before .before .before .before .before .before .pre in
@@ -55,9 +25,6 @@ loop-again c =
     let number = c .before .before .before .number in
     let w = word-at _ _ (pre .0) _ _ (c .before .before .before .before .word .ensures) in
     so-far-more (pre .1) s (omega arith) w (number .ensures) _ (c .before .read .given .1)
-
-enum-told : tie.Need-enum-told Inv-loop μ-loop
-enum-told c = search needs
 
 returns : tie.Need-returns Inv-loop μ-loop
 returns c =
@@ -74,17 +41,17 @@ read-numbers-spec =
     Inv-loop
     μ-loop
     loop-holds
-    add-word
-    word-requires
-    mul-number
-    array-read-number
-    number-requires
-    enum-known-read
-    mul-values
-    array-write-values
-    add-i
-    loop-less
+    (λ c. omega arith)
+    (λ c κs. search needs)
+    (λ c. omega arith)
+    (λ c. omega arith)
+    (λ c κs. search needs)
+    (λ c. search needs)
+    (λ c. omega arith)
+    (λ c. omega arith)
+    (λ c. omega arith)
+    (λ c. omega arith)
     loop-again
-    enum-told
+    (λ c. search needs)
     returns
     returns-2)

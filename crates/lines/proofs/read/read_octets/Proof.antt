@@ -9,21 +9,6 @@ use Rattle.lines.proofs.read.read_octets.Tie as tie
 returns : tie.Need-returns
 returns c = part-none _ _ (not-true _ (c .if1 .taken))
 
-word-requires : tie.Need-word-requires
-word-requires c κs = search needs
-
-octets-requires : tie.Need-octets-requires
-octets-requires c κs = search needs
-
-enum-known-read : tie.Need-enum-known-read
-enum-known-read c = search needs
-
-enum-told : tie.Need-enum-told
-enum-told c = search needs
-
-same-length : tie.Need-same-length
-same-length c = search needs
-
 returns-2 : tie.Need-returns-2
 returns-2 c =
     let pre = c .before .before .before .before .before .before .before .before .before .before .before .pre in
@@ -31,9 +16,6 @@ returns-2 c =
     let octets = c .before .before .before .before .before .octets in
     let there = not-false _ (c .before .before .before .before .before .before .before .before .if1 .left) in
     part-are _ _ there (data-are _ _ (pre .0) _ _ (word .ensures) (pre .1 .0) (octets .ensures) (pre .1 .1) _ (c .before .read .given .1))
-
-same-length-2 : tie.Need-same-length-2
-same-length-2 c = search needs
 
 returns-3 : tie.Need-returns-3
 returns-3 c =
@@ -48,11 +30,11 @@ read-octets-spec =
     tie.close
     (tie.spec
     returns
-    word-requires
-    octets-requires
-    enum-known-read
-    enum-told
-    same-length
+    (λ c κs. search needs)
+    (λ c κs. search needs)
+    (λ c. search needs)
+    (λ c. search needs)
+    (λ c. search needs)
     returns-2
-    same-length-2
+    (λ c. search needs)
     returns-3)

@@ -19,38 +19,17 @@ returns c = empty _ _ (omega arith)
 loop-holds : tie.Need-loop-holds Inv-loop μ-loop
 loop-holds c = so-far-none _ _
 
-shared-slice-read-b : tie.Need-shared-slice-read-b Inv-loop μ-loop
-shared-slice-read-b c = omega arith
-
 returns-2 : tie.Need-returns-2 Inv-loop μ-loop
 returns-2 c = no-digit _ _ (c .before .before .before .loop .i) (omega arith) (too-low _ (c .if2 .taken))
 
 returns-3 : tie.Need-returns-3 Inv-loop μ-loop
 returns-3 c = no-digit _ _ (c .before .before .before .before .loop .i) (omega arith) (too-high _ (c .if3 .taken))
 
-wide-requires : tie.Need-wide-requires Inv-loop μ-loop
-wide-requires c κs = tt
-
-sub-d : tie.Need-sub-d Inv-loop μ-loop
-sub-d c = omega arith
-
 returns-4 : tie.Need-returns-4 Inv-loop μ-loop
 returns-4 c = too-large _ _ _ _ (c .before .before .before .before .before .before .loop .inv) (omega arith) (omega arith)
 
 returns-5 : tie.Need-returns-5 Inv-loop μ-loop
 returns-5 c = too-large _ _ _ _ (c .before .before .before .before .before .before .before .loop .inv) (omega arith) (omega arith)
-
-mul-n : tie.Need-mul-n Inv-loop μ-loop
-mul-n c = omega arith
-
-add-n : tie.Need-add-n Inv-loop μ-loop
-add-n c = omega arith
-
-add-i : tie.Need-add-i Inv-loop μ-loop
-add-i c = omega arith
-
-loop-less : tie.Need-loop-less Inv-loop μ-loop
-loop-less c = omega arith
 
 loop-again : tie.Need-loop-again Inv-loop μ-loop
 loop-again c =
@@ -68,16 +47,16 @@ number-spec =
     μ-loop
     returns
     loop-holds
-    shared-slice-read-b
+    (λ c. omega arith)
     returns-2
     returns-3
-    wide-requires
-    sub-d
+    (λ c κs. tt)
+    (λ c. omega arith)
     returns-4
     returns-5
-    mul-n
-    add-n
-    add-i
-    loop-less
+    (λ c. omega arith)
+    (λ c. omega arith)
+    (λ c. omega arith)
+    (λ c. omega arith)
     loop-again
     returns-6)

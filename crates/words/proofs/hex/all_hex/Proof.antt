@@ -19,22 +19,10 @@ abbrev μ-loop : tie.MeasureT-loop
 loop-holds : tie.Need-loop-holds Inv-loop μ-loop
 loop-holds c = (omega arith, refl)
 
-shared-slice-read-b : tie.Need-shared-slice-read-b Inv-loop μ-loop
-shared-slice-read-b c = omega arith
-
-is-hex-requires : tie.Need-is-hex-requires Inv-loop μ-loop
-is-hex-requires c κs = tt
-
 returns : tie.Need-returns Inv-loop μ-loop
 returns c =
     let f = c .before .is-hex in
     sym (hex-stop _ _ (c .before .before .before .before .loop .inv .1) (omega arith) (sym (f .ensures) ∙ not-true (f .result) (c .if1 .taken)))
-
-add-i : tie.Need-add-i Inv-loop μ-loop
-add-i c = omega arith
-
-loop-less : tie.Need-loop-less Inv-loop μ-loop
-loop-less c = omega arith
 
 loop-again : tie.Need-loop-again Inv-loop μ-loop
 loop-again c =
@@ -51,10 +39,10 @@ all-hex-spec =
     Inv-loop
     μ-loop
     loop-holds
-    shared-slice-read-b
-    is-hex-requires
+    (λ c. omega arith)
+    (λ c κs. tt)
     returns
-    add-i
-    loop-less
+    (λ c. omega arith)
+    (λ c. omega arith)
     loop-again
     returns-2)

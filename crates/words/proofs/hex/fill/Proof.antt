@@ -22,41 +22,11 @@ loop-holds c =
     let n : length (octetsOf word) ≡ c .before .before .args .count = omega (arith, octets-length word) in
     (n, pasted-none _ _ _ (omega arith))
 
-mul-hex-value : tie.Need-mul-hex-value Inv-loop μ-loop
-mul-hex-value c = omega arith
-
-shared-slice-read-hex-value : tie.Need-shared-slice-read-hex-value Inv-loop μ-loop
-shared-slice-read-hex-value c = omega arith
-
 hex-value-requires : tie.Need-hex-value-requires Inv-loop μ-loop
 hex-value-requires c κs = hex-at _ _ (c .before .before .before .before .before .pre .0) (omega arith)
 
-mul-hex-value-2 : tie.Need-mul-hex-value-2 Inv-loop μ-loop
-mul-hex-value-2 c = omega arith
-
-add-hex-value : tie.Need-add-hex-value Inv-loop μ-loop
-add-hex-value c = omega arith
-
-shared-slice-read-hex-value-2 : tie.Need-shared-slice-read-hex-value-2 Inv-loop μ-loop
-shared-slice-read-hex-value-2 c = omega arith
-
 hex-value-requires-2 : tie.Need-hex-value-requires-2 Inv-loop μ-loop
 hex-value-requires-2 c κs = hex-at _ _ (c .before .before .before .before .before .before .before .pre .0) (omega arith)
-
-mul-out : tie.Need-mul-out Inv-loop μ-loop
-mul-out c = omega arith
-
-add-out : tie.Need-add-out Inv-loop μ-loop
-add-out c = omega arith
-
-slice-write-out : tie.Need-slice-write-out Inv-loop μ-loop
-slice-write-out c = omega arith
-
-add-i : tie.Need-add-i Inv-loop μ-loop
-add-i c = omega arith
-
-loop-less : tie.Need-loop-less Inv-loop μ-loop
-loop-less c = omega arith
 
 loop-again : tie.Need-loop-again Inv-loop μ-loop
 loop-again c =
@@ -79,18 +49,18 @@ fill-spec =
     Inv-loop
     μ-loop
     loop-holds
-    mul-hex-value
-    shared-slice-read-hex-value
+    (λ c. omega arith)
+    (λ c. omega arith)
     hex-value-requires
-    mul-hex-value-2
-    add-hex-value
-    shared-slice-read-hex-value-2
+    (λ c. omega arith)
+    (λ c. omega arith)
+    (λ c. omega arith)
     hex-value-requires-2
-    mul-out
-    add-out
-    slice-write-out
-    add-i
-    loop-less
+    (λ c. omega arith)
+    (λ c. omega arith)
+    (λ c. omega arith)
+    (λ c. omega arith)
+    (λ c. omega arith)
     loop-again
     same-length
     returns)

@@ -7,9 +7,6 @@ use Rattle.words.proofs.HexLaws.{dash-read, not-octets, no-dash, too-sh
 use Rattle.words.proofs.hex.octets.Statement.{statement}
 use Rattle.words.proofs.hex.octets.Tie as tie
 
-shared-slice-read-if2 : tie.Need-shared-slice-read-if2
-shared-slice-read-if2 c = search needs
-
 returns : tie.Need-returns
 returns c = dash-read (omega arith) (c .if2 .taken)
 
@@ -21,9 +18,6 @@ returns-3 c = not-octets (too-short _ (c .before .if1 .left) (omega arith))
 
 returns-4 : tie.Need-returns-4
 returns-4 c = not-octets (odd _ (c .before .before .if1 .left) (c .if4 .taken))
-
-all-hex-requires : tie.Need-all-hex-requires
-all-hex-requires c κs = search needs
 
 returns-5 : tie.Need-returns-5
 returns-5 c =
@@ -38,9 +32,6 @@ fill-requires c κs =
     let f = c .before .before .before .all-hex in
     (sym (f .ensures) ∙ not-false (f .result) (c .before .before .if5 .left), omega arith)
 
-same-length : tie.Need-same-length
-same-length c = search needs
-
 returns-7 : tie.Need-returns-7
 returns-7 c =
     let n = octets-length (c .before .before .before .before .before .before .before .before .before .before .before .before .args .word .now) in
@@ -53,14 +44,14 @@ pub octets-spec : {M : Type 1} → statement M
 octets-spec =
     tie.close
     (tie.spec
-    shared-slice-read-if2
+    (λ c. search needs)
     returns
     returns-2
     returns-3
     returns-4
-    all-hex-requires
+    (λ c κs. search needs)
     returns-5
     returns-6
     fill-requires
-    same-length
+    (λ c. search needs)
     returns-7)

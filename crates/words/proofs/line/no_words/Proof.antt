@@ -1,11 +1,11 @@
 -- `words::line::no_words`: the places of no words are computed. Assumes nothing.
 use mathlib.Core.Path.{refl}
-use Rattle.words.specs.Line.{placesOf, twenty, startsFrom, endsFrom}
+use Rattle.words.specs.Line.{placesOf, forty, startsFrom, endsFrom}
 use Rattle.words.proofs.line.no_words.Statement.{statement}
 use Rattle.words.proofs.line.no_words.Tie as tie
 
 returns : tie.Need-returns
-unfolding placesOf twenty startsFrom endsFrom
+unfolding placesOf forty startsFrom endsFrom
 returns c = refl
 
 pub no-words-spec : {M : Type 1} → statement M

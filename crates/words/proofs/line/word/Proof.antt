@@ -7,34 +7,16 @@ use Rattle.words.specs.Line.{wordIn}
 use Rattle.words.proofs.line.word.Statement.{statement}
 use Rattle.words.proofs.line.word.Tie as tie
 
-mul-start : tie.Need-mul-start
-mul-start c = search needs
-
-array-read-start : tie.Need-array-read-start
-array-read-start c = search needs
-
-mul-end : tie.Need-mul-end
-mul-end c = search needs
-
-array-read-end : tie.Need-array-read-end
-array-read-end c = search needs
-
-part-requires : tie.Need-part-requires
-part-requires c κs = search needs
-
 returns : tie.Need-returns
 unfolding wordIn
 returns c = c .part .ensures
-
-part-requires-2 : tie.Need-part-requires-2
-part-requires-2 c κs = search needs
 
 returns-2 : tie.Need-returns-2
 unfolding wordIn
 returns-2 c =
     let a = c .before .before .before .args in
-    let s : length (a .places .starts) ≡ 20 = search needs in
-    let e : length (a .places .ends) ≡ 20 = search needs in
+    let s : length (a .places .starts) ≡ 40 = search needs in
+    let e : length (a .places .ends) ≡ 40 = search needs in
     rw (
       List·getD-eq-default (a .places .starts) 0 {n = a .k} (omega arith),
       List·getD-eq-default (a .places .ends) 0 {n = a .k} (omega arith),
@@ -45,11 +27,11 @@ pub word-spec : {M : Type 1} → statement M
 word-spec =
     tie.close
     (tie.spec
-    mul-start
-    array-read-start
-    mul-end
-    array-read-end
-    part-requires
+    (λ c. search needs)
+    (λ c. search needs)
+    (λ c. search needs)
+    (λ c. search needs)
+    (λ c κs. search needs)
     returns
-    part-requires-2
+    (λ c κs. search needs)
     returns-2)

@@ -5,17 +5,11 @@ use Rattle.words.proofs.HexLaws.{digit-number, digit-letter}
 use Rattle.words.proofs.reply.hex_digit.Statement.{statement}
 use Rattle.words.proofs.reply.hex_digit.Tie as tie
 
-add-result : tie.Need-add-result
-add-result c = search needs
-
 returns : tie.Need-returns
 returns c = digit-number _ (omega arith)
-
-add-result-2 : tie.Need-add-result-2
-add-result-2 c = search needs
 
 returns-2 : tie.Need-returns-2
 returns-2 c = digit-letter _ (omega arith)
 
 pub hex-digit-spec : {M : Type 1} → statement M
-hex-digit-spec = tie.close (tie.spec add-result returns add-result-2 returns-2)
+hex-digit-spec = tie.close (tie.spec (λ c. search needs) returns (λ c. search needs) returns-2)

@@ -6,35 +6,14 @@ use Rattle.words.proofs.PutLaws.{put, no-room}
 use Rattle.words.proofs.reply.put_octets.Statement.{statement}
 use Rattle.words.proofs.reply.put_octets.Tie as tie
 
-put-octet-requires : tie.Need-put-octet-requires
-put-octet-requires c κs = search needs
-
-same-length : tie.Need-same-length
-same-length c = search needs
-
 returns : tie.Need-returns
 returns c = rw (← text-none _ (c .before .before .before .before .if1 .taken)) (c .before .before .put-octet .ensures)
 
 returns-2 : tie.Need-returns-2
 returns-2 c = no-room _ (omega (arith, text-length (c .before .before .before .before .args .octets .now) (omega arith)))
 
-sub-if3 : tie.Need-sub-if3
-sub-if3 c = search needs
-
 returns-3 : tie.Need-returns-3
 returns-3 c = no-room _ (omega (arith, text-length (c .before .before .before .before .before .args .octets .now) (omega arith)))
-
-hex-at-requires : tie.Need-hex-at-requires
-hex-at-requires c κs = search needs
-
-mul-result : tie.Need-mul-result
-mul-result c = search needs
-
-add-result : tie.Need-add-result
-add-result c = search needs
-
-same-length-2 : tie.Need-same-length-2
-same-length-2 c = search needs
 
 returns-4 : tie.Need-returns-4
 returns-4 c =
@@ -46,14 +25,14 @@ pub put-octets-spec : {M : Type 1} → statement M
 put-octets-spec =
     tie.close
     (tie.spec
-    put-octet-requires
-    same-length
+    (λ c κs. search needs)
+    (λ c. search needs)
     returns
     returns-2
-    sub-if3
+    (λ c. search needs)
     returns-3
-    hex-at-requires
-    mul-result
-    add-result
-    same-length-2
+    (λ c κs. search needs)
+    (λ c. search needs)
+    (λ c. search needs)
+    (λ c. search needs)
     returns-4)

@@ -9,20 +9,8 @@ use Rattle.words.proofs.reply.put_text.Tie as tie
 returns : tie.Need-returns
 returns c = no-room _ (omega arith)
 
-sub-if2 : tie.Need-sub-if2
-sub-if2 c = search needs
-
 returns-2 : tie.Need-returns-2
 returns-2 c = no-room _ (omega arith)
-
-copy-at-requires : tie.Need-copy-at-requires
-copy-at-requires c κs = search needs
-
-add-result : tie.Need-add-result
-add-result c = search needs
-
-same-length : tie.Need-same-length
-same-length c = search needs
 
 returns-3 : tie.Need-returns-3
 returns-3 c = put (omega arith) (c .before .before .copy-at .ensures) refl
@@ -30,4 +18,4 @@ returns-3 c = put (omega arith) (c .before .before .copy-at .ensures) refl
 pub put-text-spec : {M : Type 1} → statement M
 put-text-spec =
     tie.close
-    (tie.spec returns sub-if2 returns-2 copy-at-requires add-result same-length returns-3)
+    (tie.spec returns (λ c. search needs) returns-2 (λ c κs. search needs) (λ c. search needs) (λ c. search needs) returns-3)

@@ -1,0 +1,101 @@
+-- What asking leans on: the numbers of a row, what they name, and what a row's reply has. Assumes nothing.
+use mathlib.Core.Path.{_≡_, refl, sym, ap, _∙_}
+use mathlib.Core.List.{List, [], _∷_, map}
+use mathlib.Core.Bool.{Bool, true, false, true≢false}
+use Prim.Native.Nat.{ℕ, _+_, _*_, _≤_, _<_, zero-le}
+use native.Mathlib.Omega.{arith}
+use lib.ListN.{length, getD, take, drop, length-take, length-drop}
+use Rattle.meaning.specs.Basics.{part}
+use Rattle.meaning.specs.declared.ElementName.{ElementName}
+use Rattle.meaning.specs.declared.Place.{Place}
+use Rattle.meaning.specs.declared.Told.{Told}
+use Rattle.meaning.specs.Refusals.{toldNumbers, placePart, tablePartReply, elementPartReply}
+use Rattle.meaning.specs.Questions.{toldTo, octetsTo, imageAfter}
+use Rattle.words.specs.Hex.{hexText}
+use Rattle.words.specs.Number.{decimalText}
+use Rattle.words.specs.Put.{IsPut}
+use Rattle.lines.specs.declared.rows.Form.{Form}
+use Rattle.lines.specs.Answer.{rows, formOf, limits, asked, Within, behind, addWords, hexBehind, replyWords, replyText, roomFor, Replied}
+use Rattle.lines.specs.Ask.{Asks, Parted}
+use Rattle.lines.proofs.AnswerLaws.{row-fits}
+use Rattle.lines.proofs.PutLaws.{put-nothing, part-room, after-room, reply-put}
+
+-- numbers within the limits of row k, all of them and one
+pub fits-all : (k : ℕ) (most : List ℕ) → limits (formOf k) ≡ most → {kind : ℕ} {numbers : List ℕ} → Within kind numbers → kind ≡ k
+    → (i : ℕ) → getD numbers i 0 ≤ getD most i 0
+fits-all k most l w e = rw (e, l) at (w .each)
+
+pub fits-at : (k i most : ℕ) → getD (limits (formOf k)) i 0 ≡ most → {kind : ℕ} {numbers : List ℕ} → Within kind numbers → kind ≡ k → getD numbers i 0 ≤ most
+fits-at k i most l w e = rw l at (fits-all k _ refl w e i)
+
+-- a row told in full
+pub asks : {kind : ℕ} {d m numbers new later : List ℕ} {r : Told} (k : ℕ) → kind ≡ k → r ≡ toldTo (asked k numbers new) d m
+    → later ≡ imageAfter (asked k numbers new) d m → octetsTo (asked k numbers []) d later ≡ octetsTo (asked k numbers new) d m → Asks kind d m numbers new r later
+asks {kind} k e t i o =
+    let n : ℕ = formOf kind .told in
+    record { told = ap (λ (x : Told). take n (toldNumbers x)) (rw e t); image = rw e i; octets = rw e o }
+
+-- a row that none of those before is
+pub past : (k kind : ℕ) → k ≤ kind → (kind ≡ k → ⊥) → k + 1 ≤ kind
+past k kind h e = omega arith
+
+pub beyond : {A : Type 0} {kind : ℕ} → kind < length rows → length rows ≤ kind → A
+beyond l h = absurd (omega arith)
+
+-- a row that tells no numbers: the parts of the image
+pub asks-none : {kind : ℕ} {d m numbers new : List ℕ} {r : Told} (k : ℕ) → kind ≡ k → formOf k .told ≡ 0 → m ≡ imageAfter (asked k numbers new) d m
+    → octetsTo (asked k numbers []) d m ≡ octetsTo (asked k numbers new) d m → Asks kind d m numbers new r m
+asks-none k e t i o = record { told = rw (e, t); image = rw e i; octets = rw e o }
+
+-- a row that tells octets, and one that doesn't
+module _ {kind : ℕ} {d m numbers out : List ℕ} {at : ℕ} where
+  pub parted : {later : List ℕ} {r : ℕ} (k : ℕ) (octets : List ℕ) → kind ≡ k → formOf k .part ≡ true → octets ≡ octetsTo (asked k numbers []) d m → length octets ≤ length m + 330
+      → IsPut out at (behind at (hexText octets)) later r → Parted kind d m numbers out at later r
+  unfolding hexBehind
+  parted k octets e t o l p = record { put = rw (e, t, ← o) p; short = λ f. rw (e, ← o) l }
+
+  pub not-parted : kind < length rows → (kind ≡ 3 → ⊥) → (kind ≡ 5 → ⊥) → (kind ≡ 11 → ⊥) → at ≤ length out → Parted kind d m numbers out at out at
+  unfolding hexBehind
+  not-parted h a b c l =
+      let e : formOf kind .part ≡ false = row-fits kind h .part a b c in
+      record { put = rw e (put-nothing out at l); short = λ f. absurd (true≢false (sym f ∙ e)) }
+
+-- a part of the image is no longer than the image
+part-short : (m : List ℕ) (p : Place) → length (placePart m p) ≤ length m
+unfolding placePart part
+part-short m (Place.At p n) = omega (arith, length-take n (drop (p .0) m), length-drop (p .0) m)
+part-short m (Place.Refused r) = zero-le
+
+pub table-short : (d m : List ℕ) (mfr num : ℕ) (octets : List ℕ) → octets ≡ tablePartReply d m mfr num → length octets ≤ length m
+unfolding tablePartReply
+table-short d m mfr num octets e = rw e (part-short m _)
+
+pub element-short : (d m : List ℕ) (element : ElementName) (octets : List ℕ) → octets ≡ elementPartReply d m element → length octets ≤ length m
+unfolding elementPartReply
+element-short d m element octets e = rw e (part-short m _)
+
+-- THE WHOLE REPLY: what was asked, then its numbers, its octets and the image afterwards, put one after another
+pub told-few : {kind : ℕ} {f : Form} → f ≡ formOf kind → kind < length rows → f .told ≤ 5
+told-few {kind} e h = rw e (row-fits kind h .told)
+
+module _ {kind : ℕ} {d m numbers new out told later : List ℕ} {f : Form} {t : Told} (is-form : f ≡ formOf kind) (inside : kind < length rows) (is-told : told ≡ toldNumbers t)
+    (a : Asks kind d m numbers new t later) (same : length later ≡ length m) (room : roomFor m ≤ length out) {now₁ : List ℕ} {at₁ : ℕ}
+    (p₁ : IsPut out 0 (addWords [] (map decimalText (take (f .told) told))) now₁ at₁) where
+  numbers-put : IsPut out 0 (addWords [] (map decimalText (take (formOf kind .told) (toldNumbers (toldTo (asked kind numbers new) d m))))) now₁ at₁
+  numbers-put = rw (is-form, is-told, a .told) at p₁
+
+  pub room-for-part : at₁ + 2 * length later + 662 ≤ length now₁
+  room-for-part = part-room later [] [] _ (formOf kind .told) false false (row-fits kind inside .told) (omega arith) (λ e. zero-le) zero-le numbers-put
+
+  module _ {now₂ : List ℕ} {at₂ : ℕ} (p₂ : Parted kind d later numbers now₁ at₁ now₂ at₂) where
+    pub room-for-image : at₂ + 2 * length later + 2 ≤ length now₂
+    room-for-image =
+        after-room later _ later _ (formOf kind .told) (formOf kind .part) false (row-fits kind inside .told) (omega arith) (p₂ .short) (omega arith) numbers-put (p₂ .put)
+
+    pub whole-put : {now₃ last : List ℕ} {at₃ r : ℕ} → IsPut now₂ at₂ (hexBehind at₂ (f .after) later) now₃ at₃ → IsPut now₃ at₃ (10 ∷ []) last r
+        → Replied out (replyText kind d m numbers new) last r
+    unfolding replyText replyWords
+    whole-put p₃ p₄ =
+        rw (← a .image, ← a .octets)
+        (reply-put later _ later _ (formOf kind .told) (formOf kind .part) (formOf kind .after) (row-fits kind inside .told) (omega arith) (p₂ .short) (omega arith)
+        numbers-put (p₂ .put) (rw is-form at p₃) p₄)

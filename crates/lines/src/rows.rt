@@ -1,0 +1,132 @@
+// The questions, a row each: a name, the form of the lines that ask it, and what its reply tells. specs/Answer.antt has the same table, with what each row asks.
+ghost use mathlib.Core.Path.{_≡_};
+ghost use Prim.Native.Nat.{_<_};
+ghost use lib.ListN.{length};
+ghost use Rattle.lines.specs.Answer.{rows, kindOf, formOf};
+
+// The rows, by their places in the table.
+pub const CHECK: usize = 0;
+
+pub const LAYOUT: usize = 1;
+
+pub const TABLE: usize = 2;
+
+pub const TABLEPART: usize = 3;
+
+pub const WHERE: usize = 4;
+
+pub const OCTETS: usize = 5;
+
+pub const NUMBER: usize = 6;
+
+pub const WRITERANGE: usize = 7;
+
+pub const WRITEOCTETS: usize = 8;
+
+pub const WRITENUMBER: usize = 9;
+
+pub const TIER: usize = 10;
+
+pub const MATRIX: usize = 11;
+
+pub const ROWS: usize = 12;
+
+// The form of a line: how many words it has; whether M is there, behind the name and D; how many
+// numbers stand behind M, and the most that each may come to; whether DATA stands last. And its
+// reply: how many numbers it tells, whether octets, whether the image afterwards.
+pub struct Form {
+    pub words: usize,
+    pub image: bool,
+    pub numbers: usize,
+    pub most: [u64; 7],
+    pub given: bool,
+    pub told: usize,
+    pub part: bool,
+    pub after: bool,
+}
+
+// What the numbers may come to: mfr 1 and num 65,535; the five of a moment 2^32 - 1 and what 1; an
+// offset, the six numbers of an element and a value are not limited.
+const NONE: [u64; 7] = [0; 7];
+
+const TABLE_MOST: [u64; 7] = [1, 65535, 0, 0, 0, 0, 0];
+
+const RANGE_MOST: [u64; 7] = [1, 65535, u64::MAX, 0, 0, 0, 0];
+
+const ELEMENT_MOST: [u64; 7] = [
+    u64::MAX,
+    u64::MAX,
+    u64::MAX,
+    u64::MAX,
+    u64::MAX,
+    u64::MAX,
+    0,
+];
+
+const VALUE_MOST: [u64; 7] = [u64::MAX; 7];
+
+const TIER_MOST: [u64; 7] = [
+    4294967295,
+    4294967295,
+    4294967295,
+    4294967295,
+    4294967295,
+    1,
+    0,
+];
+
+// Which row a name is of; ROWS where it is of none.
+pub fn kind_of(name: &[u8]) -> usize
+    ensures { λ r. ⌜ r ≡ kindOf (now (name .entry)) ⌝ }
+{
+    words::index_of(
+        name,
+        b"check layout table tablepart where octets number writerange writeoctets writenumber tier matrix",
+    )
+}
+
+// How many numbers a reply tells: none, a refusal's, or one or two of the answer's own behind those.
+const NOTHING: usize = 0;
+
+const REFUSAL: usize = 3;
+
+const ONE_MORE: usize = 4;
+
+const TWO_MORE: usize = 5;
+
+// A row of the table: the fields of Form, in their order.
+struct Row(usize, bool, usize, [u64; 7], bool, usize, bool, bool);
+
+const TABLE_ROWS: [Row; ROWS] = [
+    Row(2, false, 0, NONE, false, REFUSAL, false, false),
+    Row(3, true, 0, NONE, false, ONE_MORE, false, false),
+    Row(5, true, 2, TABLE_MOST, false, TWO_MORE, false, false),
+    Row(5, true, 2, TABLE_MOST, false, NOTHING, true, false),
+    Row(9, true, 6, ELEMENT_MOST, false, TWO_MORE, false, false),
+    Row(9, true, 6, ELEMENT_MOST, false, NOTHING, true, false),
+    Row(9, true, 6, ELEMENT_MOST, false, ONE_MORE, false, false),
+    Row(7, true, 3, RANGE_MOST, true, REFUSAL, false, true),
+    Row(10, true, 6, ELEMENT_MOST, true, REFUSAL, false, true),
+    Row(10, true, 7, VALUE_MOST, false, REFUSAL, false, true),
+    Row(9, true, 6, TIER_MOST, false, TWO_MORE, false, false),
+    Row(3, true, 0, NONE, false, REFUSAL, true, false),
+];
+
+// The form of the lines that ask the question of a row, and its reply.
+pub fn form_of(kind: usize) -> Form
+    requires { ⌜ kind < length rows ⌝ }
+    ensures { λ r. ⌜ r ≡ formOf kind ⌝ }
+{
+    let row = TABLE_ROWS[kind];
+    let most = row.3;
+    Form {
+        words: row.0,
+        image: row.1,
+        numbers: row.2,
+        most,
+        given: row.4,
+        told: row.5,
+        part: row.6,
+        after: row.7,
+    }
+}

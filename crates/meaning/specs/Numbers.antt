@@ -1,0 +1,80 @@
+-- THE REFUSALS BY NAME: the table "Refusal numbers" of the scope document. A refusal is its number and what it reports (`Refusal`, src/lib.rt): 2 to 7 report the
+-- item, 9 the item and octet, others nothing more. Assumes nothing.
+use Prim.Native.Nat.{ℕ}
+use mathlib.Core.Bool.{Bool, _&&_, _||_}
+use Rattle.meaning.specs.Basics.{_=?_, _≤?_}
+use Rattle.meaning.specs.declared.Refusal.{Refusal}
+
+-- WHICH NUMBER REPORTS WHAT
+abbrev pub reportsItem : ℕ → Bool
+reportsItem n = 2 ≤? n && n ≤? 7 || n =? 9
+
+abbrev pub reportsOctet : ℕ → Bool
+reportsOctet n = n =? 9
+
+-- the last number on the paper
+abbrev pub lastNumber : ℕ
+lastNumber = 20
+
+-- THE NAMES
+-- a number that reports nothing more; 0, where nothing is refused
+abbrev pub numbered : ℕ → Refusal
+numbered n = record { number = n; item = 0; octet = 0 }
+
+abbrev pub nothingRefused : Refusal
+nothingRefused = numbered 0
+
+-- description length is 0, over 2,048 or not a multiple of 4
+abbrev pub descriptionLength : Refusal
+descriptionLength = numbered 1
+
+-- an item breaks one of the rules 2 to 7
+abbrev pub breaksRule : (rule item : ℕ) → Refusal
+breaksRule n i = record { number = n; item = i; octet = 0 }
+
+abbrev pub imageTooLong : Refusal
+imageTooLong = numbered 8
+
+-- the item that doesn't end inside the image, and its starting octet
+abbrev pub imageShort : (item octet : ℕ) → Refusal
+imageShort i p = record { number = 9; item = i; octet = p }
+
+abbrev pub noTable : Refusal
+noTable = numbered 10
+
+abbrev pub noElement : Refusal
+noElement = numbered 11
+
+-- offset + length over the table's size
+abbrev pub outsideTable : Refusal
+outsideTable = numbered 12
+
+abbrev pub notWritable : Refusal
+notWritable = numbered 13
+
+-- range holds an octet of a dimension
+abbrev pub holdsDimension : Refusal
+holdsDimension = numbered 14
+
+-- lent data's length isn't the element's, or the number needs more octets
+abbrev pub wrongSize : Refusal
+wrongSize = numbered 15
+
+-- not a real date, or not a time
+abbrev pub notADate : Refusal
+notADate = numbered 16
+
+-- no season chosen by that date
+abbrev pub noSeason : Refusal
+noSeason = numbered 17
+
+abbrev pub seasonChangeArmed : Refusal
+seasonChangeArmed = numbered 18
+
+-- season or special schedule without a row or column
+abbrev pub noRowOrColumn : Refusal
+noRowOrColumn = numbered 19
+
+-- Table 51 isn't 9 octets, or Table 54 isn't the size that it says
+abbrev pub notACalendar : Refusal
+notACalendar = numbered 20
