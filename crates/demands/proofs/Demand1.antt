@@ -1,7 +1,7 @@
 -- DEMAND 1, for every description, image and question. Assumes nothing.
-use Prim.Native.Nat.{ℕ, _+_}
+use Prim.Native.Nat.{ℕ}
 use mathlib.Core.Path.{_≡_, refl, sym, ap, subst}
-use mathlib.Core.List.{List, [], _∷_, _++_, append-nil}
+use mathlib.Core.List.{List, []}
 use mathlib.Core.Option.{Option, some, none}
 use lib.ListN.{replicate}
 use native.Mathlib.Omega.{arith}

@@ -1,7 +1,7 @@
 -- Of demand 1: each reply's refusal is the first of the question's list that is given. An image is opened, and then none of 1 to 9 is given and laying out tells
 -- the tables and elements that the other tests look at; or one of 1 to 9 is given, and every question gets it. Assumes nothing.
 use Prim.Native.Nat.{ℕ, _+_, _*_, _^_, _≤_}
-use mathlib.Core.Path.{_≡_, refl, sym, ap, _∙_, subst}
+use mathlib.Core.Path.{_≡_, refl, subst}
 use mathlib.Core.Bool.{Bool, true, false, not, _&&_, _||_}
 use mathlib.Core.List.{List, [], _∷_, _++_}
 use mathlib.Core.Option.{Option, some, none}

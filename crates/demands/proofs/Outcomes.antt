@@ -3,7 +3,7 @@
 use Prim.Native.Nat.{ℕ}
 use mathlib.Core.Path.{_≡_, refl, _∙_, ap, sym, subst}
 use mathlib.Core.Logic.{inl, inr}
-use mathlib.Core.List.{List, [], _∷_}
+use mathlib.Core.List.{List}
 use native.Mathlib.Omega.{arith}
 use Rattle.meaning.specs.declared.Reply.{Reply}
 use Rattle.meaning.specs.Layout.{Placed, Seat, Slots, unreadDimension, bitOutside, unequalElements, short, noItem, Layout, laidOut, stoppedAt, layOut}

@@ -3,13 +3,12 @@
 -- A question's refusals are a list here, in the order that 01 states, each with the test by which it is given. The tests are made apart from one another, so the
 -- list alone says which is given first. 1 to 7 are given exactly by the rules (`CheckSays`, crate meaning, specs/Passed), and 9 exactly where the walk first runs
 -- past the end (`ShortExactly`, specs/Demand3). proofs/Demand1.antt proves `Demand1` for every description and image.
-use Prim.Native.Nat.{ℕ, _+_, _-_, _^_, _<_, _≤_}
+use Prim.Native.Nat.{ℕ, _+_, _^_, _<_, _≤_}
 use mathlib.Core.Path.{_≡_}
-use mathlib.Core.Logic.{_⊎_}
 use mathlib.Core.Bool.{Bool, true, false, not, _&&_, _||_}
 use mathlib.Core.List.{List, [], _∷_, _++_}
 use mathlib.Core.Option.{Option, some, none}
-use lib.ListN.{length, getD, replicate}
+use lib.ListN.{length, replicate}
 use Rattle.meaning.specs.Basics.{if_then_else_, _=?_, _<?_, _≤?_, part}
 use Rattle.meaning.specs.declared.Chosen.{Chosen}
 use Rattle.meaning.specs.declared.Controls.{Controls}

@@ -1,7 +1,7 @@
 -- The reply to a line: docs/LINES.md. A question is a row of one table: its name, the form of its lines, what it asks, and how much of the outcome its reply tells.
 -- What it comes to is said of every question in one place (crate meaning, specs/Questions). Octets are ASCII: a space is 32, a line feed 10, `?` 63. Assumes nothing.
 use Prim.Native.Nat.{ℕ, _+_, _-_, _*_, _≤_}
-use Prim.Native.Char.{Char, code}
+use Prim.Native.Char.{code}
 use Prim.Native.String.{String, [] as end, _∷_ as _then_}
 use mathlib.Core.Bool.{Bool, true, false, _&&_}
 use mathlib.Core.List.{List, [], _∷_, _++_, map}

@@ -1,9 +1,7 @@
 -- `lines::put::put_numbers`: the loop's invariant, `Counted`: the first i numbers stand in `out`. The measure is how many are left. Assumes nothing.
 use Prim.Native.Nat.{_-_}
 use native.Mathlib.Omega.{arith}
-use lib.ListN.{length}
 use borrow.Author.Needs.{needs}
-use mathlib.Core.Path.{_≡_}
 use Rattle.words.proofs.PutLaws.{put-long}
 use Rattle.lines.proofs.PutLaws.{Counted, counted-none, counted-room, counted-more, counted-all}
 use Rattle.lines.proofs.put.put_numbers.Statement.{statement}

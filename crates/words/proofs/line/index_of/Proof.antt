@@ -3,7 +3,7 @@ use mathlib.Core.Path.{_∙_, sym}
 use Prim.Native.Nat.{_-_}
 use native.Mathlib.Omega.{arith}
 use borrow.Author.Needs.{needs}
-use Rattle.words.specs.Line.{lineWords, splitOf}
+use Rattle.words.specs.Line.{lineWords}
 use Rattle.words.proofs.LineLaws.{count-of, word-of, same-is}
 use Rattle.words.proofs.IndexLaws.{Looked, looked-none, looked-here, looked-on, looked-all}
 use Rattle.words.proofs.line.index_of.Statement.{statement}
