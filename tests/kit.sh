@@ -58,6 +58,17 @@ build_lines() {
     }
 }
 
+# build_archive FOLDER: `archive` is the library for C: what BILASHONGE_ARCHIVE names, else built by `make`; what that prints is shown where it fails.
+build_archive() {
+    archive=${BILASHONGE_ARCHIVE:-target/staticlib/libbilashonge.a}
+    [ -z "${BILASHONGE_ARCHIVE:-}" ] || return 0
+    need make make
+    make >"$1/log" || {
+        cat "$1/log"
+        return 1
+    }
+}
+
 # same_replies WHAT REQUESTS EXPECTED REPLIES: fails unless both files of replies are the same and not empty; shows the first lines that differ.
 same_replies() {
     if [ -s "$3" ] && cmp -s "$3" "$4"; then return; fi

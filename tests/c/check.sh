@@ -35,14 +35,7 @@ for standard in c++11 c++17; do compile_cpp "$work/alone.o" "$work/alone.c" -Iin
 echo 'header: compiles alone, without a warning, as C99, C11, C++11 and C++17'
 
 # THE ARCHIVE: the header's functions and no others, nothing kept, and nothing called but what every compiler may call
-archive=${BILASHONGE_ARCHIVE:-target/staticlib/libbilashonge.a}
-[ -n "${BILASHONGE_ARCHIVE:-}" ] || {
-    need make make
-    make >"$work/log" || {
-        cat "$work/log"
-        exit 1
-    }
-}
+build_archive "$work"
 "${target_tools}nm" "$archive" >"$work/names"
 diff <(grep -o 'bilashonge_[a-z_]*(' include/bilashonge.h | tr -d '(' | sort) <(awk 'NF >= 3 && $2 ~ /[A-Z]/ { print $3 }' "$work/names" | sort)
 kept=$(awk 'NF >= 3 && $2 ~ /[bBdDcCsSgGuvVwWi]/' "$work/names")

@@ -1,5 +1,5 @@
 -- What is found lies inside the image, and over a description of whole items; so a write that is accepted fits where it goes. Assumes nothing.
-use Prim.Native.Nat.{ℕ, _+_, _^_, _≤_}
+use Prim.Native.Nat.{ℕ, _+_, _^_, _<_, _≤_}
 use mathlib.Core.Path.{_≡_, refl, _∙_, ap, sym, subst}
 use mathlib.Core.Bool.{Bool, true, false, not}
 use mathlib.Core.List.{List}
@@ -8,32 +8,27 @@ use lib.ListN.{length}
 use borrow.Author.Tests.{ltb-false, eqb-true}
 use native.Mathlib.Omega.{arith}
 use Rattle.offsets.specs.declared.TableOffset.{TableOffset}
-use Rattle.offsets.specs.declared.TableStart.{TableStart}
 use Rattle.meaning.specs.Basics.{if_then_else_, _<?_, _=?_}
 use Rattle.meaning.specs.declared.ElementName.{ElementName}
 use Rattle.meaning.specs.declared.Refusal.{Refusal}
 use Rattle.meaning.specs.declared.Place.{Place}
-use Rattle.meaning.specs.Description.{fieldsAt, isUint}
+use Rattle.meaning.specs.Description.{itemCount, fieldsAt, isUint}
 use Rattle.meaning.specs.Layout.{Placed, Seat, tableNamed, numberAt}
-use Rattle.meaning.specs.Refusals.{opened, openImage, seatPlace, elementPlaceReply, integerPlace, writable, anyDimension, tableAround, allowed, allowedAt, fitting, rangeOf, rangeIn, rangePlace, octetsPlaceIn, numberPlaceIn}
+use Rattle.meaning.specs.Refusals.{openImage, seatPlace, elementPlaceReply, integerPlace, writable, anyDimension, tableAround, allowed, allowedAt, fitting, rangeOf, rangeIn, rangePlace, octetsPlaceIn, numberPlaceIn}
 use Rattle.meaning.proofs.Ranges.{fields-range}
-use Rattle.meaning.specs.Numbers.{noTable, noElement, outsideTable, notWritable, holdsDimension, wrongSize}
-use Rattle.laying.proofs.Cover.{total-inside}
-use Rattle.laying.proofs.Found.{whole-items, element-own, element-ends, table-ends}
-use Rattle.laying.proofs.Opened.{Came, opens, refuses, came, opened-image, table-laid, where-opens, table-opens}
+use Rattle.meaning.specs.Numbers.{outsideTable, notWritable, holdsDimension, wrongSize}
+use Rattle.laying.proofs.LaidOut.{total-inside}
+use Rattle.laying.proofs.Found.{element-own, element-ends, table-ends}
+use Rattle.laying.proofs.Opened.{Came, opens, refuses, came, opened-image, table-laid, where-opens, table-opens, integer-exactly}
 use Rattle.octets.specs.Octets.{numberRead}
 use Rattle.octets.proofs.Laws.{read-there}
-use Rattle.places.specs.declared.Asked.{Asked}
-use Rattle.places.specs.declared.TableFound.{TableFound}
-use Rattle.places.specs.declared.TableFound.the-variants.{No, Yes}
-use Rattle.places.specs.Opening.{tableFound, answerTo}
-use Rattle.access.specs.Access.{Whole, WholeAt, FitsAt, Inside, elementsIn}
-use Rattle.access.proofs.Laws.{octets-told, number-told}
+use Rattle.access.specs.Access.{FitsAt, Inside}
+use Rattle.access.proofs.Laws.{elementsIn, octets-told, number-told}
 
 -- AN ELEMENT
 pub record Stands (d img : List ℕ) (q : ElementName) (p n : ℕ) : Type 0 where
   pub inside : p + n ≤ length img
-  pub whole : Whole d
+  pub there : q .item < itemCount d
   pub few : isUint (fieldsAt d (q .item)) ≡ true → n ≤ 4
 
 pub stands : (d img : List ℕ) (q : ElementName) (p n : ℕ) → elementPlaceReply d img q ≡ Place.At (record { 0 = p }) n → Stands d img q p n
@@ -41,71 +36,16 @@ stands d img q p n e =
     let a = where-opens d img q p n e in
     record {
       inside = omega (arith, element-ends a, total-inside d img (a .seats) (a .elements) (a .slots) (a .total) (a .opens .laid));
-      whole = whole-items d (a .opens .passes);
-      few = λ u. omega (arith, element-own a .long u, fields-range d (q .item) .octets);
+      there = element-own a .there;
+      few = λ u. let k = eqb-true (fieldsAt d (q .item) .kind) 2 u in omega (arith, element-own a .long (omega arith), fields-range d (q .item) .integer k);
     }
-
--- of an image that is opened, a place tells that the description has whole items
-pub whole-at : (d img : List ℕ) (q : ElementName) (v : Place) → v ≡ elementPlaceReply d img q → WholeAt d v
-whole-at d img q (Place.At p n) e = stands d img q (p .0) n (sym e) .whole
-whole-at d img q (Place.Refused r) e = tt
-
--- an integer's place is where the element is
-integer-only : (d : List ℕ) (i : ℕ) (v : Place) (p n : ℕ) → integerPlace d i v ≡ Place.At (record { 0 = p }) n → (v ≡ Place.At (record { 0 = p }) n) × (isUint (fieldsAt d i) ≡ true)
-unfolding integerPlace
-integer-only d i (Place.Refused r) p n e = let z : _≡_ {A = ℕ} 0 1 = cc in absurd (omega arith)
-integer-only d i (Place.At s l) p n e = go (isUint (fieldsAt d i)) refl e
-  where
-    go : (b : Bool) → isUint (fieldsAt d i) ≡ b → (if b then Place.At s l else Place.Refused noElement) ≡ Place.At (record { 0 = p }) n
-        → (Place.At s l ≡ Place.At (record { 0 = p }) n) × (isUint (fieldsAt d i) ≡ true)
-    go true g e = (e, g)
-    go false g e = let z : _≡_ {A = ℕ} 0 1 = cc in absurd (omega arith)
-
--- so does an integer's place
-pub whole-integer : (d img : List ℕ) (q : ElementName) (v : Place) → v ≡ integerPlace d (q .item) (elementPlaceReply d img q) → WholeAt d v
-whole-integer d img q (Place.Refused r) e = tt
-whole-integer d img q (Place.At p n) e = stands d img q (p .0) n (integer-only d (q .item) (elementPlaceReply d img q) (p .0) n (sym e) .0) .whole
 
 -- an integer is read as it stands
 pub read-integer : (d img : List ℕ) (q : ElementName) (p n : ℕ) → integerPlace d (q .item) (elementPlaceReply d img q) ≡ Place.At (record { 0 = p }) n → numberRead img p n ≡ numberAt img p n
 read-integer d img q p n e =
-    let i = integer-only d (q .item) (elementPlaceReply d img q) p n e in
-    let s = stands d img q p n (i .0) in
-    read-there img p n (omega (arith, s .few (i .1))) (s .inside)
-
-no-not-yes : (i : ℕ) (s : TableStart) (l : ℕ) → No ≡ Yes i s l → ⊥
-no-not-yes i s l e = let z : _≡_ {A = ℕ} 0 1 = cc in omega arith
-
--- a table found is one replied
-found-only : (t : Option Seat) (i : ℕ) (s : TableStart) (l : ℕ) → tableFound t ≡ Yes i s l → seatPlace t ≡ Place.At (record { 0 = s .0 }) l
-unfolding tableFound seatPlace
-found-only none i s l e = absurd (no-not-yes i s l e)
-found-only (some t) i s l e = ap (λ (x : TableFound). placeBy x) e
-  where
-    placeBy : TableFound → Place
-    placeBy No = Place.Refused noTable
-    placeBy (Yes i s l) = Place.At (record { 0 = s .0 }) l
-
--- A TABLE FOUND: where it ends, and that the description has whole items
-pub record TableStands (d img : List ℕ) (s l : ℕ) : Type 0 where
-  pub inside : s + l ≤ length img
-  pub small : length img ≤ 65535
-  pub whole : Whole d
-
-pub table-stands : (d img : List ℕ) (q : Asked) (i : ℕ) (s : TableStart) (l : ℕ) → answerTo q (openImage d img) .table ≡ Yes i s l → TableStands d img (s .0) l
-unfolding answerTo
-table-stands d img q i s l e = go (came d img)
-  where
-    go : Came d img → TableStands d img (s .0) l
-    go (refuses r h) = absurd (no-not-yes i s l (rw h at e))
-    go (opens ts es t n h) =
-        let f = found-only (tableNamed (q .manufacturer) (q .number) ts) i s l (rw (opened-image h) at e) in
-        let a = table-opens d img (q .manufacturer) (q .number) (s .0) l (table-laid h (q .manufacturer) (q .number) ∙ f) in
-        record {
-          inside = omega (arith, table-ends a, total-inside d img (a .seats) (a .elements) (a .slots) (a .total) (a .opens .laid));
-          small = h .allowed;
-          whole = whole-items d (h .passes);
-        }
+    let i = integer-exactly d (q .item) (elementPlaceReply d img q) p n .0 e in
+    let s = stands d img q p n (i .1) in
+    read-there img p n (omega (arith, s .few (i .0))) (s .inside)
 
 -- AN ACCEPTED WRITE FITS WHERE IT GOES
 -- what holds of every refusal, and of the octets asked about, holds of what may be written
@@ -171,5 +111,5 @@ unfolding elementPlaceReply fitting allowedAt
 number-fits d img q x v e = subst (Inside img) (sym (e ∙ sym (number-told d img q x (openImage d img)))) (go (integerPlace d (q .item) (elementPlaceReply d img q)) refl)
   where
     go : (w : Place) → integerPlace d (q .item) (elementPlaceReply d img q) ≡ w → Inside img (fitting (λ k. x <? 256 ^ k) (allowedAt d img q (elementsIn (openImage d img)) w))
-    go (Place.At p l) h = number-at d img q (elementsIn (openImage d img)) x (p .0) l (stands d img q (p .0) l (integer-only d (q .item) (elementPlaceReply d img q) (p .0) l h .0) .inside)
+    go (Place.At p l) h = number-at d img q (elementsIn (openImage d img)) x (p .0) l (stands d img q (p .0) l (integer-exactly d (q .item) (elementPlaceReply d img q) (p .0) l .0 h .1) .inside)
     go (Place.Refused r) h = tt

@@ -1,11 +1,12 @@
 -- What the replies come to, case by case. Assumes nothing.
 use Prim.Native.Nat.{ℕ, zero, suc, _+_, _-_, _*_, _^_, _/_, _<_, _≤_, min}
-use mathlib.Core.Path.{_≡_, refl, _∙_, ap, ap₂, sym}
+use mathlib.Core.Path.{_≡_, refl, _∙_, ap, sym, subst}
 use mathlib.Core.Bool.{Bool, true, false, not}
 use mathlib.Core.Option.{Option, some, none}
-use mathlib.Core.List.{List}
+use mathlib.Core.List.{List, []}
 use lib.ListN.{length}
 use borrow.Author.Tests.{ltb-false, ltb-true, le-ltb, lt-ltb, le-leb, leb-true, leb-false, eq-eqb, ne-eqb}
+use native.Mathlib.Numerals.{add-one}
 use native.Mathlib.Omega.{arith}
 use native.Mathlib.Nat.{pow-le-pow-right, pow-suc, div-eq-of-lt, div-eq-sub-div}
 use lib.Pow.{pow-add}
@@ -18,18 +19,26 @@ use Rattle.meaning.specs.declared.Verdict.{Verdict}
 use Rattle.meaning.specs.declared.Fields.{Fields}
 use Rattle.meaning.specs.declared.Place.{Place}
 use Rattle.meaning.specs.declared.Reply.{Reply}
-use Rattle.meaning.specs.Description.{fieldsAt, isTable, isUint}
-use Rattle.meaning.specs.Layout.{Placed, Seat, tableNamed, dataOrder, numberAt}
-use Rattle.meaning.specs.Refusals.{Opened, opened, refused, openImage, elementPlaceIn, elementPlaceReply, integerPlace, placeNumber, elementNumberReply, placeVerdict, imageWith, imageWithNumber, tableAround, writable, anyDimension, allowed, allowedAt, fitting, rangeOf, rangeIn, rangePlace, octetsPlaceIn, numberPlaceIn}
+use Rattle.meaning.specs.Description.{itemCount, fieldsAt, isTable, isUint, isDimension}
+use Rattle.meaning.specs.Layout.{Placed, Seat, Slots, tableNamed, dataOrder, numberAt}
+use Rattle.meaning.specs.Refusals.{Opened, opened, refused, openImage, seatPlace, elementPlaceIn, elementPlaceReply, integerPlace, placeNumber, elementNumberReply, placeVerdict, imageWith, imageWithNumber, tableAround, writable, anyDimension, allowed, allowedAt, fitting, rangeOf, rangeIn, rangePlace, octetsPlaceIn, numberPlaceIn}
 use Rattle.meaning.proofs.Octets.{octets-long}
-use Rattle.meaning.specs.Numbers.{noTable, noElement, outsideTable, notWritable, holdsDimension, wrongSize}
+use Rattle.meaning.specs.Numbers.{noElement, outsideTable, notWritable, holdsDimension}
 use Rattle.octets.specs.Octets.{put}
-use Rattle.places.specs.declared.Asked.{Asked}
-use Rattle.places.specs.declared.Answer.{Answer}
-use Rattle.places.specs.declared.TableFound.{TableFound}
-use Rattle.places.specs.declared.TableFound.the-variants.{No, Yes}
-use Rattle.places.specs.Opening.{tableFound, answerTo}
-use Rattle.access.specs.Access.{elementsIn}
+use Rattle.laying.proofs.Among.{every-among, seat-among}
+use Rattle.laying.proofs.Dimensions.{element-dimension}
+use Rattle.laying.proofs.Found.{table-ends}
+use Rattle.laying.proofs.LaidOut.{tables-there, total-inside}
+use Rattle.laying.proofs.Opened.{Opens, Came, opens, refuses, came, opened-image, table-laid, table-opens, where-opens}
+use Rattle.offsets.specs.declared.ImageOffset.{ImageOffset}
+use Rattle.items.specs.declared.Read.{Read}
+use Rattle.items.specs.Read.{readAt}
+use Rattle.items.proofs.ReadLaws.{fields-read, next-read}
+use Rattle.places.specs.declared.Ranged.{Ranged}
+use Rattle.places.specs.Opening as ranges
+use Rattle.places.specs.Surveying.{heldIn}
+use Rattle.access.specs.declared.Seen.{Seen}
+use Rattle.access.specs.Access.{SeenAs, allowedBy, fittedBy}
 
 -- AN ITEM'S KIND, by the fields read of it
 module _ (d : List ℕ) (i k : ℕ) (f : Fields) (e : f ≡ fieldsAt d i) where
@@ -40,91 +49,140 @@ module _ (d : List ℕ) (i k : ℕ) (f : Fields) (e : f ≡ fieldsAt d i) where
   kind-not h = ne-eqb _ _ (λ z. h (ap (λ (x : Fields). x .kind) e ∙ z))
 
 -- THE TABLE THAT AN ITEM STANDS IN
-pub around-none : (d : List ℕ) → 0 ≡ tableAround d 0
+-- one item further on
+pub around-step : (d : List ℕ) (at : ℕ) → tableAround d (at + 1) ≡ (if isTable (fieldsAt d at) then at else tableAround d at)
+unfolding tableAround
+around-step d at = rw (add-one at)
+
+pub around-none : (d : List ℕ) → tableAround d 0 ≡ 0
 unfolding tableAround
 around-none d = refl
 
--- the item before is that TABLE
-pub around-here : (d : List ℕ) (at : ℕ) → 0 < at → isTable (fieldsAt d (at - 1)) ≡ true → tableAround d at ≡ at - 1
-unfolding tableAround
-around-here d zero h e = absurd (omega arith)
-around-here d (suc j) h e = let z : suc j - 1 ≡ j = omega arith in let f = rw z at e in rw (f, z)
+-- the items up to one asked for, one after another
+pub record Passing (d : List ℕ) (item : ℕ) (read : Read) (at : ℕ) (latest : Fields) : Type 0 where
+  pub upto : at ≤ item
+  pub here : read ≡ readAt d at
+  pub table : latest ≡ fieldsAt d (tableAround d at)
 
--- or not
-pub around-before : (d : List ℕ) (at : ℕ) → 0 < at → isTable (fieldsAt d (at - 1)) ≡ false → tableAround d at ≡ tableAround d (at - 1)
-unfolding tableAround
-around-before d zero h e = absurd (omega arith)
-around-before d (suc j) h e = let z : suc j - 1 ≡ j = omega arith in let f = rw z at e in rw (f, z)
+module _ (d : List ℕ) (item : ℕ) (h : item < itemCount d) where
+  pub passing-first : (r : Read) (at : ℕ) → at ≡ 0 → r ≡ readAt d at → Passing d item r at (r .fields)
+  passing-first r at z e = record {
+    upto = omega arith;
+    here = e;
+    table = fields-read d at (omega arith) e ∙ ap (fieldsAt d) (z ∙ sym (around-none d) ∙ ap (tableAround d) (sym z));
+  }
+
+  module _ (r : Read) (at : ℕ) (t : Fields) (p : Passing d item r at t) where
+    pub passing-next : at < item → (t' : Fields) → t' ≡ (if isTable (r .fields) then r .fields else t) → (r' : Read) → r' ≡ readAt d (r .next .at) → Passing d item r' (r .next .at) t'
+    passing-next l t' e r' g =
+        let n = next-read d at (omega arith) (p .here) in
+        record {
+          upto = omega arith;
+          here = g;
+          table = e ∙ rw (fields-read d at (omega arith) (p .here), p .table) (go (isTable (fieldsAt d at))) ∙ ap (fieldsAt d) (sym (around-step d at) ∙ ap (tableAround d) (sym n));
+        }
+      where
+        go : (b : Bool) → (if b then fieldsAt d at else fieldsAt d (tableAround d at)) ≡ fieldsAt d (if b then at else tableAround d at)
+        go true = refl
+        go false = refl
+
+    pub passing-less : at < item → item - r .next .at < item - at
+    passing-less l = let n = next-read d at (omega arith) (p .here) in omega arith
+
+    pub passing-seen : item ≤ at → SeenAs d item (record { fields = r .fields; table = t })
+    passing-seen n =
+        let e : at ≡ item = omega (arith, p .upto) in
+        record { fields = fields-read d at (omega arith) (p .here) ∙ ap (fieldsAt d) e; table = p .table ∙ ap (λ (i : ℕ). fieldsAt d (tableAround d i)) e }
 
 -- 13, THEN 14
-module _ (d img : List ℕ) (es : List Placed) (t p n : ℕ) where
-  pub not-writable : writable d img t ≡ false → Place.Refused notWritable ≡ allowed d img es t p n
-  unfolding allowed
-  not-writable e = rw e
-
-  pub holds-one : writable d img t ≡ true → anyDimension es p n ≡ true → Place.Refused holdsDimension ≡ allowed d img es t p n
-  unfolding allowed
-  holds-one e h = rw (e, h)
-
-  pub may-write : writable d img t ≡ true → anyDimension es p n ≡ false → Place.At (record { 0 = p }) n ≡ allowed d img es t p n
-  unfolding allowed
-  may-write e h = rw (e, h)
-
--- what a walk tells of the octets asked about
-pub held-told : (q : Asked) (o : Opened) → answerTo q o .held ≡ anyDimension (elementsIn o) (q .from .0) (q .octets)
-unfolding answerTo anyDimension
-held-told q (opened ts es s n) = refl
-held-told q (refused r) = refl
+pub allowed-is : (d img : List ℕ) (es : List Placed) (t p n : ℕ) → allowed d img es t p n ≡ allowedBy (fieldsAt d t .writable =? 1) (anyDimension es p n) (record { 0 = p }) n
+unfolding allowed writable allowedBy
+allowed-is d img es t p n = go (fieldsAt d t .writable =? 1) (anyDimension es p n)
+  where
+    go : (w h : Bool) → (if not w then Place.Refused notWritable else if h then Place.Refused holdsDimension else Place.At (record { 0 = p }) n)
+        ≡ (if w then (if h then Place.Refused holdsDimension else Place.At (record { 0 = p }) n) else Place.Refused notWritable)
+    go true h = refl
+    go false h = refl
 
 -- A RANGE OF A TABLE, by what a walk tells of the table
-abbrev pub rangeBy : (description image : List ℕ) → TableOffset → (n : ℕ) → List Placed → Verdict → TableFound → Place
-rangeBy d img o n es (Verdict.Refused r) t = Place.Refused r
-rangeBy d img o n es Verdict.Passed No = Place.Refused noTable
-rangeBy d img o n es Verdict.Passed (Yes i s l) = if l <? o .0 + n then Place.Refused outsideTable else allowed d img es i (s .0 + o .0) n
+-- what is told of the octets of a range that lies in it
+held-within : (o n : ℕ) (t : Seat) (es : List Placed) → o + n ≤ t .size → heldIn o n (some t) es ≡ anyDimension es (t .start + o) n
+unfolding heldIn
+held-within o n t es h = rw (le-leb (o + n) (t .size) h)
 
-pub range-told : (d img : List ℕ) (q : Asked) (f : TableOffset) (n : ℕ) (o : Opened)
-    → rangeBy d img f n (elementsIn o) (answerTo q o .verdict) (answerTo q o .table) ≡ rangeIn d img (q .manufacturer) (q .number) f n o
-unfolding answerTo rangeIn tableFound rangeOf
-range-told d img q f n (refused r) = refl
-range-told d img q f n (opened ts es s total) = go (tableNamed (q .manufacturer) (q .number) ts)
-  where
-    go : (t : Option Seat) → rangeBy d img f n es Verdict.Passed (tableFound t) ≡ rangeOf d img es f n t
-    go none = refl
-    go (some t) = refl
+-- a table found is of an item of the description, and lies inside the image
+pub record TableIn (d img : List ℕ) (i p l : ℕ) : Type 0 where
+  pub there : i < itemCount d
+  pub inside : p + l ≤ length img
+  pub small : length img ≤ 65535
 
--- 12, or else 13 and 14
-module _ (d img : List ℕ) (f : TableOffset) (n : ℕ) (es : List Placed) (i : ℕ) (s : TableStart) (l : ℕ) where
-  range-outside : l < f .0 + n → rangeBy d img f n es Verdict.Passed (Yes i s l) ≡ Place.Refused outsideTable
-  range-outside h = rw (lt-ltb l (f .0 + n) h)
+-- the range in the table found, or none
+abbrev pub RangeTold : (description image : List ℕ) → TableOffset → (n : ℕ) → Ranged → Place → Type 0
+RangeTold d img o n (Ranged.Refused x) v = Place.Refused x ≡ v
+RangeTold d img o n (Ranged.In i s l h) v =
+    TableIn d img i (s .0) l × (v ≡ (if l <? o .0 + n then Place.Refused outsideTable else allowedBy (fieldsAt d i .writable =? 1) h (record { 0 = s .0 + o .0 }) n))
 
-  range-within : f .0 + n ≤ l → rangeBy d img f n es Verdict.Passed (Yes i s l) ≡ allowed d img es i (s .0 + f .0) n
-  range-within h = rw (le-ltb l (f .0 + n) h)
+module _ (d img : List ℕ) (es : List Placed) (o : TableOffset) (n : ℕ) where
+  range-none : RangeTold d img o n (ranges.rangeOf (o .0) n none es) (rangeOf d img es o n none)
+  unfolding rangeOf ranges.rangeOf
+  range-none = refl
+
+  range-some : (t : Seat) → TableIn d img (t .item) (t .start) (t .size) → RangeTold d img o n (ranges.rangeOf (o .0) n (some t) es) (rangeOf d img es o n (some t))
+  unfolding rangeOf ranges.rangeOf
+  range-some t h = (h, go (t .size <? o .0 + n) refl)
+    where
+      go : (b : Bool) → (t .size <? o .0 + n) ≡ b
+          → (if b then Place.Refused outsideTable else allowed d img es (t .item) (t .start + o .0) n)
+          ≡ (if b then Place.Refused outsideTable else allowedBy (fieldsAt d (t .item) .writable =? 1) (heldIn (o .0) n (some t) es) (record { 0 = t .start + o .0 }) n)
+      go true e = refl
+      go false e = rw (held-within (o .0) n t es (ltb-false (t .size) (o .0 + n) e)) (allowed-is d img es (t .item) (t .start + o .0) n)
+
+module _ (d img : List ℕ) (m k : ℕ) (o : TableOffset) (n : ℕ) (r : Ranged) (is : r ≡ ranges.rangeIn m k o n (openImage d img)) where
+  -- by cases on the image
+  told : RangeTold d img o n r (rangePlace d img m k o n)
+  unfolding rangePlace rangeIn ranges.rangeIn seatPlace
+  told = go (came d img)
+    where
+      -- of an image that is opened
+      in-opened : (ts : List Seat) (es : List Placed) (s : Slots) (total : ℕ) → Opens d img ts es s total → (t : Option Seat) → tableNamed m k ts ≡ t
+          → RangeTold d img o n (ranges.rangeOf (o .0) n t es) (rangeOf d img es o n t)
+      in-opened ts es s total h none e = range-none d img es o n
+      in-opened ts es s total h (some t) e =
+          let a = table-opens d img m k (t .start) (t .size) (table-laid h m k ∙ ap seatPlace e) in
+          range-some d img es o n t (record {
+            there = every-among _ t ts (tables-there d img ts es s total (h .laid)) (seat-among m k ts t e .among);
+            inside = omega (arith, table-ends a, total-inside d img (a .seats) (a .elements) (a .slots) (a .total) (a .opens .laid));
+            small = h .allowed;
+          })
+
+      go : Came d img → RangeTold d img o n r (rangePlace d img m k o n)
+      go (refuses x e) = rw e (subst (λ (z : Ranged). RangeTold d img o n z (Place.Refused x)) (sym (is ∙ ap (ranges.rangeIn m k o n) e)) refl)
+      go (opens ts es s total h) =
+          rw (opened-image h)
+          (subst (λ (z : Ranged). RangeTold d img o n z (rangeOf d img es o n (tableNamed m k ts))) (sym (is ∙ ap (ranges.rangeIn m k o n) (opened-image h)))
+          (in-opened ts es s total h (tableNamed m k ts) refl))
+
+  -- refused, past the table, or allowed there or not
+  pub range-refused : (x : Refusal) → r ≡ Ranged.Refused x → Place.Refused x ≡ rangePlace d img m k o n
+  range-refused x e = subst (λ (z : Ranged). RangeTold d img o n z (rangePlace d img m k o n)) e told
+
+  module _ (i : ℕ) (s : TableStart) (l : ℕ) (h : Bool) (e : r ≡ Ranged.In i s l h) where
+    pub table-in : TableIn d img i (s .0) l
+    table-in = subst (λ (z : Ranged). RangeTold d img o n z (rangePlace d img m k o n)) e told .0
+
+    found : rangePlace d img m k o n ≡ (if l <? o .0 + n then Place.Refused outsideTable else allowedBy (fieldsAt d i .writable =? 1) h (record { 0 = s .0 + o .0 }) n)
+    found = subst (λ (z : Ranged). RangeTold d img o n z (rangePlace d img m k o n)) e told .1
+
+    module _ (b : Bool) (within : b ≡ (o .0 + n ≤? l)) where
+      pub range-past : b ≡ false → Place.Refused outsideTable ≡ rangePlace d img m k o n
+      range-past f = sym (found ∙ rw (lt-ltb l (o .0 + n) (leb-false (o .0 + n) l (sym within ∙ f))))
+
+      pub range-there : b ≡ true → (p : ℕ) → p ≡ s .0 + o .0 → (f : Fields) → f ≡ fieldsAt d i → allowedBy (f .writable =? 1) h (record { 0 = p }) n ≡ rangePlace d img m k o n
+      range-there t p g f fe = rw (g, fe) (sym (found ∙ rw (le-ltb l (o .0 + n) (leb-true (o .0 + n) l (sym within ∙ t)))))
 
 -- an offset in a table inside the image is counted on from the table's start
 pub counted-on : (s f n l long p : ℕ) (b : Bool) → p ≡ min (s + f) 18446744073709551615 → s + l ≤ long → long ≤ 65535 → b ≡ (f + n ≤? l) → b ≡ true → p ≡ s + f
 counted-on s f n l long p b e h k w t = let i : f + n ≤ l = leb-true _ _ (sym w ∙ t) in omega arith
-
--- the place of a range, case by case of what a walk told
-module _ (d img : List ℕ) (q : Asked) (r : Answer) (a : r ≡ answerTo q (openImage d img)) (f : TableOffset) (n : ℕ) where
-  range-is : rangeBy d img f n (elementsIn (openImage d img)) (r .verdict) (r .table) ≡ rangePlace d img (q .manufacturer) (q .number) f n
-  unfolding rangePlace
-  range-is = ap (λ (x : Answer). rangeBy d img f n (elementsIn (openImage d img)) (x .verdict) (x .table)) a ∙ range-told d img q f n (openImage d img)
-
-  pub range-refused : (x : Refusal) → r .verdict ≡ Verdict.Refused x → Place.Refused x ≡ rangePlace d img (q .manufacturer) (q .number) f n
-  range-refused x e = ap (λ (v : Verdict). rangeBy d img f n (elementsIn (openImage d img)) v (r .table)) (sym e) ∙ range-is
-
-  pub range-none : r .verdict ≡ Verdict.Passed → r .table ≡ No → Place.Refused noTable ≡ rangePlace d img (q .manufacturer) (q .number) f n
-  range-none e t = ap₂ (λ (v : Verdict) (w : TableFound). rangeBy d img f n (elementsIn (openImage d img)) v w) (sym e) (sym t) ∙ range-is
-
-  module _ (i : ℕ) (s : TableStart) (l : ℕ) (e : r .verdict ≡ Verdict.Passed) (t : r .table ≡ Yes i s l) (b : Bool) (within : b ≡ (f .0 + n ≤? l)) where
-    range-found : rangeBy d img f n (elementsIn (openImage d img)) Verdict.Passed (Yes i s l) ≡ rangePlace d img (q .manufacturer) (q .number) f n
-    range-found = ap₂ (λ (v : Verdict) (w : TableFound). rangeBy d img f n (elementsIn (openImage d img)) v w) (sym e) (sym t) ∙ range-is
-
-    pub range-past : b ≡ false → Place.Refused outsideTable ≡ rangePlace d img (q .manufacturer) (q .number) f n
-    range-past h = sym (range-outside d img f n _ i s l (leb-false _ _ (sym within ∙ h))) ∙ range-found
-
-    pub range-there : b ≡ true → (p : ℕ) → p ≡ s .0 + f .0 → allowed d img (elementsIn (openImage d img)) i p n ≡ rangePlace d img (q .manufacturer) (q .number) f n
-    range-there h p g = rw g (sym (range-within d img f n _ i s l (leb-true _ _ (sym within ∙ h))) ∙ range-found)
 
 -- AN ELEMENT
 -- an integer's place, or 11
@@ -140,6 +198,11 @@ pub integer-refused : (d : List ℕ) (i : ℕ) (v : Place) (r : Refusal) → v �
 unfolding integerPlace
 integer-refused d i v r e = e ∙ rw e
 
+-- the elements of an image that is opened
+abbrev pub elementsIn : Opened → List Placed
+elementsIn (opened ts es s n) = es
+elementsIn (refused r) = []
+
 -- an element's octets and its number, by where it is
 pub octets-told : (d img : List ℕ) (q : ElementName) (n : ℕ) (o : Opened) → fitting (λ l. n =? l) (allowedAt d img q (elementsIn o) (elementPlaceIn q o)) ≡ octetsPlaceIn d img q n o
 unfolding octetsPlaceIn elementPlaceIn allowedAt fitting
@@ -152,41 +215,65 @@ unfolding numberPlaceIn elementPlaceIn integerPlace allowedAt fitting
 number-told d img q x (opened ts es s total) = refl
 number-told d img q x (refused r) = refl
 
--- by what 13 and 14 leave of it
-pub octets-is : (d img : List ℕ) (q : ElementName) (n : ℕ) (found v : Place) → found ≡ elementPlaceReply d img q → v ≡ allowedAt d img q (elementsIn (openImage d img)) found
-    → fitting (λ l. n =? l) v ≡ octetsPlaceIn d img q n (openImage d img)
-unfolding elementPlaceReply
-octets-is d img q n found v f e = ap (fitting (λ l. n =? l)) (e ∙ ap (allowedAt d img q (elementsIn (openImage d img))) f) ∙ octets-told d img q n (openImage d img)
+-- 13 and 14 of an element: its octets hold one of a dimension if it is one
+pub element-is : (d img : List ℕ) (q : ElementName) (p n : ℕ) → elementPlaceReply d img q ≡ Place.At (record { 0 = p }) n
+    → allowed d img (elementsIn (openImage d img)) (tableAround d (q .item)) p n
+    ≡ allowedBy (fieldsAt d (tableAround d (q .item)) .writable =? 1) (isDimension (fieldsAt d (q .item))) (record { 0 = p }) n
+element-is d img q p n e =
+    let a = where-opens d img q p n e in
+    allowed-is d img (elementsIn (openImage d img)) (tableAround d (q .item)) p n
+    ∙ ap (λ (b : Bool). allowedBy (fieldsAt d (tableAround d (q .item)) .writable =? 1) b (record { 0 = p }) n) (ap (λ (o : Opened). anyDimension (elementsIn o) p n) (opened-image (a .opens)) ∙ element-dimension a)
 
-pub number-place-is : (d img : List ℕ) (q : ElementName) (x : ℕ) (found v : Place) → found ≡ integerPlace d (q .item) (elementPlaceReply d img q)
-    → v ≡ allowedAt d img q (elementsIn (openImage d img)) found → fitting (λ l. x <? 256 ^ l) v ≡ numberPlaceIn d img q x (openImage d img)
-unfolding elementPlaceReply
-number-place-is d img q x found v f e =
-    ap (fitting (λ l. x <? 256 ^ l)) (e ∙ ap (allowedAt d img q (elementsIn (openImage d img))) f) ∙ number-told d img q x (openImage d img)
+-- 15
+fitted-is : (fits : ℕ → Bool) (w h : Bool) (p : ImageOffset) (n : ℕ) → fittedBy (fits n) (allowedBy w h p n) ≡ fitting fits (allowedBy w h p n)
+unfolding fittedBy fitting allowedBy
+fitted-is fits true true p n = refl
+fitted-is fits true false p n = refl
+fitted-is fits false h p n = refl
 
--- 15, or not
-module _ (fits : ℕ → Bool) (v : Place) where
-  pub fits-there : (p n : ℕ) → v ≡ Place.At (record { 0 = p }) n → fits n ≡ true → Place.At (record { 0 = p }) n ≡ fitting fits v
-  unfolding fitting
-  fits-there p n e h = rw (e, h)
+-- where an element is, what is written there
+module _ (d img : List ℕ) (q : ElementName) (found : Place) (f : found ≡ elementPlaceReply d img q) where
+  -- refused as the place is
+  pub octets-refused : (m : ℕ) (r : Refusal) → found ≡ Place.Refused r → found ≡ octetsPlaceIn d img q m (openImage d img)
+  unfolding elementPlaceReply allowedAt fitting
+  octets-refused m r e =
+      e ∙ ap (λ (v : Place). fitting (λ l. m =? l) (allowedAt d img q (elementsIn (openImage d img)) v)) (sym e ∙ f) ∙ octets-told d img q m (openImage d img)
 
-  pub fits-not : (p n : ℕ) → v ≡ Place.At (record { 0 = p }) n → fits n ≡ false → Place.Refused wrongSize ≡ fitting fits v
-  unfolding fitting
-  fits-not p n e h = rw (e, h)
+  pub number-none : (x : ℕ) (r : Refusal) → found ≡ Place.Refused r → found ≡ numberPlaceIn d img q x (openImage d img)
+  unfolding elementPlaceReply integerPlace allowedAt fitting
+  number-none x r e =
+      e ∙ ap (λ (v : Place). fitting (λ l. x <? 256 ^ l) (allowedAt d img q (elementsIn (openImage d img)) (integerPlace d (q .item) v))) (sym e ∙ f) ∙ number-told d img q x (openImage d img)
 
-  pub fits-refused : (r : Refusal) → v ≡ Place.Refused r → v ≡ fitting fits v
-  unfolding fitting
-  fits-refused r e = e ∙ rw e
+  module _ (p n : ℕ) (e : found ≡ Place.At (record { 0 = p }) n) (s : Seen) (a : SeenAs d (q .item) s) where
+    at-place : allowedBy (s .table .writable =? 1) (isDimension (s .fields)) (record { 0 = p }) n ≡ allowed d img (elementsIn (openImage d img)) (tableAround d (q .item)) p n
+    at-place = rw (a .table, a .fields) (sym (element-is d img q p n (sym f ∙ e)))
 
--- 13 and 14 of an element
-module _ (d img : List ℕ) (q : ElementName) (es : List Placed) (v : Place) where
-  pub element-at : (p n : ℕ) → v ≡ Place.At (record { 0 = p }) n → allowed d img es (tableAround d (q .item)) p n ≡ allowedAt d img q es v
-  unfolding allowedAt
-  element-at p n e = rw e
+    -- 13, 14, then 15
+    written : (fits : ℕ → Bool) → fittedBy (fits n) (allowedBy (s .table .writable =? 1) (isDimension (s .fields)) (record { 0 = p }) n)
+        ≡ fitting fits (allowedAt d img q (elementsIn (openImage d img)) found)
+    unfolding allowedAt
+    written fits =
+        fitted-is fits (s .table .writable =? 1) (isDimension (s .fields)) (record { 0 = p }) n ∙ ap (fitting fits) at-place
+        ∙ ap (λ (v : Place). fitting fits (allowedAt d img q (elementsIn (openImage d img)) v)) (sym e)
 
-  pub element-refused : (r : Refusal) → v ≡ Place.Refused r → v ≡ allowedAt d img q es v
-  unfolding allowedAt
-  element-refused r e = e ∙ rw e
+    pub octets-there : (m : ℕ) → fittedBy (m =? n) (allowedBy (s .table .writable =? 1) (isDimension (s .fields)) (record { 0 = p }) n) ≡ octetsPlaceIn d img q m (openImage d img)
+    unfolding elementPlaceReply
+    octets-there m =
+        written (λ l. m =? l) ∙ ap (λ (v : Place). fitting (λ l. m =? l) (allowedAt d img q (elementsIn (openImage d img)) v)) f ∙ octets-told d img q m (openImage d img)
+
+    pub number-there-is : (x : ℕ) → isUint (fieldsAt d (q .item)) ≡ true
+        → fittedBy (x <? 256 ^ n) (allowedBy (s .table .writable =? 1) (isDimension (s .fields)) (record { 0 = p }) n) ≡ numberPlaceIn d img q x (openImage d img)
+    unfolding elementPlaceReply
+    number-there-is x u =
+        written (λ l. x <? 256 ^ l)
+        ∙ ap (λ (v : Place). fitting (λ l. x <? 256 ^ l) (allowedAt d img q (elementsIn (openImage d img)) v)) (is-integer d (q .item) found p n e u ∙ ap (integerPlace d (q .item)) f)
+        ∙ number-told d img q x (openImage d img)
+
+    pub number-not : (x : ℕ) → isUint (fieldsAt d (q .item)) ≡ false → Place.Refused noElement ≡ numberPlaceIn d img q x (openImage d img)
+    unfolding elementPlaceReply allowedAt fitting
+    number-not x u =
+        ap (λ (v : Place). fitting (λ l. x <? 256 ^ l) (allowedAt d img q (elementsIn (openImage d img)) v)) (no-integer d (q .item) found p n e u ∙ ap (integerPlace d (q .item)) f)
+        ∙ number-told d img q x (openImage d img)
 
 -- A NUMBER AND SO MANY OCTETS
 -- every number has its place in 8 octets or more

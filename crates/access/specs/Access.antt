@@ -1,25 +1,30 @@
--- READS AND WRITES: what the functions below the public calls go by. Assumes nothing.
-use Prim.Native.Nat.{ℕ, _+_, _%_, _≤_}
+-- WHAT IS KNOWN WHERE SOMETHING IS FOUND, for the contracts of the functions below the public calls. Assumes nothing.
+use Prim.Native.Nat.{ℕ, _+_, _≤_}
 use mathlib.Core.Path.{_≡_}
-use mathlib.Core.List.{List, []}
+use mathlib.Core.Bool.{Bool}
+use mathlib.Core.List.{List}
 use lib.ListN.{length}
+use Rattle.meaning.specs.Basics.{if_then_else_}
 use Rattle.meaning.specs.declared.Place.{Place}
-use Rattle.meaning.specs.Layout.{Placed}
-use Rattle.meaning.specs.Refusals.{Opened, opened, refused}
+use Rattle.meaning.specs.Description.{fieldsAt}
+use Rattle.meaning.specs.Numbers.{notWritable, holdsDimension, wrongSize}
+use Rattle.meaning.specs.Refusals.{tableAround}
+use Rattle.offsets.specs.declared.ImageOffset.{ImageOffset}
+use Rattle.access.specs.declared.Seen.{Seen}
 
--- a description of whole items, as every passed one is
-abbrev pub Whole : (description : List ℕ) → Type 0
-Whole d = length d % 4 ≡ 0
+-- an item, and the table that it stands in
+pub record SeenAs (d : List ℕ) (i : ℕ) (r : Seen) : Type 0 where
+  pub fields : r .fields ≡ fieldsAt d i
+  pub table : r .table ≡ fieldsAt d (tableAround d i)
 
--- it is, where a place is given
-abbrev pub WholeAt : (description : List ℕ) → Place → Type 0
-WholeAt d (Place.At p n) = Whole d
-WholeAt d (Place.Refused r) = Unit {0}
+-- 13, then 14
+unfoldable pub allowedBy : (writable held : Bool) → ImageOffset → (n : ℕ) → Place
+allowedBy w h p n = if w then (if h then Place.Refused holdsDimension else Place.At p n) else Place.Refused notWritable
 
--- the elements of an image that is opened
-abbrev pub elementsIn : Opened → List Placed
-elementsIn (opened ts es s n) = es
-elementsIn (refused r) = []
+-- 15
+unfoldable pub fittedBy : (fits : Bool) → Place → Place
+fittedBy b (Place.At p n) = if b then Place.At p n else Place.Refused wrongSize
+fittedBy b (Place.Refused r) = Place.Refused r
 
 -- n octets from the place on lie inside the image
 abbrev pub FitsAt : (image : List ℕ) → (n : ℕ) → Place → Type 0

@@ -14,16 +14,14 @@ use meaning::Reply;
 use meaning::Verdict;
 use offsets::ImageOffset;
 use offsets::TableOffset;
-use places::Asked;
-use places::TableFound;
+use places::Ranged;
 ghost use mathlib.Core.Path.{_≡_};
-ghost use mathlib.Core.Bool.{Bool};
-ghost use Prim.Native.Nat.{_+_, _^_};
+ghost use Prim.Native.Nat.{_^_, _<_};
 ghost use lib.ListN.{length};
-ghost use Rattle.meaning.specs.Basics.{_<?_, _≤?_, _=?_};
-ghost use Rattle.meaning.specs.Description.{fieldsAt};
-ghost use Rattle.meaning.specs.Refusals.{openImage, elementPlaceReply, placePart, tablePartReply, elementPartReply, integerPlace, elementNumberReply, placeVerdict, imageWith, tableAround, writable, allowed, allowedAt, fitting, rangePlace, octetsPlaceIn, numberPlaceIn, imageWithNumber, writeRangeReply, writeRangeImage, writeOctetsReply, writeOctetsImage, writeNumberReply, writeNumberImage};
-ghost use Rattle.access.specs.Access.{Whole, WholeAt, elementsIn, FitsAt};
+ghost use Rattle.meaning.specs.Basics.{if_then_else_, _<?_, _=?_};
+ghost use Rattle.meaning.specs.Description.{itemCount, isTable, isDimension};
+ghost use Rattle.meaning.specs.Refusals.{openImage, elementPlaceReply, placePart, tablePartReply, elementPartReply, integerPlace, elementNumberReply, placeVerdict, imageWith, rangePlace, octetsPlaceIn, numberPlaceIn, imageWithNumber, writeRangeReply, writeRangeImage, writeOctetsReply, writeOctetsImage, writeNumberReply, writeNumberImage};
+ghost use Rattle.access.specs.Access.{SeenAs, allowedBy, fittedBy, FitsAt};
 
 // The kinds of items that are asked for.
 const TABLE: u32 = 1;
@@ -31,73 +29,57 @@ const TABLE: u32 = 1;
 const UINT: u32 = 2;
 
 // WHAT THE DESCRIPTION SAYS OF AN ITEM
-// The fields of an item, wherever it stands.
-fn fields_at(description: &[u8], item: usize) -> Fields
-    requires { ⌜ Whole (now description) ⌝ }
-    ensures { λ r. ⌜ r ≡ fieldsAt (now (description .entry)) item ⌝ }
-{
-    let place = Cursor { at: item };
-    let read = place.read(description);
-    read.fields
+// An item, and the table that it stands in: the latest TABLE before it.
+struct Seen {
+    fields: Fields,
+    table: Fields,
 }
 
-// The table that an item stands in: the latest TABLE before it.
-fn table_around(description: &[u8], item: usize) -> usize
-    requires { ⌜ Whole (now description) ⌝ }
-    ensures { λ r. ⌜ r ≡ tableAround (now (description .entry)) item ⌝ }
+// The latest TABLE, once one more item is passed.
+fn latest(fields: Fields, table: Fields) -> Fields
+    ensures { λ r. ⌜ r ≡ (if isTable fields then fields else table) ⌝ }
 {
-    let mut at = item;
-    while 0 < at {
-        at -= 1;
-        let fields = fields_at(description, at);
-        if fields.kind == TABLE {
-            return at;
-        }
+    if fields.kind == TABLE {
+        return fields;
     }
-    0
+    table
 }
 
-// Whether the table at that item may be written: it is marked so.
-fn is_writable(description: &[u8], image: &[u8], table: usize) -> bool
-    requires { ⌜ Whole (now description) ⌝ }
-    ensures { λ r. ⌜ r ≡ writable (now (description .entry)) (now (image .entry)) table ⌝ }
+// Items are read one after another, up to the one asked for.
+fn around(description: &[u8], item: usize) -> Seen
+    requires { ⌜ item < itemCount (now description) ⌝ }
+    ensures { λ r. ⌜ SeenAs (now (description .entry)) item r ⌝ }
 {
-    let fields = fields_at(description, table);
-    fields.writable == 1
+    let start = Cursor::first();
+    let mut read = start.read(description);
+    let mut place = start;
+    let mut table = read.fields;
+    while place.item() < item {
+        let next = read.next;
+        table = latest(read.fields, table);
+        read = next.read(description);
+        place = next;
+    }
+    let fields = read.fields;
+    Seen { fields, table }
 }
 
 // WHERE A WRITE GOES
-// 13, then 14: so many octets from `start` on, in the table at that item.
-fn allowed_at(
-    description: &[u8],
-    image: &[u8],
-    table: usize,
-    start: ImageOffset,
-    octets: usize,
-) -> Place
-    requires { ⌜ Whole (now description) ⌝ }
-    ensures { λ r. ⌜ r ≡ allowed (now (description .entry)) (now (image .entry)) (elementsIn (openImage (now (description .entry)) (now (image .entry)))) table (start .0) octets ⌝ }
+// 13, then 14: so many octets from `start` on, in a table that is writable or not, holding an octet
+// of a dimension or not.
+fn allowed(writable: bool, held: bool, start: ImageOffset, octets: usize) -> Place
+    ensures { λ r. ⌜ r ≡ allowedBy writable held start octets ⌝ }
 {
-    if !is_writable(description, image, table) {
-        return Place::Refused(Refusal::NOT_WRITABLE);
+    if writable {
+        if held {
+            return Place::Refused(Refusal::HOLDS_DIMENSION);
+        }
+        return Place::At {
+            start,
+            length: octets,
+        };
     }
-    let nothing = places::nothing_asked();
-    let name = nothing.name;
-    let asked = Asked {
-        manufacturer: 0,
-        number: 0,
-        name,
-        from: start,
-        octets,
-    };
-    let answer = places::open_image(description, image, asked);
-    if answer.held {
-        return Place::Refused(Refusal::HOLDS_DIMENSION);
-    }
-    Place::At {
-        start,
-        length: octets,
-    }
+    Place::Refused(Refusal::NOT_WRITABLE)
 }
 
 // Where a range of a table is written: 10, 12, then 13 and 14. The table's start turns the offset in
@@ -112,34 +94,22 @@ fn range_place(
 ) -> Place
     ensures { λ r. ⌜ r ≡ rangePlace (now (description .entry)) (now (image .entry)) manufacturer number offset octets ⌝ }
 {
-    let nothing = places::nothing_asked();
-    let name = nothing.name;
-    let from = nothing.from;
-    let asked = Asked {
-        manufacturer,
-        number,
-        name,
-        from,
-        octets: 0,
-    };
-    let answer = places::open_image(description, image, asked);
-    let verdict = answer.verdict;
-    let table = answer.table;
-    match verdict {
-        Verdict::Refused(r) => Place::Refused(r),
-        Verdict::Passed => match table {
-            TableFound::No => Place::Refused(Refusal::NO_TABLE),
-            TableFound::Yes {
-                item,
-                start,
-                length,
-            } => {
-                if ends_within(offset.octets(), octets, length) {
-                    return allowed_at(description, image, item, start.in_image(offset), octets);
-                }
-                Place::Refused(Refusal::OUTSIDE_TABLE)
+    let found = places::range_in(description, image, manufacturer, number, offset, octets);
+    match found {
+        Ranged::Refused(r) => Place::Refused(r),
+        Ranged::In {
+            item,
+            start,
+            length,
+            held,
+        } => {
+            if ends_within(offset.octets(), octets, length) {
+                let seen = around(description, item);
+                let table = seen.fields;
+                return allowed(table.writable == 1, held, start.in_image(offset), octets);
             }
-        },
+            Place::Refused(Refusal::OUTSIDE_TABLE)
+        }
     }
 }
 
@@ -154,7 +124,8 @@ fn integer_place(description: &[u8], image: &[u8], name: ElementName) -> Place
             start: _,
             length: _,
         } => {
-            let fields = fields_at(description, name.item);
+            let seen = around(description, name.item);
+            let fields = seen.fields;
             if fields.kind == UINT {
                 return place;
             }
@@ -163,33 +134,42 @@ fn integer_place(description: &[u8], image: &[u8], name: ElementName) -> Place
     }
 }
 
-// 13, then 14, where an element is.
-fn element_allowed(description: &[u8], image: &[u8], name: ElementName, place: Place) -> Place
-    requires { ⌜ WholeAt (now description) place ⌝ }
-    ensures { λ r. ⌜ r ≡ allowedAt (now (description .entry)) (now (image .entry)) name (elementsIn (openImage (now (description .entry)) (now (image .entry)))) place ⌝ }
+// 13, then 14, where an element is: it holds an octet of a dimension if it is one.
+fn element_allowed(seen: Seen, start: ImageOffset, length: usize) -> Place
+    ensures { λ r. ⌜ r ≡ allowedBy (seen .table .writable =? 1) (isDimension (seen .fields)) start length ⌝ }
+{
+    let table = seen.table;
+    let fields = seen.fields;
+    allowed(table.writable == 1, 0 < fields.sets, start, length)
+}
+
+// 15: what is to be written doesn't fit the element's length.
+fn fitted(place: Place, fits: bool) -> Place
+    ensures { λ r. ⌜ r ≡ fittedBy fits place ⌝ }
 {
     match place {
         Place::Refused(_) => place,
-        Place::At { start, length } => {
-            let table = table_around(description, name.item);
-            allowed_at(description, image, table, start, length)
+        Place::At {
+            start: _,
+            length: _,
+        } => {
+            if fits {
+                return place;
+            }
+            Place::Refused(Refusal::WRONG_SIZE)
         }
     }
 }
 
-// 15: what is to be written doesn't fit the element's length.
 fn octets_place(description: &[u8], image: &[u8], name: ElementName, octets: usize) -> Place
     ensures { λ r. ⌜ r ≡ octetsPlaceIn (now (description .entry)) (now (image .entry)) name octets (openImage (now (description .entry)) (now (image .entry))) ⌝ }
 {
     let found = places::element_place(description, image, name);
-    let place = element_allowed(description, image, name, found);
-    match place {
-        Place::Refused(_) => place,
-        Place::At { start: _, length } => {
-            if octets == length {
-                return place;
-            }
-            Place::Refused(Refusal::WRONG_SIZE)
+    match found {
+        Place::Refused(_) => found,
+        Place::At { start, length } => {
+            let seen = around(description, name.item);
+            fitted(element_allowed(seen, start, length), octets == length)
         }
     }
 }
@@ -207,15 +187,16 @@ fn fits_in(value: u64, octets: usize) -> bool
 fn number_place(description: &[u8], image: &[u8], name: ElementName, value: u64) -> Place
     ensures { λ r. ⌜ r ≡ numberPlaceIn (now (description .entry)) (now (image .entry)) name value (openImage (now (description .entry)) (now (image .entry))) ⌝ }
 {
-    let found = integer_place(description, image, name);
-    let place = element_allowed(description, image, name, found);
-    match place {
-        Place::Refused(_) => place,
-        Place::At { start: _, length } => {
-            if fits_in(value, length) {
-                return place;
+    let found = places::element_place(description, image, name);
+    match found {
+        Place::Refused(_) => found,
+        Place::At { start, length } => {
+            let seen = around(description, name.item);
+            let fields = seen.fields;
+            if fields.kind == UINT {
+                return fitted(element_allowed(seen, start, length), fits_in(value, length));
             }
-            Place::Refused(Refusal::WRONG_SIZE)
+            Place::Refused(Refusal::NO_ELEMENT)
         }
     }
 }

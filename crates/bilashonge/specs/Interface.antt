@@ -4,7 +4,6 @@ use mathlib.Core.List.{List, [], _∷_}
 use lib.ListN.{length, getD}
 use Rattle.meaning.specs.declared.ElementName.{ElementName}
 use Rattle.meaning.specs.declared.Moment.{Moment}
-use Rattle.meaning.specs.declared.Verdict.{Verdict}
 use Rattle.meaning.specs.declared.Told.{Told}
 use Rattle.bilashonge.specs.declared.Total.{Total}
 use Rattle.bilashonge.specs.declared.Place.{Place}
@@ -32,8 +31,3 @@ elementNamed i xs = record { item = i; count = length xs; subscripts = getD xs 0
 -- a date and a time of day
 unfoldable pub momentOf : (year month day hour minute : ℕ) → Moment
 momentOf y m d h n = record { year = y; month = m; day = d; hour = h; minute = n }
-
--- LENT MEMORY: the matrix where it can be had; a refused call leaves the cells as they were
-unfoldable pub cellsAfter : Verdict → (matrix lent : List (List ℕ)) → List (List ℕ)
-cellsAfter Verdict.Passed matrix lent = matrix
-cellsAfter (Verdict.Refused r) matrix lent = lent

@@ -16,8 +16,9 @@ ghost use Rattle.meaning.specs.Refusals.{toldBy, verdictReply, placeReply};
 ghost use Rattle.meaning.specs.Calendar.{matrixReply, matrixVerdict};
 ghost use Rattle.meaning.specs.Questions as ask;
 ghost use Rattle.meaning.specs.Questions.{toldTo, imageAfter};
+ghost use Rattle.calendar.specs.Lent.{cellsAfter};
 ghost use Rattle.replies.specs.Asked.{quantityOf};
-ghost use Rattle.bilashonge.specs.Interface.{inTotal, inPlace, inNumber, inTier, elementNamed, momentOf, cellsAfter};
+ghost use Rattle.bilashonge.specs.Interface.{inTotal, inPlace, inNumber, inTier, elementNamed, momentOf};
 
 // The total of octets used, 0 on refusal.
 #[repr(C)]
@@ -257,12 +258,5 @@ pub extern "C" fn bilashonge_matrix(
     ensures reply { λ r. ⌜ r ≡ toldTo ask.matrix (now (description .entry)) (now (image .entry)) .refusal ⌝ }
     ensures cells { λ _. ⌜ now (cells .exit) ≡ cellsAfter (matrixVerdict (now (description .entry)) (now (image .entry))) (matrixReply (now (description .entry)) (now (image .entry))) (now (cells .entry)) ⌝ }
 {
-    let verdict = calendar::matrix_verdict(description, image);
-    match verdict {
-        Verdict::Passed => {
-            *cells = calendar::matrix(description, image);
-            refusal_of(Verdict::Passed)
-        }
-        Verdict::Refused(r) => refusal_of(Verdict::Refused(r)),
-    }
+    refusal_of(calendar::matrix_into(description, image, cells))
 }

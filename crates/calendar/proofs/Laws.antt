@@ -21,6 +21,7 @@ use Rattle.meaning.specs.declared.Place.{Place}
 use Rattle.meaning.specs.declared.Quantity.{Quantity}
 use Rattle.meaning.specs.declared.Refusal.{Refusal}
 use Rattle.meaning.specs.declared.Reply.{Reply}
+use Rattle.meaning.specs.declared.Verdict.{Verdict}
 use Rattle.meaning.specs.Calendar.{realTime, weekdayOf, controlsOf, datesAt, switchesAt, matrixAt, dayColumns, rowWidth, table54Size, latest, datesOf, seasonOn, specialOn, dayColumn, columnOn, missingSpecial, cellAt, switchesOf, tierFrom, tierBySchedule, Found, found, missing, sized, seatsFound, calendarIn, calendar, tierOn, tierDay, tierIn}
 use Rattle.meaning.specs.Numbers.{notADate, noSeason, seasonChangeArmed, noRowOrColumn, notACalendar}
 use Rattle.almanac.proofs.Tests.{both-true}
@@ -37,6 +38,7 @@ use Rattle.laying.proofs.Opened.{Came, opens, refuses, came, opened-image}
 use Rattle.calendar.specs.declared.Calendar.{Calendar}
 use Rattle.calendar.specs.declared.Sections.{Sections}
 use Rattle.calendar.specs.Sections.{Small, sectionsOf, Sized, stood, HasCell}
+use Rattle.calendar.specs.Lent.{cellsAfter}
 
 -- WHAT TABLE 51 SAYS, octet by octet
 pub controls-are : (o : ℕ) (t : List ℕ) (a b s n r k : ℕ) → a ≡ getD t 0 0 → b ≡ getD t 1 0 → s ≡ getD t 2 0 → n ≡ getD t 3 0 → r ≡ getD t 4 0 → k ≡ numberIn o (part t 5 2)
@@ -313,3 +315,13 @@ unfolding realTime
 few-minutes w time e h =
     let b = both-true (w .hour ≤? 23) (w .minute ≤? 59) (sym e ∙ h) in
     omega (arith, leb-true (w .hour) 23 (b .0), leb-true (w .minute) 59 (b .1))
+
+-- THE LENT CELLS, by the verdict
+module _ (v : Verdict) (matrix lent : List (List ℕ)) where
+  pub cells-set : Verdict.Passed ≡ v → (cells : List (List ℕ)) → cells ≡ matrix → cells ≡ cellsAfter v matrix lent
+  unfolding cellsAfter
+  cells-set is cells e = e ∙ ap (λ (x : Verdict). cellsAfter x matrix lent) is
+
+  pub cells-left : (r : Refusal) → Verdict.Refused r ≡ v → lent ≡ cellsAfter v matrix lent
+  unfolding cellsAfter
+  cells-left r is = ap (λ (x : Verdict). cellsAfter x matrix lent) is

@@ -23,6 +23,7 @@ ghost use Rattle.meaning.specs.Basics.{part};
 ghost use Rattle.meaning.specs.Layout.{dataOrder};
 ghost use Rattle.meaning.specs.Calendar.{controlsOf, datesAt, dayColumns, sized, calendar, dayColumn, columnOn, missingSpecial, cellAt, tierBySchedule, tierOn, tierDay, tierIn, found, tierReply, matrixOf, matrixReply, matrixVerdict};
 ghost use Rattle.calendar.specs.Sections.{Small, sectionsOf, Sized, Stands, stood, HasCell, HasRow, rowOf};
+ghost use Rattle.calendar.specs.Lent.{cellsAfter};
 
 // The columns of days: Sunday to Saturday; or Saturday, Sunday, weekday.
 const EACH_DAY: usize = 7;
@@ -132,8 +133,9 @@ fn calendar_at(description: &[u8], image: &[u8]) -> Calendar
     ensures reply { λ r. ⌜ stood (now (image .entry)) r ≡ calendar (now (description .entry)) (now (image .entry)) ⌝ }
     ensures sized { λ r. ⌜ Stands (now (image .entry)) r ⌝ }
 {
-    let table51 = places::table_place(description, image, 0, 51);
-    let table54 = places::table_place(description, image, 0, 54);
+    let tables = places::table_places(description, image, 0, 51, 0, 54);
+    let table51 = tables.first;
+    let table54 = tables.second;
     match table51 {
         Place::Refused(r) => Calendar::Refused(r),
         Place::At {
@@ -384,5 +386,24 @@ pub fn matrix_verdict(description: &[u8], image: &[u8]) -> Verdict
             start: _,
             length: _,
         } => Verdict::Passed,
+    }
+}
+
+// The matrix into cells, and its refusal. A refused call leaves cells as they are.
+pub fn matrix_into(description: &[u8], image: &[u8], cells: &mut [[u8; 22]; 15]) -> Verdict
+    ensures reply { λ r. ⌜ r ≡ matrixVerdict (now (description .entry)) (now (image .entry)) ⌝ }
+    ensures cells { λ _. ⌜ now (cells .exit) ≡ cellsAfter (matrixVerdict (now (description .entry)) (now (image .entry))) (matrixReply (now (description .entry)) (now (image .entry))) (now (cells .entry)) ⌝ }
+{
+    let calendar = calendar_at(description, image);
+    match calendar {
+        Calendar::Refused(r) => Verdict::Refused(r),
+        Calendar::At {
+            controls,
+            start,
+            length,
+        } => {
+            *cells = rows_of(controls, octets::part(image, start, length));
+            Verdict::Passed
+        }
     }
 }

@@ -17,11 +17,12 @@ use Rattle.meaning.specs.Questions.{Question, outcomeOf, replyTo, toldTo, refus
 use Rattle.meaning.proofs.Passed.{check-says}
 use Rattle.meaning.specs.Numbers.{numbered}
 use Rattle.demands.proofs.Demand2.{demand-2}
-use Rattle.demands.specs.Demand1.{oneToSeven, ten, eleven, elevenNumber, twelve, thirteen, fourteen, fifteen, twenty, tenAndTwenty, seventeenAndNineteen, sixteenToNineteen, ofCalendar, ofMoment, refusalsOf, Numbered, Asked, NoOctets, Demand1}
+use Rattle.demands.specs.Demand1.{oneToSeven, ten, eleven, elevenNumber, twelve, thirteen, fourteen, fifteen, twenty, tenAndTwenty, seventeenAndNineteen}
+use Rattle.demands.specs.Demand1.{sixteenToNineteen, ofCalendar, ofMoment, refusalsOf, Numbered, Asked, NoOctets, Demand1}
 use Rattle.laying.specs.Every.{Every}
 use Rattle.laying.proofs.Every.{every-append}
 use Rattle.demands.proofs.Known.{KnownIn, known-last, known-more, first-known, sound-known, after, one-known, four-known}
-use Rattle.demands.proofs.FirstGiven.{opening, first-given}
+use Rattle.demands.proofs.FirstGiven.{first-given}
 
 -- BY ITS NUMBERS: each kind of reply
 reply-numbered : (r : Reply) → KnownIn (refusalIn r) → Numbered (refusalIn r) (toldBy r)
@@ -52,9 +53,14 @@ record Kept (d img : List ℕ) (q : Question) : Type 0 where
   known : Every KnownIn (refusalsOf q d img)
   unchanged : (r : Refusal) → refusalTo q d img ≡ some r → imageAfter q d img ≡ img
 
+-- the tests behind 1 to 9
+unfoldable tests : Unit {0}
+unfolding ten eleven elevenNumber twelve thirteen fourteen fifteen tenAndTwenty twenty ofCalendar ofMoment sixteenToNineteen seventeenAndNineteen
+tests = tt
+
 -- one test, or four, behind 1 to 9; and the image as it was
 kept : (d img : List ℕ) (q : Question) → Kept d img q
-unfolding outcomeOf replyTo refusalTo imageAfter refusalsOf oneToSeven ten eleven elevenNumber twelve thirteen fourteen fifteen tenAndTwenty twenty ofCalendar ofMoment sixteenToNineteen seventeenAndNineteen
+unfolding outcomeOf replyTo refusalTo imageAfter refusalsOf oneToSeven tests
 kept d img ask.check = record { known = known-more _ _ (sound-known d) known-last; unchanged = λ r e. refl }
 kept d img ask.layout = record { known = after d img _ known-last; unchanged = λ r e. refl }
 kept d img (ask.tablePlace m k) = record { known = after d img _ (one-known _ _ refl); unchanged = λ r e. refl }
@@ -63,11 +69,20 @@ kept d img (ask.elementPlace q) = record { known = after d img _ (one-known _ _ 
 kept d img (ask.elementPart q) = record { known = after d img _ (one-known _ _ refl); unchanged = λ r e. refl }
 kept d img (ask.elementNumber q) = record { known = after d img _ (one-known _ _ refl); unchanged = λ r e. refl }
 kept d img (ask.writeRange m k o new) =
-    record { known = after d img _ (four-known _ _ _ _ _ _ _ _ refl refl refl refl); unchanged = λ r e. demand-2 d img .range m k o new .unchanged r (verdict-refused _ r e) }
+    record {
+      known = after d img _ (four-known _ _ _ _ _ _ _ _ refl refl refl refl);
+      unchanged = λ r e. demand-2 d img .range m k o new .unchanged r (verdict-refused _ r e);
+    }
 kept d img (ask.writeOctets q new) =
-    record { known = after d img _ (four-known _ _ _ _ _ _ _ _ refl refl refl refl); unchanged = λ r e. demand-2 d img .octets q new .unchanged r (verdict-refused _ r e) }
+    record {
+      known = after d img _ (four-known _ _ _ _ _ _ _ _ refl refl refl refl);
+      unchanged = λ r e. demand-2 d img .octets q new .unchanged r (verdict-refused _ r e);
+    }
 kept d img (ask.writeNumber q x) =
-    record { known = after d img _ (four-known _ _ _ _ _ _ _ _ refl refl refl refl); unchanged = λ r e. demand-2 d img .number q x .unchanged r (verdict-refused _ r e) }
+    record {
+      known = after d img _ (four-known _ _ _ _ _ _ _ _ refl refl refl refl);
+      unchanged = λ r e. demand-2 d img .number q x .unchanged r (verdict-refused _ r e);
+    }
 kept d img (ask.tier w q) =
     record {
       known = after d img _ (every-append KnownIn _ _ (four-known _ _ _ _ _ _ _ _ refl refl refl refl) (four-known _ _ _ _ _ _ _ _ refl refl refl refl));
@@ -100,7 +115,7 @@ demand-1 d img = record { asked = asked; rules = check-says d; octets = octets-a
   where
     asked : (q : Question) → Asked d img q
     asked q =
-        let first = first-given d img (opening d img) q in
+        let first = first-given d img q in
         record {
           first = first;
           numbered = numbered-all d img q (subst KnownIn (sym first) (first-known _ (kept d img q .known)));

@@ -14,8 +14,8 @@ demand-3 d img =
     record {
       passedExactly = passed-exactly d;
       noneMet = none-met d img;
-      laysOrShort = lays-or-short d img;
-      shortExactly = short-exactly d img;
+      laysOrShort = lays-or-short;
+      shortExactly = short-exactly;
       totalInside = total-inside d img;
       exactlyOne = exactly-one d img;
       tablesFollow = tables-follow d img;

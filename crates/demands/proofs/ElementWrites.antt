@@ -5,7 +5,6 @@ use mathlib.Core.Bool.{Bool, true, false}
 use mathlib.Core.List.{List}
 use lib.ListN.{length}
 use borrow.Author.Tests.{eqb-true, eq-eqb, ltb-true, lt-ltb}
-use native.Mathlib.Omega.{arith}
 use Rattle.meaning.specs.Basics.{if_then_else_, _=?_, _<?_, octetsIn}
 use Rattle.meaning.specs.declared.ElementName.{ElementName}
 use Rattle.meaning.specs.declared.Refusal.{Refusal}
@@ -15,46 +14,28 @@ use Rattle.meaning.specs.declared.Reply.{Reply}
 use Rattle.meaning.specs.Description.{fieldsAt, isUint}
 use Rattle.meaning.specs.Layout.{Placed, Seat, Slots, dataOrder, numberAt}
 use Rattle.meaning.specs.Passed.{Exactly}
-use Rattle.meaning.specs.Refusals.{
-  opened,
-  refused,
-  openImage,
-  elementIn,
-  placedPlace,
-  placePart,
-  elementPartReply,
-  integerPlace,
-  placeNumber,
-  elementNumberReply,
-  placeVerdict,
-  tableAround,
-  fitting,
-  allowedAt,
-  octetsPlaceIn,
-  writeOctetsReply,
-  writeOctetsImage,
-  numberPlaceIn,
-  writeNumberReply,
-  writeNumberImage,
-}
+use Rattle.meaning.specs.Refusals.{opened, refused, openImage, elementIn, placedPlace, placePart, elementPlaceReply, elementPartReply, integerPlace, placeNumber}
+use Rattle.meaning.specs.Refusals.{elementNumberReply, placeVerdict, tableAround, fitting, allowedAt, octetsPlaceIn, writeOctetsReply, writeOctetsImage}
+use Rattle.meaning.specs.Refusals.{numberPlaceIn, writeNumberReply, writeNumberImage}
 use Rattle.meaning.proofs.Octets.{octets-long, octets-back}
 use Rattle.meaning.proofs.Passed.{passed-laws}
-use Rattle.meaning.specs.Numbers.{noElement, wrongSize}
-use Rattle.demands.specs.Demand2.{octetsAt, ElementGood, NumberGood, OctetsWrites, NumberWrites}
+use Rattle.meaning.specs.Numbers.{wrongSize}
+use Rattle.demands.specs.Demand2.{octetsAt, OthersSame, ElementGood, NumberGood, OctetsWrites, NumberWrites}
 use Rattle.demands.specs.Demand3.{StaysPut}
-use Rattle.laying.proofs.Opened.{Came, opens, refuses, came, opened-image, where-laid, where-opens, placeStart, placeLength}
+use Rattle.laying.proofs.Opened.{Came, opens, refuses, came, opened-image, where-laid, where-opens, placeStart, placeLength, integer-exactly}
 use Rattle.laying.proofs.Found.{element-own, element-ends}
 use Rattle.demands.proofs.Dimensions.{found-none, none-found}
 use Rattle.demands.proofs.Writable.{round-writable, writable-round}
 use Rattle.demands.proofs.Allowed.{refused-not, Open, allowed-is, allowed-only}
-use Rattle.demands.proofs.Writes.{Taken, with-data, with-number, after, taken-passed, taken-after, taken-others, taken-there, taken-order, taken-stays}
+use Rattle.demands.proofs.Writes.{Taken, writtenWith, with-data, with-number, after, taken-passed, taken-after, taken-others, taken-there, taken-order, taken-stays}
 use Rattle.demands.proofs.Writes.{stays-put, refused-unchanged}
 
 -- ANY WRITE OF AN ELEMENT
 -- what the write comes to, w, by the tests that it makes: whether an element's length fits, and whether the element is of the sort asked for
-record Write (d img : List ℕ) (q : ElementName) (w : Place) (Fits : ℕ → Type 0) (Sort : Type 0) : Type 0 where
+record Write (d img : List ℕ) (q : ElementName) (w : Place) (data′ : ℕ → List ℕ) (Fits : ℕ → Type 0) (Sort : Type 0) : Type 0 where
   fits : ℕ → Bool
   fits-exactly : (n : ℕ) → Exactly (fits n ≡ true) (Fits n)
+  long : (n : ℕ) → Fits n → length (data′ n) ≡ n
   sorted : Place → Place
   sorted-exactly : (v : Place) (p n : ℕ) → Exactly (sorted v ≡ octetsAt p n) (Sort × (v ≡ octetsAt p n))
   of-opened : (ts : List Seat) (es : List Placed) (s : Slots) (total : ℕ) → openImage d img ≡ opened ts es s total
@@ -100,7 +81,30 @@ admits-is : (d img : List ℕ) (q : ElementName) (es : List Placed) (fits : ℕ 
 unfolding allowedAt fitting
 admits-is d img q es fits p n f a = rw (allowed-is d img es (tableAround d (q .item)) p n a, f)
 
-module _ {d img : List ℕ} {q : ElementName} {w : Place} {Fits : ℕ → Type 0} {Sort : Type 0} (k : Write d img q w Fits Sort) where
+module _ {d img : List ℕ} {q : ElementName} {w : Place} {data′ : ℕ → List ℕ} {Fits : ℕ → Type 0} {Sort : Type 0} (k : Write d img q w data′ Fits Sort) where
+  -- good: the element is the write's place
+  element-taken : Sort → (g : ElementGood d img q Fits) → Taken d img w data′ (g .start) (g .size)
+  element-taken sort g =
+      let a = where-opens d img q (g .start) (g .size) (g .exists) in
+      let h = a .opens in
+      let v = placedPlace (elementIn q (a .elements)) in
+      let there = k .sorted-exactly v (g .start) (g .size) .1 (sort, sym (where-laid h q) ∙ g .exists) in
+      let free = none-found h (g .start) (g .size) (g .free) in
+      let marked = round-writable (passed-laws d (h .passes)) img (element-own a) (g .allowed) in
+      record {
+        seats = a .seats;
+        elements = a .elements;
+        slots = a .slots;
+        total = a .total;
+        opens = h;
+        is = k .of-opened (a .seats) (a .elements) (a .slots) (a .total) (opened-image h)
+            ∙ ap (λ (y : Place). fitting (k .fits) (allowedAt d img q (a .elements) y)) there
+            ∙ admits-is d img q (a .elements) (k .fits) (g .start) (g .size) (k .fits-exactly (g .size) .1 (g .fits)) (record { marked = marked; free = free });
+        long = k .long (g .size) (g .fits);
+        inside = element-ends a;
+        free = free;
+      }
+
   -- accepted: the element is good
   element-good : placeVerdict w ≡ Verdict.Passed → Sort × ElementGood d img q Fits
   element-good v = go (came d img)
@@ -122,28 +126,18 @@ module _ {d img : List ℕ} {q : ElementName} {w : Place} {Fits : ℕ → Type 0
           )
       go (refuses r e) = absurd (refused-not r (rw (k .of-refused r e) at v))
 
-  -- good: the element is the write's place
-  element-taken : (data′ : ℕ → List ℕ) → Sort → (g : ElementGood d img q Fits) → length (data′ (g .size)) ≡ g .size → Taken d img w data′ (g .start) (g .size)
-  element-taken data′ sort g long =
-      let a = where-opens d img q (g .start) (g .size) (g .exists) in
-      let h = a .opens in
-      let v = placedPlace (elementIn q (a .elements)) in
-      let there = k .sorted-exactly v (g .start) (g .size) .1 (sort, sym (where-laid h q) ∙ g .exists) in
-      let free = none-found h (g .start) (g .size) (g .free) in
-      let marked = round-writable (passed-laws d (h .passes)) img (element-own a) (g .allowed) in
-      record {
-        seats = a .seats;
-        elements = a .elements;
-        slots = a .slots;
-        total = a .total;
-        opens = h;
-        is = k .of-opened (a .seats) (a .elements) (a .slots) (a .total) (opened-image h)
-            ∙ ap (λ (y : Place). fitting (k .fits) (allowedAt d img q (a .elements) y)) there
-            ∙ admits-is d img q (a .elements) (k .fits) (g .start) (g .size) (k .fits-exactly (g .size) .1 (g .fits)) (record { marked = marked; free = free });
-        long = long;
-        inside = element-ends a;
-        free = free;
-      }
+  -- every table and element stands where it stood
+  element-stays : StaysPut d img (writtenWith img data′ w)
+  element-stays = stays-put w data′ (λ v. let g = element-good v in (g .1 .start, g .1 .size, element-taken (g .0) (g .1)))
+
+  -- and every other octet is the same
+  element-others : (p n : ℕ) → placeVerdict w ≡ Verdict.Passed → elementPlaceReply d img q ≡ octetsAt p n → OthersSame img (writtenWith img data′ w) p n
+  element-others p n v e =
+      let g = element-good v in
+      let t = element-taken (g .0) (g .1) in
+      let start : g .1 .start ≡ p = ap placeStart (sym (g .1 .exists) ∙ e) in
+      let size : g .1 .size ≡ n = ap placeLength (sym (g .1 .exists) ∙ e) in
+      rw (taken-after t, ← start, ← size) (taken-others t)
 
 -- WRITE AN ELEMENT'S OCTETS: any element, as many octets as it has
 module _ (d img : List ℕ) (q : ElementName) (new : List ℕ) where
@@ -152,43 +146,35 @@ module _ (d img : List ℕ) (q : ElementName) (new : List ℕ) where
   octetsPlace = octetsPlaceIn d img q (length new) (openImage d img)
 
   -- the tests that it makes
-  octets-write : Write d img q octetsPlace (λ size. length new ≡ size) (Unit {0})
+  octets-write : Write d img q octetsPlace (λ n. new) (λ size. length new ≡ size) (Unit {0})
   unfolding octetsPlaceIn
   octets-write =
       record {
         fits = λ l. length new =? l;
         fits-exactly = λ n. (eqb-true (length new) n, eq-eqb (length new) n);
+        long = λ n e. e;
         sorted = λ v. v;
         sorted-exactly = λ v p n. (λ e. (tt, e), λ c. c .1);
         of-opened = λ ts es s total e. rw e;
         of-refused = λ r e. rw e;
       }
 
-  -- a good element is the write's place
-  octets-taken : (g : ElementGood d img q (λ size. length new ≡ size)) → Taken d img octetsPlace (λ n. new) (g .start) (g .size)
-  octets-taken g = element-taken octets-write (λ n. new) tt g (g .fits)
-
   -- every table and element stands where it stood
   pub octets-stay : StaysPut d img (writeOctetsImage d img q new)
   unfolding writeOctetsImage
-  octets-stay =
-      rw with-data (stays-put octetsPlace (λ n. new)
-      (λ v. let g = element-good octets-write v .1 in (g .start, g .size, octets-taken g)))
+  octets-stay = rw with-data (element-stays octets-write)
 
   -- every clause
   pub octets-writes : OctetsWrites d img q new
   unfolding writeOctetsReply writeOctetsImage elementPartReply placePart
   octets-writes =
       record {
-        accepted = (λ v. element-good octets-write v .1, λ g. taken-passed (octets-taken g));
+        accepted = (λ v. element-good octets-write v .1, λ g. taken-passed (element-taken octets-write tt g));
         readBack = λ v.
-            let t = octets-taken (element-good octets-write v .1) in
-            rw (with-data, taken-after t, taken-stays t .elements q, element-good octets-write v .1 .exists) (taken-there t);
-        others = λ p n v e.
             let g = element-good octets-write v .1 in
-            let start : g .start ≡ p = ap placeStart (sym (g .exists) ∙ e) in
-            let size : g .size ≡ n = ap placeLength (sym (g .exists) ∙ e) in
-            rw (with-data, taken-after (octets-taken g), ← start, ← size) (taken-others (octets-taken g));
+            let t = element-taken octets-write tt g in
+            rw (with-data, taken-after t, taken-stays t .elements q, g .exists) (taken-there t);
+        others = rw with-data (element-others octets-write);
         unchanged = rw with-data (refused-unchanged img octetsPlace (λ n. new));
       }
 
@@ -202,44 +188,32 @@ module _ (d img : List ℕ) (q : ElementName) (x : ℕ) where
   abbrev Integer : Type 0
   Integer = isUint (fieldsAt d (q .item)) ≡ true
 
-  -- the place of an integer
-  integer-exactly : (v : Place) (p n : ℕ) → Exactly (integerPlace d (q .item) v ≡ octetsAt p n) (Integer × (v ≡ octetsAt p n))
-  unfolding integerPlace
-  integer-exactly (Place.At s l) p n = (go (isUint (fieldsAt d (q .item))) refl, λ c. rw (c .0) (c .1))
-    where
-      go : (b : Bool) → isUint (fieldsAt d (q .item)) ≡ b → (if b then Place.At s l else Place.Refused noElement) ≡ octetsAt p n
-          → Integer × (Place.At s l ≡ octetsAt p n)
-      go true e h = (e, h)
-      go false e h = let z : _≡_ {A = ℕ} 0 1 = cc in absurd (omega arith)
-  integer-exactly (Place.Refused r) p n = (λ e. let z : _≡_ {A = ℕ} 0 1 = cc in absurd (omega arith), λ c. c .1)
+  -- the data: the number's octets, as many as the element has
+  abbrev numberOctets : ℕ → List ℕ
+  numberOctets n = octetsIn (dataOrder img) n x
 
   -- the tests that it makes
-  number-write : Write d img q numberPlace (λ size. x < 256 ^ size) Integer
+  number-write : Write d img q numberPlace numberOctets (λ size. x < 256 ^ size) Integer
   unfolding numberPlaceIn
   number-write =
       record {
         fits = λ l. x <? 256 ^ l;
         fits-exactly = λ n. (ltb-true x (256 ^ n), lt-ltb x (256 ^ n));
+        long = λ n e. octets-long (dataOrder img) n x;
         sorted = integerPlace d (q .item);
-        sorted-exactly = integer-exactly;
+        sorted-exactly = integer-exactly d (q .item);
         of-opened = λ ts es s total e. rw e;
         of-refused = λ r e. rw e;
       }
 
-  -- the data: the number's octets, as many as the element has
-  abbrev numberOctets : ℕ → List ℕ
-  numberOctets n = octetsIn (dataOrder img) n x
-
   -- a good element is the write's place
   number-taken : (g : NumberGood d img q x) → Taken d img numberPlace numberOctets (g .1 .start) (g .1 .size)
-  number-taken g = element-taken number-write numberOctets (g .0) (g .1) (octets-long (dataOrder img) (g .1 .size) x)
+  number-taken g = element-taken number-write (g .0) (g .1)
 
   -- every table and element stands where it stood
   pub number-stays : StaysPut d img (writeNumberImage d img q x)
   unfolding writeNumberImage
-  number-stays =
-      rw with-number (stays-put numberPlace numberOctets
-      (λ v. let g = element-good number-write v in (g .1 .start, g .1 .size, number-taken g)))
+  number-stays = rw with-number (element-stays number-write)
 
   -- its octets make the number again
   number-back : (g : NumberGood d img q x) → elementNumberReply d (after (number-taken g)) q ≡ Reply.Number x
@@ -258,10 +232,6 @@ module _ (d img : List ℕ) (q : ElementName) (x : ℕ) where
         readBack = λ v.
             let g = element-good number-write v in
             rw (with-number, taken-after (number-taken g)) (number-back g);
-        others = λ p n v e.
-            let g = element-good number-write v in
-            let start : g .1 .start ≡ p = ap placeStart (sym (g .1 .exists) ∙ e) in
-            let size : g .1 .size ≡ n = ap placeLength (sym (g .1 .exists) ∙ e) in
-            rw (with-number, taken-after (number-taken g), ← start, ← size) (taken-others (number-taken g));
+        others = rw with-number (element-others number-write);
         unchanged = rw with-number (refused-unchanged img numberPlace numberOctets);
       }

@@ -5,19 +5,17 @@ use mathlib.Core.List.{List, _++_}
 use lib.ListN.{length, take, replicate, length-append, length-replicate}
 use lib.Seq.{take-append-seam}
 use borrow.Author.Tests.{le-leb}
-use native.Mathlib.Decide.{decLt}
 use native.Mathlib.Omega.{arith}
 use Rattle.meaning.specs.declared.ElementName.{ElementName}
 use Rattle.meaning.specs.declared.Reply.{Reply}
 use Rattle.meaning.specs.declared.Place.{Place}
 use Rattle.meaning.specs.Layout.{Placed, Seat, Slots}
 use Rattle.meaning.specs.Refusals.{layoutReply, elementIn, placedPlace, elementPlaceReply}
-use Rattle.laying.specs.Cover.{hits}
-use Rattle.laying.proofs.Cover.{exactly-one as octets-once, held-inside}
-use Rattle.laying.proofs.Names.{names-found, subscripts-few}
+use Rattle.laying.proofs.Cover.{EndsBy, Consecutive}
+use Rattle.laying.proofs.LaidOut.{elements-follow, elements-end, names-found, subscripts-few}
 use Rattle.demands.specs.Demand3.{Holds, OneElement, ExactlyOne}
 use Rattle.laying.proofs.Opened.{Opens, where-laid, where-found, total-opens}
-use Rattle.laying.proofs.Among.{Among, every-among, named-among, Hit, held-there, hits-among, hits-some, hits-one}
+use Rattle.laying.proofs.Among.{Among, every-among, named-among, Has, one-has, only-has}
 
 -- an element's name: its item, and its subscripts filled up to four places
 abbrev pub nameOf : Placed → ElementName
@@ -29,23 +27,15 @@ nameOf e =
     }
 
 module _ {d img : List ℕ} {ts : List Seat} {es : List Placed} {s : Slots} {total : ℕ} (o : Opens d img ts es s total) where
-  -- the octets that elements hold
-  hit-once : (x : ℕ) → (x < total → hits x es ≡ 1) × (total ≤ x → hits x es ≡ 0)
-  hit-once = octets-once d img ts es s total (o .laid)
-
-  -- an octet that is held lies below the total, and in one element only
-  pub hit-below : (x : ℕ) → 1 ≤ hits x es → hits x es ≡ 1
-  hit-below x h = go (decLt x total)
-    where
-      go : Dec (x < total) → hits x es ≡ 1
-      go (yes l) = hit-once x .0 l
-      go (no n) = absurd (omega (arith, hit-once x .1 (omega arith)))
+  -- elements follow one another
+  follow : Consecutive 0 es total
+  follow = elements-follow d img ts es s total (o .laid)
 
   -- the element of a name that holds an octet
   pub record HolderOf (q : ElementName) (x : ℕ) : Type 0 where
     pub element : Placed
     pub among : Among element es
-    pub hit : Hit x element
+    pub has : Has x element
     pub item : element .item ≡ q .item
     pub subscripts : element .subscripts ≡ take (q .count) (q .subscripts)
 
@@ -58,7 +48,7 @@ module _ {d img : List ℕ} {ts : List Seat} {es : List Placed} {s : Slots} {tot
       record {
         element = e;
         among = n .among;
-        hit = held-inside x (e .start) (e .size) (omega (arith, f .start, f .size, h .from, h .to)) (omega (arith, f .start, f .size, h .from, h .to));
+        has = (omega (arith, f .start, h .from), omega (arith, f .start, f .size, h .to));
         item = n .item;
         subscripts = n .subscripts;
       }
@@ -72,19 +62,18 @@ module _ {d img : List ℕ} {ts : List Seat} {es : List Placed} {s : Slots} {tot
       where-laid o (nameOf e) ∙ rw (le-leb (length (e .subscripts)) 4 few, take-append-seam (e .subscripts) _, found)
 
   -- an octet below the total lies in the element found there, and in no other
-  one-element : (x : ℕ) → hits x es ≡ 1 → OneElement d img x
-  one-element x h =
-      let r = hits-some x es (omega arith) in
+  one-element : (x : ℕ) → x < total → OneElement d img x
+  one-element x l =
+      let r = one-has follow x (omega arith) l in
       let e = r .0 in
-      let t = held-there x (e .start) (e .size) (omega (arith, r .2)) in
       let few = every-among _ e es (subscripts-few d img ts es s total (o .laid)) (r .1) in
       record {
         name = nameOf e;
         places = length-append (e .subscripts) _ ∙ rw length-replicate (omega arith);
-        holds = record { start = e .start; size = e .size; reply = told e (r .1); from = t .0; to = t .1 };
+        holds = record { start = e .start; size = e .size; reply = told e (r .1); from = r .2 .0; to = r .2 .1 };
         only = λ q g.
             let f = holder q x g in
-            let same = hits-one x e (f .element) es (omega arith) (r .1) (f .among) (r .2) (f .hit) in
+            let same = only-has follow x e (f .element) (r .1) (f .among) (r .2) (f .has) in
             record {
               item = ap (λ y. y .item) same ∙ f .item;
               subscripts = take-append-seam (e .subscripts) _ ∙ ap (λ y. y .subscripts) same ∙ f .subscripts;
@@ -95,10 +84,10 @@ module _ {d img : List ℕ} {ts : List Seat} {es : List Placed} {s : Slots} {tot
   none-past : (x : ℕ) → total ≤ x → (q : ElementName) → Holds d img q x → ⊥
   none-past x l q h =
       let f = holder q x h in
-      omega (arith, hits-among x (f .element) es (f .among) (f .hit), hit-once x .1 l)
+      omega (arith, f .has .1, every-among (EndsBy total) (f .element) es (elements-end d img ts es s total (o .laid)) (f .among))
 
 -- laid out, every octet below the total lies in exactly one element
 pub exactly-one : (d img : List ℕ) (total : ℕ) → layoutReply d img ≡ Reply.Total total → ExactlyOne d img total
 exactly-one d img total e =
     let o = total-opens d img total e .opens in
-    record { below = λ x l. one-element o x (hit-once o x .0 l); past = none-past o }
+    record { below = one-element o; past = none-past o }

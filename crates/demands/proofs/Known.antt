@@ -13,7 +13,7 @@ use Rattle.meaning.specs.declared.Verdict.{Verdict}
 use Rattle.meaning.specs.Description.{checkReply}
 use Rattle.meaning.specs.Passed.{OfRules}
 use Rattle.meaning.proofs.Passed.{check-says}
-use Rattle.meaning.specs.Layout.{unreadDimension, bitOutside, unequalElements, short, noItem, Layout, laidOut, stoppedAt, layOut}
+use Rattle.meaning.specs.Layout.{fault, short, Layout, laidOut, stoppedAt, layOut}
 use Rattle.meaning.specs.Refusals.{verdictReply}
 use Rattle.meaning.specs.Questions.{refusalIn}
 use Rattle.meaning.specs.Numbers.{reportsItem, lastNumber, numbered}
@@ -74,11 +74,8 @@ sound-known d = go (checkReply d) refl
 short-known : (l : Layout) → KnownIn (shortIn l)
 unfolding shortIn KnownIn
 short-known (laidOut ts es s n) = tt
-short-known (stoppedAt es (unreadDimension i)) = tt
-short-known (stoppedAt es (bitOutside i)) = tt
-short-known (stoppedAt es (unequalElements i)) = tt
+short-known (stoppedAt es (fault x i)) = tt
 short-known (stoppedAt es (short i p)) = record { least = omega arith; most = omega arith; atItem = λ e. absurd (true≢false e); atOctet = λ e. absurd (true≢false e) }
-short-known (stoppedAt es (noItem i)) = tt
 
 opening-known : (d img : List ℕ) → Every KnownIn (oneToNine d img)
 unfolding oneToNine
@@ -94,4 +91,5 @@ one-known b n h = known-more _ _ (given-known b n h) known-last
 -- four tests
 pub four-known : (a b c d : Bool) (p q r s : ℕ) → listed p ≡ true → listed q ≡ true → listed r ≡ true → listed s ≡ true
     → Every KnownIn (given a (numbered p) ∷ given b (numbered q) ∷ given c (numbered r) ∷ given d (numbered s) ∷ [])
-four-known a b c d p q r s h i j k = known-more _ _ (given-known a p h) (known-more _ _ (given-known b q i) (known-more _ _ (given-known c r j) (known-more _ _ (given-known d s k) known-last)))
+four-known a b c d p q r s h i j k =
+    known-more _ _ (given-known a p h) (known-more _ _ (given-known b q i) (known-more _ _ (given-known c r j) (one-known d s k)))

@@ -19,9 +19,8 @@ use Rattle.meaning.specs.Numbers.{outsideTable}
 use Rattle.demands.specs.Demand2.{RangeGood, RangeWrites}
 use Rattle.demands.specs.Demand3.{StaysPut}
 use Rattle.laying.proofs.Opened.{Opens, Came, opens, refuses, came, opened-image, table-laid, table-opens, placeStart}
-use Rattle.laying.proofs.Found.{seat-of, table-ends}
-use Rattle.laying.proofs.Among.{every-among, seat-among}
-use Rattle.demands.proofs.Tables.{SeatIn, seats-in}
+use Rattle.laying.proofs.Found.{table-ends}
+use Rattle.demands.proofs.Tables.{found-table}
 use Rattle.demands.proofs.Dimensions.{found-none, none-found}
 use Rattle.demands.proofs.Writable.{named-writable, writable-named}
 use Rattle.demands.proofs.Allowed.{refused-not, allowed-is, allowed-only}
@@ -45,15 +44,13 @@ module _ (d img : List ℕ) (m k : ℕ) (o : TableOffset) (n : ℕ) where
             → RangeGood d img m k (o .0) n
         go true g v = absurd (refused-not _ v)
         go false g v =
-            let f = seat-among m k ts t e in
-            let there = every-among (SeatIn d 0) t ts (seats-in h) (f .among) in
             let a = allowed-only d img es (t .item) (t .start + o .0) n v in
             record {
               start = t .start;
               size = t .size;
               exists = table-laid h m k ∙ ap seatPlace e;
               fits = ltb-false (t .size) (o .0 + n) g;
-              allowed = writable-named (passed-laws d (h .passes)) img m k t there (f .manufacturer) (f .number) (a .marked);
+              allowed = writable-named (passed-laws d (h .passes)) img (found-table h e) (a .marked);
               free = found-none h (t .start + o .0) n (a .free);
             }
 
@@ -80,10 +77,8 @@ module _ (d img : List ℕ) (m k : ℕ) (o : TableOffset) (n : ℕ) where
       let w = table-opens d img m k (g .start) (g .size) (g .exists) in
       let h = w .opens in
       let t = w .at .seat in
-      let f = seat-of w in
-      let there = every-among (SeatIn d 0) t (w .seats) (seats-in h) (f .among) in
       let free = none-found h (g .start + o .0) n (g .free) in
-      let marked = named-writable (passed-laws d (h .passes)) img m k t there (f .manufacturer) (f .number) (g .allowed) in
+      let marked = named-writable (passed-laws d (h .passes)) img (found-table h (w .at .found)) (g .allowed) in
       record {
         seats = w .seats;
         elements = w .elements;

@@ -9,39 +9,21 @@ use native.Mathlib.Decide.{decLt}
 use native.Mathlib.Omega.{arith}
 use Rattle.meaning.specs.Basics.{if_then_else_, _=?_}
 use Rattle.meaning.specs.declared.Reply.{Reply}
-use Rattle.meaning.specs.Description.{itemCount, itemAt, fieldsAt, isTable, inside, round}
-use Rattle.meaning.specs.Layout.{
-  bodyAt,
-  tabled,
-  tablesOf,
-  treeOf,
-  Placed,
-  Slots,
-  Laid,
-  laid,
-  stopped,
-  Seat,
-  Layout,
-  laidOut,
-  stoppedAt,
-  before,
-  seated,
-  layTables,
-  layOut,
-  layBody,
-  tableNamed,
-}
+use Rattle.meaning.specs.Description.{itemCount, fieldsAt, isTable, nested, inside, round}
+use Rattle.meaning.specs.Layout.{bodyAt, tablesOf, treeOf, Placed, Slots, Laid, laid, stopped}
+use Rattle.meaning.specs.Layout.{Seat, Layout, laidOut, stoppedAt, before, seated, layTables, layOut, layBody, tableNamed}
 use Rattle.meaning.specs.Passed.{PassedLaws, endOf}
 use Rattle.meaning.specs.Refusals.{layoutReply, seatPlace}
 use Rattle.meaning.proofs.Rules.{beyond, in-first, in-second}
 use Rattle.meaning.proofs.Nesting.{upward}
 use Rattle.meaning.proofs.Passed.{passed-laws}
 use Rattle.laying.specs.Every.{Every}
+use Rattle.laying.proofs.Among.{every-among, seat-among}
 use Rattle.laying.proofs.Every.{every-map, every-both}
 use Rattle.laying.proofs.Steps.{tables-none, tables-step}
 use Rattle.laying.proofs.Nested.{Run, first-keeps, first-ends, rest-body}
-use Rattle.laying.proofs.Tops.{table-item, top, whole-run}
-use Rattle.laying.proofs.Cover.{tables-follow as follow-on}
+use Rattle.laying.proofs.Tops.{table-is, table-one, top, whole-run}
+use Rattle.laying.proofs.LaidOut.{tables-follow as follow-on}
 use Rattle.demands.specs.Demand3.{tablesFrom, itemsOf, Told, TablesFollow}
 use Rattle.laying.proofs.Opened.{Opens, table-laid, total-opens}
 
@@ -81,13 +63,17 @@ from-skip d (suc k) (suc n) at l h =
     rw (h at (omega arith) (omega arith), e, f) (from-skip d k n (at + 1) (omega arith) (λ i a b. h i (omega arith) (omega arith)))
 
 -- THE TABLES LAID OUT
+-- item i is the TABLE of that manufacturer bit and number
+pub record TableNamed (d : List ℕ) (m k i : ℕ) : Type 0 where
+  pub there : i < itemCount d
+  pub is : isTable (fieldsAt d i) ≡ true
+  pub manufacturer : fieldsAt d i .manufacturer ≡ m
+  pub number : fieldsAt d i .number ≡ k
+
 -- the table of a TABLE of the description, from item lo on
-pub record SeatIn (d : List ℕ) (lo : ℕ) (t : Seat) : Type 0 where
-  pub low : lo ≤ t .item
-  pub there : t .item < itemCount d
-  pub isOne : isTable (fieldsAt d (t .item)) ≡ true
-  pub manufacturer : t .manufacturer ≡ fieldsAt d (t .item) .manufacturer
-  pub number : t .number ≡ fieldsAt d (t .item) .number
+record SeatIn (d : List ℕ) (lo : ℕ) (t : Seat) : Type 0 where
+  low : lo ≤ t .item
+  named : TableNamed d (t .manufacturer) (t .number) (t .item)
 
 -- tables in the order of their items
 unfoldable Order : List Seat → Type 0
@@ -108,7 +94,7 @@ s-before d lo to is t ps (laidOut ts qs s n) h l g = (
   (
     h,
     every-map (SeatIn d to) (SeatIn d lo)
-        (λ u k. record { low = omega (arith, k .low, h .low); there = k .there; isOne = k .isOne; manufacturer = k .manufacturer; number = k .number }) ts (g .1),
+        (λ u k. record { low = omega (arith, k .low, h .low); named = k .named }) ts (g .1),
   ),
   (every-map (SeatIn d to) (λ u. t .item < u .item) (λ u k. omega (arith, k .low)) ts (g .1), g .2),
 )
@@ -116,10 +102,10 @@ s-before d lo to is t ps (stoppedAt qs x) h l g = tt
 
 -- a table, then others
 s-seated : (d : List ℕ) (at to : ℕ) (is : List ℕ) (p : ℕ) (o : Laid) (f : Slots → ℕ → Layout) → at < itemCount d → isTable (fieldsAt d at) ≡ true → at < to
-    → ((s : Slots) (q : ℕ) → Seats d to is (f s q)) → Seats d at (at ∷ is) (seated at (fieldsAt d at .manufacturer) (fieldsAt d at .number) p o f)
+    → ((s : Slots) (q : ℕ) → Seats d to is (f s q)) → Seats d at (at ∷ is) (seated at (fieldsAt d at) p o f)
 unfolding seated Seats
 s-seated d at to is p (laid ps s q) f h t l g =
-    s-before d at to is _ ps (f s q) (record { low = omega arith; there = h; isOne = t; manufacturer = refl; number = refl }) l (g s q)
+    s-before d at to is _ ps (f s q) (record { low = omega arith; named = record { there = h; is = t; manufacturer = refl; number = refl } }) l (g s q)
 s-seated d at to is p (stopped ps x) f h t l g = tt
 
 -- the tables among the last n items, fewer than m, are the TABLEs there
@@ -133,23 +119,20 @@ s-tables {d} p (suc m) at (suc n) few long run img s x =
     let f = fieldsAt d at in
     let ends = first-ends p run l in
     let is : isTable f ≡ true = first-keeps p run l .top refl in
-    let t = table-item d (itemAt d at) at n is in
-    let fits : f .first ≤ n = omega (arith, t .one) in
-    let there : at + 1 + tabled (itemAt d at) n ≡ endOf d at = omega (arith, t .used, t .one) in
-    let passed : at + 1 + f .first ≡ endOf d at = omega (arith, t .one) in
-    let rest = s-tables p m (endOf d at) (n - f .first) (omega arith) (omega (arith, t .one)) (rest-body p run l) in
-    let over = from-skip d (f .first) n (at + 1) fits (λ i a b. body-none p at i is (omega arith) b (omega arith)) in
-    rw (is, over, passed, tables-step d at n, there, t .used, t .is (tablesOf d (n - f .first) 0 (endOf d at)) fits)
-    (s-seated d at (endOf d at) _ x (layBody (bodyAt 4 d (at + 1) (f .first)) img false [] s x) _ l is (omega arith) (λ u q. rest img u q))
+    let one = table-one d at is in
+    let there : at + 1 + nested f ≡ endOf d at = omega arith in
+    let over = from-skip d (nested f) n (at + 1) (omega arith) (λ i a b. body-none p at i is (omega arith) (omega arith) (omega arith)) in
+    let rest = s-tables p m (endOf d at) (n - nested f) (omega arith) (omega arith) (rest-body p run l) in
+    rw (is, over, tables-step d at n, there, table-is d at n (tablesOf d (n - nested f) 0 (endOf d at)) is (omega arith))
+    (s-seated d at (endOf d at) _ x (layBody (bodyAt 4 d (at + 1) (f .first)) img false s x) _ l is (omega arith) (λ u q. rest img u q))
 
 -- EACH IS FOUND BY ITS NAME
 module _ {d : List ℕ} (p : PassedLaws d) where
-  -- a table with a TABLE's manufacturer bit and number is that TABLE's
-  pub item-named : (lo : ℕ) (t : Seat) (i : ℕ) → SeatIn d lo t → i < itemCount d → isTable (fieldsAt d i) ≡ true
-      → t .manufacturer ≡ fieldsAt d i .manufacturer → t .number ≡ fieldsAt d i .number → i ≡ t .item
-  item-named lo t i h l e a b =
-      p .names i (t .item) l (h .there) e
-      (rw (h .isOne, eq-eqb _ _ (sym (h .manufacturer) ∙ a), eq-eqb _ _ (sym (h .number) ∙ b)))
+  -- there is one TABLE of a manufacturer bit and number
+  pub one-table : {m k i j : ℕ} → TableNamed d m k i → TableNamed d m k j → i ≡ j
+  one-table {i = i} {j} a b =
+      p .names i j (a .there) (b .there) (a .is)
+      (rw (b .is, eq-eqb _ _ (b .manufacturer ∙ sym (a .manufacturer)), eq-eqb _ _ (b .number ∙ sym (a .number))))
 
   -- a table is found by its name after others of other items
   found-later : (lo : ℕ) (t : Seat) (ts : List Seat) (u : Seat) → SeatIn d lo t → SeatIn d lo u → t .item < u .item
@@ -160,9 +143,7 @@ module _ {d : List ℕ} (p : PassedLaws d) where
       go : (a b : Bool) → (t .manufacturer =? u .manufacturer) ≡ a → (t .number =? u .number) ≡ b
           → (if a && b then some t else tableNamed (u .manufacturer) (u .number) ts) ≡ some u
       go true true a b =
-          let m = eqb-true (t .manufacturer) (u .manufacturer) a ∙ g .manufacturer in
-          let k = eqb-true (t .number) (u .number) b ∙ g .number in
-          let same = item-named lo t (u .item) h (g .there) (g .isOne) m k in
+          let same = one-table (rw (eqb-true (t .manufacturer) (u .manufacturer) a, eqb-true (t .number) (u .number) b) at (h .named)) (g .named) in
           absurd (omega arith)
       go true false a b = e
       go false b a c = e
@@ -191,16 +172,18 @@ module _ {d img : List ℕ} {ts : List Seat} {es : List Placed} {s : Slots} {tot
       subst (Seats d 0 (tablesFrom d (itemCount d) 0)) (o .laid)
       (s-tables laws (itemCount d + 1) 0 (itemCount d) (omega arith) (omega arith) (whole-run d) img _ 0)
 
-  -- each is a TABLE's
-  pub seats-in : Every (SeatIn d 0) ts
-  seats-in = seats .1
+  -- a table found by a name is of the TABLE of that name
+  pub found-table : {m k : ℕ} {t : Seat} → tableNamed m k ts ≡ some t → TableNamed d m k (t .item)
+  found-table {m} {k} {t} e =
+      let f = seat-among m k ts t e in
+      rw (f .manufacturer, f .number) at (every-among (SeatIn d 0) t ts (seats .1) (f .among) .named)
 
   -- each is where the reply says
   all-told : Every (Told d img) ts
   unfolding seatPlace
   all-told =
       every-both (SeatIn d 0) (λ t. tableNamed (t .manufacturer) (t .number) ts ≡ some t) (Told d img)
-      (λ t h e. record { reply = table-laid o _ _ ∙ ap seatPlace (rw (h .manufacturer, h .number) at e) }) ts (seats .1) (found laws 0 ts (seats .1) (seats .2))
+      (λ t h e. record { reply = rw (h .named .manufacturer, h .named .number) (table-laid o _ _ ∙ ap seatPlace e) }) ts (seats .1) (found laws 0 ts (seats .1) (seats .2))
 
 -- laid out, the tables follow one another up to the total
 pub tables-follow : (d img : List ℕ) (total : ℕ) → layoutReply d img ≡ Reply.Total total → TablesFollow d img total

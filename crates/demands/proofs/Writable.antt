@@ -1,22 +1,21 @@
 -- Of demand 2: the mark that a write looks at is that of the table named, or of the one table that the element's item stands in. Assumes nothing.
 use Prim.Native.Nat.{ℕ, zero, suc, _+_, _<_, _≤_}
-use mathlib.Core.Path.{_≡_, refl, sym, _∙_}
+use mathlib.Core.Path.{_≡_, refl}
 use mathlib.Core.Bool.{Bool, true, false, not, _&&_, and-eq-true-iff}
 use mathlib.Core.List.{List}
 use borrow.Author.Tests.{eqb-true, eq-eqb}
 use native.Mathlib.Decide.{decLt}
 use native.Mathlib.Omega.{arith}
 use Rattle.meaning.specs.Basics.{_=?_}
-use Rattle.meaning.specs.Description.{itemCount, itemAt, fieldsAt, isTable, count, inside, round}
-use Rattle.meaning.specs.Layout.{Seat}
+use Rattle.meaning.specs.Description.{itemCount, fieldsAt, isTable, count, inside, round}
 use Rattle.meaning.specs.Passed.{PassedLaws, endOf}
 use Rattle.meaning.specs.Refusals.{tableAround, writable}
 use Rattle.meaning.proofs.Rules.{round-none, beyond, in-first, in-second}
 use Rattle.meaning.proofs.Nesting.{upward}
 use Rattle.laying.specs.Own.{OfItem}
-use Rattle.laying.proofs.Tops.{table-item}
+use Rattle.laying.proofs.Tops.{table-one}
 use Rattle.demands.specs.Demand2.{TableWritable, RoundWritable}
-use Rattle.demands.proofs.Tables.{SeatIn, item-named, body-none}
+use Rattle.demands.proofs.Tables.{TableNamed, one-table, body-none}
 
 -- THE TABLE ROUND AN ITEM
 -- the latest TABLE before item j is the one after which no other comes
@@ -51,7 +50,7 @@ round-by d i k =
 
         go : (b : Bool) → isTable (fieldsAt d k) ≡ b → Dec (i < k + 1 + fieldsAt d k .first) → Dec (i < endOf d k) → RoundBy d (k + 1) i
         go true t (yes f) g = record { table = k; before = omega arith; is = t; ends = f }
-        go true t (no n) (yes g) = absurd (omega (arith, table-item d (itemAt d k) k 0 t .one))
+        go true t (no n) (yes g) = absurd (omega (arith, table-one d k t))
         go false t (yes f) g = earlier (omega (arith, rw (in-first d k i f, t) at h))
         go false t (no n) (yes g) = earlier (omega (arith, rw (in-second d k i (omega arith) g, t) at h))
         go b t (no n) (no m) = earlier (rw (beyond d k i (omega arith)) at h)
@@ -78,21 +77,16 @@ module _ {d : List ℕ} (p : PassedLaws d) (img : List ℕ) where
         marked = rw (around-body (r .table) j (r .is) (r .before) (r .ends) (h .there)) at w;
       }
 
-  -- the table of that name is writable exactly where the table found is
-  pub named-writable : (m k : ℕ) (t : Seat) → SeatIn d 0 t → t .manufacturer ≡ m → t .number ≡ k → TableWritable d img m k → writable d img (t .item) ≡ true
-  named-writable m k t h a b w =
+  -- the table of that name is writable exactly where the TABLE found is
+  pub named-writable : {m k i : ℕ} → TableNamed d m k i → TableWritable d img m k → writable d img i ≡ true
+  named-writable {m} {k} h w =
       let f = fieldsAt d (w .item) in
       let c = and-eq-true-iff (isTable f && f .manufacturer =? m) (f .number =? k) .0 (w .is) in
       let e = and-eq-true-iff (isTable f) (f .manufacturer =? m) .0 (c .0) in
-      let same = item-named p 0 t (w .item) h (w .there) (e .0) (a ∙ sym (eqb-true _ _ (e .1))) (b ∙ sym (eqb-true _ _ (c .1))) in
+      let same = one-table p (record { there = w .there; is = e .0; manufacturer = eqb-true _ _ (e .1); number = eqb-true _ _ (c .1) }) h in
       rw same at (w .marked)
 
   -- and the other way round
-  pub writable-named : (m k : ℕ) (t : Seat) → SeatIn d 0 t → t .manufacturer ≡ m → t .number ≡ k → writable d img (t .item) ≡ true → TableWritable d img m k
-  writable-named m k t h a b w =
-      record {
-        item = t .item;
-        there = h .there;
-        is = rw (h .isOne, eq-eqb _ _ (sym (h .manufacturer) ∙ a), eq-eqb _ _ (sym (h .number) ∙ b));
-        marked = w;
-      }
+  pub writable-named : {m k i : ℕ} → TableNamed d m k i → writable d img i ≡ true → TableWritable d img m k
+  writable-named {i = i} h w =
+      record { item = i; there = h .there; is = rw (h .is, eq-eqb _ _ (h .manufacturer), eq-eqb _ _ (h .number)); marked = w }

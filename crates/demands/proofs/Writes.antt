@@ -17,13 +17,13 @@ use Rattle.meaning.proofs.Splices.{part-same, splice-long, splice-there, splice
 use Rattle.laying.specs.Every.{Every}
 use Rattle.laying.specs.Kept.{SameNumber, Undisturbed, elementsReached}
 use Rattle.laying.proofs.Every.{every-map}
-use Rattle.laying.proofs.Cover.{total-inside}
+use Rattle.laying.proofs.Dimensions.{Free, search-free}
+use Rattle.laying.proofs.LaidOut.{total-inside}
 use Rattle.laying.proofs.First.{Ordered, first-ordered}
 use Rattle.laying.proofs.Kept.{layout-kept}
 use Rattle.demands.specs.Demand2.{octetsAt, OthersSame, Unchanged}
 use Rattle.demands.specs.Demand3.{StaysPut}
 use Rattle.laying.proofs.Opened.{Opens, total-laid, table-laid, where-laid}
-use Rattle.demands.proofs.Dimensions.{Free, search-free}
 
 -- OCTETS OUTSIDE DIMENSIONS
 -- an image whose octets are the same but for n from p on, none of them a dimension's
@@ -34,7 +34,7 @@ module _ {img later : List ℕ} {p n : ℕ} (same : OthersSame img later p n) wh
     where
       go : Dec (x < p) → Dec (p + n ≤ x) → getD later x 0 ≡ getD img x 0
       go (yes l) r = same .same x (inl l)
-      go (no l) (yes r) = same .same x (inr r)
+      go (no l) (yes r) = same .same x (inr (omega arith))
       go (no l) (no r) = absurd (omega (arith, h x (omega arith) (omega arith) a b))
 
   -- so DATA_ORDER is

@@ -3,7 +3,7 @@
 -- A question's refusals are a list here, in the order that 01 states, each with the test by which it is given. The tests are made apart from one another, so the
 -- list alone says which is given first. 1 to 7 are given exactly by the rules (`CheckSays`, crate meaning, specs/Passed), and 9 exactly where the walk first runs
 -- past the end (`ShortExactly`, specs/Demand3). proofs/Demand1.antt proves `Demand1` for every description and image.
-use Prim.Native.Nat.{ℕ, _+_, _^_, _<_, _≤_}
+use Prim.Native.Nat.{ℕ, _+_, _^_, _≤_}
 use mathlib.Core.Path.{_≡_}
 use mathlib.Core.Bool.{Bool, true, false, not, _&&_, _||_}
 use mathlib.Core.List.{List, [], _∷_, _++_}
@@ -20,12 +20,14 @@ use Rattle.meaning.specs.declared.Told.{Told}
 use Rattle.meaning.specs.declared.Verdict.{Verdict}
 use Rattle.meaning.specs.Passed.{CheckSays}
 use Rattle.meaning.specs.Description.{fieldsAt, isUint, checkReply}
-use Rattle.meaning.specs.Layout.{Placed, Seat, unreadDimension, bitOutside, unequalElements, short, noItem, Layout, laidOut, stoppedAt, layOut, tableNamed, dataOrder}
-use Rattle.meaning.specs.Refusals.{refusedWith, verdictReply, elementIn, tableAround, writable, anyDimension, tablePlaceReply, elementPlaceReply, tablePartReply, elementPartReply}
+use Rattle.meaning.specs.Layout.{Placed, Seat, fault, short, Layout, laidOut, stoppedAt, layOut, tableNamed, dataOrder}
+use Rattle.meaning.specs.Refusals.{refusedWith, verdictReply, elementIn, tableAround, writable, anyDimension, tablePlaceReply, elementPlaceReply}
+use Rattle.meaning.specs.Refusals.{tablePartReply, elementPartReply}
 use Rattle.meaning.specs.Calendar.{realDate, realTime, dayNumber, controlsOf, table54Size, datesOf, seasonOn, specialOn, missingSpecial, matrixReply, matrixVerdict}
 use Rattle.meaning.specs.Questions as ask
 use Rattle.meaning.specs.Questions.{Question, refusalIn, refusalTo, toldTo, imageAfter}
-use Rattle.meaning.specs.Numbers.{reportsItem, reportsOctet, lastNumber, nothingRefused, imageTooLong, imageShort, noTable, noElement, outsideTable, notWritable, holdsDimension, wrongSize, notADate, noSeason, seasonChangeArmed, noRowOrColumn, notACalendar, numbered}
+use Rattle.meaning.specs.Numbers.{reportsItem, reportsOctet, lastNumber, nothingRefused, imageTooLong, imageShort, noTable, noElement, outsideTable}
+use Rattle.meaning.specs.Numbers.{notWritable, holdsDimension, wrongSize, notADate, noSeason, seasonChangeArmed, noRowOrColumn, notACalendar, numbered}
 
 -- A LIST OF REFUSALS
 -- a refusal, where its test holds
@@ -87,11 +89,8 @@ placedSize (some e) = e .size
 -- 9: the item and the octet at which the walk stops as short
 unfoldable pub shortIn : Layout → Option Refusal
 shortIn (laidOut ts es s n) = none
-shortIn (stoppedAt es (unreadDimension i)) = none
-shortIn (stoppedAt es (bitOutside i)) = none
-shortIn (stoppedAt es (unequalElements i)) = none
+shortIn (stoppedAt es (fault x i)) = none
 shortIn (stoppedAt es (short i p)) = some (imageShort i p)
-shortIn (stoppedAt es (noItem i)) = none
 
 unfoldable pub oneToSeven : (description : List ℕ) → List (Option Refusal)
 oneToSeven d = refusalIn (verdictReply (checkReply d)) ∷ []

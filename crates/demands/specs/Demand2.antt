@@ -2,9 +2,10 @@
 -- exactly when its table or element exists, its range, length or number fits, the table is writable and no dimension octet is touched. Afterwards reading that
 -- place gives what was written, and every other octet is the same."
 -- Each clause is one named statement over the replies: `writeRangeReply`, `writeOctetsReply` and `writeNumberReply` are the replies of the three writes,
--- `write..Image` the image afterwards, `tablePlaceReply` and `elementPlaceReply` say where a table or an element is, `tablePartReply`, `elementPartReply` and `elementNumberReply` what
--- is read there (crate meaning, specs/Refusals). The public calls are proved to give these, for every input. A table or an element exists only over a passed
--- description and an image that lays out, so the statements need not assume them. proofs/Demand2.antt proves every statement here, for every description and image.
+-- `write..Image` the image afterwards, `tablePlaceReply` and `elementPlaceReply` say where a table or an element is, `tablePartReply`, `elementPartReply` and
+-- `elementNumberReply` what is read there (crate meaning, specs/Refusals). The public calls are proved to give these, for every input. A table or an element
+-- exists only over a passed description and an image that lays out, so the statements need not assume them. proofs/Demand2.antt proves every statement here, for
+-- every description and image.
 use Prim.Native.Nat.{ℕ, _+_, _^_, _<_, _≤_}
 use mathlib.Core.Path.{_≡_}
 use mathlib.Core.Logic.{_⊎_}
@@ -23,7 +24,8 @@ use Rattle.meaning.specs.declared.Reply.{Reply}
 use Rattle.meaning.specs.Description.{itemCount, fieldsAt, isTable, isUint, isDimension, isTableNamed}
 use Rattle.meaning.specs.Passed.{Exactly}
 use Rattle.meaning.specs.Layout.{numberAt}
-use Rattle.meaning.specs.Refusals.{tablePlaceReply, elementPlaceReply, tablePartReply, elementPartReply, elementNumberReply, writable, writeRangeReply, writeRangeImage, writeOctetsReply, writeOctetsImage, writeNumberReply, writeNumberImage}
+use Rattle.meaning.specs.Refusals.{tablePlaceReply, elementPlaceReply, tablePartReply, elementPartReply, elementNumberReply, writable, writeRangeReply}
+use Rattle.meaning.specs.Refusals.{writeRangeImage, writeOctetsReply, writeOctetsImage, writeNumberReply, writeNumberImage}
 use Rattle.almanac.specs.Choices.{SeasonSays, SpecialSays, SwitchSays}
 use Rattle.almanac.specs.Days.{Days}
 use Rattle.almanac.specs.Matrix.{MatrixSays}
@@ -91,7 +93,8 @@ Unchanged v img later = (r : Refusal) → v ≡ Verdict.Refused r → later ≡ 
 pub record RangeWrites (d img : List ℕ) (m k : ℕ) (o : TableOffset) (new : List ℕ) : Type 0 where
   pub accepted : Exactly (writeRangeReply d img m k o new ≡ Verdict.Passed) (RangeGood d img m k (o .0) (length new))
   pub readBack : writeRangeReply d img m k o new ≡ Verdict.Passed → part (tablePartReply d (writeRangeImage d img m k o new) m k) (o .0) (length new) ≡ new
-  pub others : (p n : ℕ) → writeRangeReply d img m k o new ≡ Verdict.Passed → tablePlaceReply d img m k ≡ octetsAt p n → OthersSame img (writeRangeImage d img m k o new) (p + o .0) (length new)
+  pub others : (p n : ℕ) → writeRangeReply d img m k o new ≡ Verdict.Passed → tablePlaceReply d img m k ≡ octetsAt p n
+      → OthersSame img (writeRangeImage d img m k o new) (p + o .0) (length new)
   pub unchanged : Unchanged (writeRangeReply d img m k o new) img (writeRangeImage d img m k o new)
 
 -- WRITE AN ELEMENT'S OCTETS
@@ -112,7 +115,8 @@ pub record NumberWrites (d img : List ℕ) (q : ElementName) (x : ℕ) : Type 0 
 pub record Reads (d img : List ℕ) : Type 0 where
   pub table : (m k p n : ℕ) → tablePlaceReply d img m k ≡ octetsAt p n → tablePartReply d img m k ≡ part img p n
   pub element : (q : ElementName) (p n : ℕ) → elementPlaceReply d img q ≡ octetsAt p n → elementPartReply d img q ≡ part img p n
-  pub number : (q : ElementName) (p n : ℕ) → elementPlaceReply d img q ≡ octetsAt p n → isUint (fieldsAt d (q .item)) ≡ true → elementNumberReply d img q ≡ Reply.Number (numberAt img p n)
+  pub number : (q : ElementName) (p n : ℕ) → elementPlaceReply d img q ≡ octetsAt p n → isUint (fieldsAt d (q .item)) ≡ true
+      → elementNumberReply d img q ≡ Reply.Number (numberAt img p n)
 
 -- THE CALENDAR: days and weekdays; which record chooses season, special schedule and tier, each exactly; the matrix cell by cell (crate almanac, specs/)
 pub record Calendar (d img : List ℕ) : Type 0 where

@@ -1,18 +1,16 @@
-// Items of a description, read from its octets by a place that moves on by one item at a time.
+// What the items of a description say, read from its octets at a place that moves on by whole items.
 //
-// Nothing is refused here: a word that is no item is `Item::Malformed`, and so is what stands past
-// the last item.
+// Nothing is refused here: a word that is no item reads as malformed, of kind 0, and so does what
+// stands past the last item. A place can't be made elsewhere: callers start before the first item
+// and move on from there.
 use basics::bit_range;
 use basics::both;
 use basics::wide;
 use meaning::Fields;
-use meaning::Item;
-use meaning::Reference;
 ghost use mathlib.Core.Path.{_≡_};
-ghost use Prim.Native.Nat.{_<_, _≤_};
-ghost use Rattle.meaning.specs.Basics.{bits};
-ghost use Rattle.meaning.specs.Description.{itemCount, wordAt, referenceOf, namesSlot, octetsOfCode, tableOf, uintOf, blockOf, setOf, arrayOf, ifOf, itemOf, fieldsOf};
-ghost use Rattle.meaning.specs.Ranges.{Ranged};
+ghost use Prim.Native.Nat.{_+_, _<_, _≤_, min};
+ghost use Rattle.meaning.specs.Basics.{if_then_else_, bits};
+ghost use Rattle.meaning.specs.Description.{itemCount, wordAt, ownOctets, referring, malformed, namesSlot, octetsOfCode, tableOf, uintOf, blockOf, setOf, arrayOf, ifOf, fieldsOf};
 ghost use Rattle.items.specs.Read.{readAt};
 
 // Bits high..low of a word, bit 0 least significant.
@@ -36,16 +34,6 @@ fn word_at(description: &[u8], item: usize) -> u32
     a * 16777216 + b * 65536 + c * 256 + e
 }
 
-fn reference_of(word: u32) -> Reference
-    ensures { λ r. ⌜ r ≡ referenceOf word ⌝ }
-{
-    Reference {
-        slot: bits(27, 22, word) as usize,
-        low: bits(21, 17, word),
-        width: bits(16, 12, word) + 1,
-    }
-}
-
 fn names_slot(word: u32) -> bool
     ensures { λ r. ⌜ r ≡ namesSlot word ⌝ }
 {
@@ -64,84 +52,132 @@ fn octets_of_code(code: u32) -> usize
     4
 }
 
-fn table_of(word: u32) -> Item
+// An item with octets of its own, and the slot that they set.
+fn own_octets(kind: u32, sets: usize, octets: usize) -> Fields
+    ensures { λ r. ⌜ r ≡ ownOctets kind sets octets ⌝ }
+{
+    Fields {
+        kind,
+        manufacturer: 0,
+        number: 0,
+        writable: 0,
+        first: 0,
+        second: 0,
+        sets,
+        octets,
+        slot: 0,
+        low: 0,
+        width: 0,
+        unit: 0,
+    }
+}
+
+// An item with a reference, and the items in its bodies.
+fn referring(kind: u32, unit: u32, first: u32, second: u32, word: u32) -> Fields
+    ensures { λ r. ⌜ r ≡ referring kind unit first second word ⌝ }
+{
+    Fields {
+        kind,
+        manufacturer: 0,
+        number: 0,
+        writable: 0,
+        first: first as usize,
+        second: second as usize,
+        sets: 0,
+        octets: 0,
+        slot: bits(27, 22, word) as usize,
+        low: bits(21, 17, word),
+        width: bits(16, 12, word) + 1,
+        unit,
+    }
+}
+
+fn malformed() -> Fields
+    ensures { λ r. ⌜ r ≡ malformed ⌝ }
+{
+    own_octets(0, 0, 0)
+}
+
+fn if_formed(formed: bool, fields: Fields) -> Fields
+    ensures { λ r. ⌜ r ≡ (if formed then fields else malformed) ⌝ }
+{
+    if formed {
+        return fields;
+    }
+    malformed()
+}
+
+fn table_of(word: u32) -> Fields
     ensures { λ r. ⌜ r ≡ tableOf word ⌝ }
 {
-    Item::Table {
+    Fields {
+        kind: 1,
         manufacturer: bits(27, 27, word),
         number: bits(26, 16, word),
         writable: bits(15, 15, word),
-        items: bits(14, 0, word) as usize,
+        first: bits(14, 0, word) as usize,
+        second: 0,
+        sets: 0,
+        octets: 0,
+        slot: 0,
+        low: 0,
+        width: 0,
+        unit: 0,
     }
 }
 
-fn uint_of(word: u32) -> Item
+fn uint_of(word: u32) -> Fields
     ensures { λ r. ⌜ r ≡ uintOf word ⌝ }
 {
     let code = bits(27, 26, word);
-    if both(code < 3, bits(19, 0, word) == 0) {
-        return Item::Uint {
-            octets: octets_of_code(code),
-            slot: bits(25, 20, word) as usize,
-        };
-    }
-    Item::Malformed
+    if_formed(
+        both(code < 3, bits(19, 0, word) == 0),
+        own_octets(2, bits(25, 20, word) as usize, octets_of_code(code)),
+    )
 }
 
-fn block_of(word: u32) -> Item
+fn block_of(word: u32) -> Fields
     ensures { λ r. ⌜ r ≡ blockOf word ⌝ }
 {
     let octets = bits(27, 16, word);
-    if both(0 < octets, bits(15, 0, word) == 0) {
-        return Item::Block {
-            octets: octets as usize,
-        };
-    }
-    Item::Malformed
+    if_formed(
+        both(0 < octets, bits(15, 0, word) == 0),
+        own_octets(3, 0, octets as usize),
+    )
 }
 
-fn set_of(word: u32) -> Item
+fn set_of(word: u32) -> Fields
     ensures { λ r. ⌜ r ≡ setOf word ⌝ }
 {
-    if both(names_slot(word), bits(10, 0, word) == 0) {
-        return Item::Set {
-            of: reference_of(word),
-            unit: bits(11, 11, word),
-        };
-    }
-    Item::Malformed
+    if_formed(
+        both(names_slot(word), bits(10, 0, word) == 0),
+        referring(4, bits(11, 11, word), 0, 0, word),
+    )
 }
 
-fn array_of(word: u32) -> Item
+fn array_of(word: u32) -> Fields
     ensures { λ r. ⌜ r ≡ arrayOf word ⌝ }
 {
     let items = bits(11, 0, word);
-    if both(names_slot(word), 0 < items) {
-        return Item::Array {
-            of: reference_of(word),
-            items: items as usize,
-        };
-    }
-    Item::Malformed
+    if_formed(
+        both(names_slot(word), 0 < items),
+        referring(5, 0, items, 0, word),
+    )
 }
 
-fn if_of(word: u32) -> Item
+fn if_of(word: u32) -> Fields
     ensures { λ r. ⌜ r ≡ ifOf word ⌝ }
 {
     let yes = bits(11, 6, word);
-    if both(names_slot(word), 0 < yes) {
-        return Item::If {
-            of: reference_of(word),
-            yes: yes as usize,
-            no: bits(5, 0, word) as usize,
-        };
-    }
-    Item::Malformed
+    if_formed(
+        both(names_slot(word), 0 < yes),
+        referring(6, 0, yes, bits(5, 0, word), word),
+    )
 }
 
-// An item from its word.
-fn item_of(word: u32) -> Item
-    ensures { λ r. ⌜ r ≡ itemOf word ⌝ }
+// What an item says, from its word.
+fn fields_of(word: u32) -> Fields
+    ensures { λ r. ⌜ r ≡ fieldsOf word ⌝ }
 {
     let kind = bits(31, 28, word);
     match kind {
@@ -151,139 +187,66 @@ fn item_of(word: u32) -> Item
         4 => set_of(word),
         5 => array_of(word),
         6 => if_of(word),
-        _ => Item::Malformed,
-    }
-}
-
-// Opens an item into its fields, each 0 where its kind has none.
-fn fields_of(item: Item) -> Fields
-    requires { ⌜ Ranged item ⌝ }
-    ensures { λ r. ⌜ r ≡ fieldsOf item ⌝ }
-{
-    match item {
-        Item::Table {
-            manufacturer,
-            number,
-            writable,
-            items,
-        } => Fields {
-            kind: 1,
-            manufacturer,
-            number,
-            writable,
-            first: items,
-            second: 0,
-            sets: 0,
-            octets: 0,
-            slot: 0,
-            bits: 0,
-        },
-        Item::Uint { octets, slot } => Fields {
-            kind: 2,
-            manufacturer: 0,
-            number: 0,
-            writable: 0,
-            first: 0,
-            second: 0,
-            sets: slot,
-            octets,
-            slot: 0,
-            bits: 0,
-        },
-        Item::Block { octets: _ } => Fields {
-            kind: 3,
-            manufacturer: 0,
-            number: 0,
-            writable: 0,
-            first: 0,
-            second: 0,
-            sets: 0,
-            octets: 0,
-            slot: 0,
-            bits: 0,
-        },
-        Item::Set { of, unit: _ } => Fields {
-            kind: 4,
-            manufacturer: 0,
-            number: 0,
-            writable: 0,
-            first: 0,
-            second: 0,
-            sets: 0,
-            octets: 0,
-            slot: of.slot,
-            bits: of.low + of.width,
-        },
-        Item::Array { of, items } => Fields {
-            kind: 5,
-            manufacturer: 0,
-            number: 0,
-            writable: 0,
-            first: items,
-            second: 0,
-            sets: 0,
-            octets: 0,
-            slot: of.slot,
-            bits: of.low + of.width,
-        },
-        Item::If { of, yes, no } => Fields {
-            kind: 6,
-            manufacturer: 0,
-            number: 0,
-            writable: 0,
-            first: yes,
-            second: no,
-            sets: 0,
-            octets: 0,
-            slot: of.slot,
-            bits: of.low + of.width,
-        },
-        Item::Malformed => Fields {
-            kind: 0,
-            manufacturer: 0,
-            number: 0,
-            writable: 0,
-            first: 0,
-            second: 0,
-            sets: 0,
-            octets: 0,
-            slot: 0,
-            bits: 0,
-        },
+        _ => malformed(),
     }
 }
 
 // A place in a description: before item `at`.
 pub struct Cursor {
-    pub at: usize,
+    at: usize,
 }
 
-// The item read, its fields, and the next place.
+// What the item here says, and the next place.
 pub struct Read {
-    pub item: Item,
     pub fields: Fields,
     pub next: Cursor,
 }
 
 impl Cursor {
-    // The item here and the place after it. Past the last item there is none: it reads as
-    // malformed, and the place stays.
+    // Before the first item.
+    pub fn first() -> Cursor
+        ensures { λ r. ⌜ r .at ≡ 0 ⌝ }
+    {
+        Cursor { at: 0 }
+    }
+
+    // What the item here says, and the place after it. Past the last item there is none: it reads
+    // as malformed, and the place stays.
     pub fn read(self, description: &[u8]) -> Read
         ensures { λ r. ⌜ r ≡ readAt (now (description .entry)) (self .at) ⌝ }
     {
         let at = self.at;
         if at < description.len() / 4 {
-            let item = item_of(word_at(description, at));
             return Read {
-                item,
-                fields: fields_of(item),
+                fields: fields_of(word_at(description, at)),
                 next: Cursor { at: at + 1 },
             };
         }
         Read {
-            item: Item::Malformed,
-            fields: fields_of(Item::Malformed),
+            fields: malformed(),
             next: self,
         }
+    }
+
+    // Past so many items: those nested in an item just read. A number that can't be counted is the
+    // last that can.
+    pub fn past(self, items: usize) -> Cursor
+        ensures { λ r. ⌜ r .at ≡ min (self .at + items) 18446744073709551615 ⌝ }
+    {
+        if 18446744073709551615 - self.at < items {
+            return Cursor {
+                at: 18446744073709551615,
+            };
+        }
+        Cursor {
+            at: self.at + items,
+        }
+    }
+
+    // The number of the item here.
+    pub fn item(self) -> usize
+        ensures { λ r. ⌜ r ≡ self .at ⌝ }
+    {
+        self.at
     }
 }

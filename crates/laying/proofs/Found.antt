@@ -1,31 +1,24 @@
 -- What a reply finds: an element is one of those laid out, of its item, and ends by the total; so does a table. A passed description has whole items.
 -- Assumes nothing.
-use Prim.Native.Nat.{ℕ, _+_, _%_, _≤_}
-use mathlib.Core.Path.{_≡_, subst}
+use Prim.Native.Nat.{ℕ, _+_, _≤_}
+use mathlib.Core.Path.{subst}
 use mathlib.Core.List.{List, [], _∷_}
-use lib.ListN.{length, take}
+use lib.ListN.{take}
 use native.Mathlib.Omega.{arith}
 use Rattle.meaning.specs.declared.ElementName.{ElementName}
-use Rattle.meaning.specs.Passed.{Passes}
 use Rattle.meaning.specs.Layout.{Placed, Seat, Slots}
-use Rattle.meaning.proofs.Passed.{check-says}
-use Rattle.meaning.proofs.Rules.{length-allowed}
 use Rattle.laying.specs.Cover.{Follow}
 use Rattle.laying.specs.Every.{Every}
-use Rattle.laying.specs.Kept.{elementsReached}
 use Rattle.laying.specs.Own.{OfItem}
 use Rattle.laying.proofs.Among.{Among, every-among, ElementOf, named-among, SeatOf, seat-among}
-use Rattle.laying.proofs.Cover.{EndsBy, elements-end, tables-follow}
+use Rattle.laying.proofs.Cover.{EndsBy}
 use Rattle.laying.proofs.Opened.{Opens, ElementAt, TableOf}
-use Rattle.laying.proofs.Own.{elements-own}
-
--- a passed description has whole items
-pub whole-items : (d : List ℕ) → Passes d → length d % 4 ≡ 0
-whole-items d p = length-allowed d (check-says d .passed .0 p .allowed) .whole
+use Rattle.laying.proofs.LaidOut.{elements-own, elements-end, tables-follow}
 
 -- each element laid out is of its item
-pub own : {d img : List ℕ} {ts : List Seat} {es : List Placed} {s : Slots} {total : ℕ} → Opens d img ts es s total → (e : Placed) → Among e es → OfItem d (e .item) (e .slot) (e .size)
-own {d} {img} {es = es} o e m = every-among _ e es (subst (λ l. Every (λ e. OfItem d (e .item) (e .slot) (e .size)) (elementsReached l)) (o .laid) (elements-own d img)) m
+pub own : {d img : List ℕ} {ts : List Seat} {es : List Placed} {s : Slots} {total : ℕ} → Opens d img ts es s total
+    → (e : Placed) → Among e es → OfItem d (e .item) (e .slot) (e .size)
+own {d} {img} {ts} {es} {s} {total} o e m = every-among _ e es (elements-own d img ts es s total (o .laid)) m
 
 -- AN ELEMENT WHOSE PLACE IS REPLIED
 module _ {d img : List ℕ} {q : ElementName} {p n : ℕ} (a : ElementAt d img q p n) where
@@ -33,7 +26,7 @@ module _ {d img : List ℕ} {q : ElementName} {p n : ℕ} (a : ElementAt d img q
   pub element-of : ElementOf (q .item) (take (q .count) (q .subscripts)) (a .elements) (a .at .element)
   element-of = named-among (q .item) (take (q .count) (q .subscripts)) (a .elements) (a .at .element) (a .at .found)
 
-  -- its item is one of the description's, no TABLE, and if a UINT as long as the element
+  -- its item is one of the description's, no TABLE, and if a UINT or BLOCK as long as the element
   pub element-own : OfItem d (q .item) (a .at .element .slot) n
   element-own =
       subst (λ i. OfItem d i (a .at .element .slot) n) (element-of .item)

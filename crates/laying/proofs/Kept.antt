@@ -1,24 +1,23 @@
 -- Laying out leans on the image only through its length and the numbers of the dimensions that it reaches: of a passed description, an image as long as
 -- another in which these numbers are the same is laid out the same, or stops the same. Inside arrays, where no dimension stands, the image isn't read at all.
 -- Assumes nothing.
-use Prim.Native.Nat.{ℕ, zero, suc, _+_, _*_}
-use mathlib.Core.Path.{_≡_, refl, ap, subst⁻¹, fun-ext}
+use Prim.Native.Nat.{ℕ, zero, suc, _+_, _*_, _<_}
+use mathlib.Core.Path.{_≡_, refl, _∙_, ap, sym, fun-ext}
 use mathlib.Core.Bool.{Bool, true, false, true≢false}
-use mathlib.Core.List.{List, [], _∷_, _++_}
+use mathlib.Core.List.{List}
 use lib.ListN.{length}
 use native.Mathlib.Omega.{arith}
-use Rattle.meaning.specs.Basics.{if_then_else_, _=?_, _≤?_}
-use Rattle.meaning.specs.declared.Reference.{Reference}
-use Rattle.meaning.specs.Layout.{Node, Body, Tables, uint, block, set, array, choice, stray, done, more, noMore, table, strayTable, treeOf}
-use Rattle.meaning.specs.Layout.{Slot, Slots, unread, holds, setSlot, bitRange, numberAt, Placed, short, bitOutside}
-use Rattle.meaning.specs.Layout.{Laid, laid, stopped, also, andThen, reading, inImage, placed, sizeFrom, repeated, layBody, layNode}
-use Rattle.meaning.specs.Layout.{Seat, Layout, laidOut, stoppedAt, before, seated, layTables, layOut}
+use Rattle.meaning.specs.Basics.{if_then_else_, _≤?_}
+use Rattle.meaning.specs.declared.Fields.{Fields}
+use Rattle.meaning.specs.Description.{refers}
+use Rattle.meaning.specs.Layout.{Node, Body, Arms, Tables, leaf, array, choice, stray, done, more, noArm, arm, noMore, table, strayTable, treeOf, leafOctets}
+use Rattle.meaning.specs.Layout.{Slot, Slots, unread, holds, setSlot, numberAt, Placed, Laid, laid, stopped, also, andThen, reading, valued, inImage, placed}
+use Rattle.meaning.specs.Layout.{sizeFrom, repeated, layBody, layNode, layArms, Seat, Layout, laidOut, stoppedAt, before, seated, layTables, layOut}
 use Rattle.meaning.specs.Passed.{Passes}
 use Rattle.laying.specs.Every.{Every}
 use Rattle.laying.specs.Kept.{Undisturbed, elementsReached}
-use Rattle.laying.specs.Sound.{FitBody, FitNode, FitTables, noneKnown}
+use Rattle.laying.specs.Sound.{Known, SoundBody, SoundNode, SoundArms, SoundTables, noneKnown, afterNode, afterBody}
 use Rattle.laying.proofs.Every.{every-split}
-use Rattle.laying.proofs.Fit.{sound-fit}
 use Rattle.laying.proofs.Tops.{passed-sound}
 
 -- the elements of a body or an item, laid or placed before it stopped
@@ -26,77 +25,92 @@ abbrev pub placedIn : Laid → List Placed
 placedIn (laid es s p) = es
 placedIn (stopped es x) = es
 
+-- a slot set to the same number is the same slot; slot 0 is none
+slot-same : (k n x y : ℕ) (s : Slots) → (0 < k → x ≡ y) → setSlot k (holds n x) s ≡ setSlot k (holds n y) s
+unfolding setSlot
+slot-same zero n x y s h = refl
+slot-same (suc k) n x y s h = rw (h (omega arith))
+
 module _ (img later : List ℕ) (long : length later ≡ length img) where
-  -- what o comes to with img, o′ with the later image does, where no dimension reached has changed; in an array whatever has changed
-  abbrev Kept : (inArray : Bool) → (o o′ : Laid) → Type 0
-  Kept a o o′ = (a ≡ false → Undisturbed img later (placedIn o)) → o′ ≡ o
+  -- what o comes to with img, o′ does with the later image, where no dimension reached has changed; in an array whatever has changed
+  record Kept (inArray : Bool) (o o′ : Laid) : Type 0 where
+    same : (inArray ≡ false → Undisturbed img later (placedIn o)) → o′ ≡ o
 
   -- ONE LAW FOR EACH WAY OF LAYING
   -- elements before
-  k-also : (a : Bool) (ps : List Placed) (o o′ : Laid) → Kept a o o′ → (a ≡ false → Undisturbed img later (placedIn (also ps o)))
-      → (a ≡ false → Undisturbed img later ps) × (also ps o′ ≡ also ps o)
-  k-also a ps (laid qs s q) o′ g u = ((λ e. every-split _ ps qs (u e) .0), ap (also ps) (g (λ e. every-split _ ps qs (u e) .1)))
-  k-also a ps (stopped qs x) o′ g u = ((λ e. every-split _ ps qs (u e) .0), ap (also ps) (g (λ e. every-split _ ps qs (u e) .1)))
+  also-split : (ps : List Placed) (o : Laid) → Undisturbed img later (placedIn (also ps o)) → Undisturbed img later ps × Undisturbed img later (placedIn o)
+  also-split ps (laid qs s q) u = every-split _ ps qs u
+  also-split ps (stopped qs x) u = every-split _ ps qs u
 
   -- one after another
-  k-then : (a : Bool) (o o′ : Laid) (f f′ : Slots → ℕ → Laid) → Kept a o o′ → ((s : Slots) (q : ℕ) → Kept a (f s q) (f′ s q))
+  kept-then : (a : Bool) (o o′ : Laid) (f f′ : Slots → ℕ → Laid) → Kept a o o′ → ((s : Slots) (q : ℕ) → Kept a (f s q) (f′ s q))
       → Kept a (andThen o f) (andThen o′ f′)
   unfolding andThen
-  k-then a (laid ps s q) o′ f f′ h g u =
-      let r = k-also a ps (f s q) (f′ s q) (g s q) u in
-      subst⁻¹ (λ x. andThen x f′ ≡ also ps (f s q)) (h (r .0)) (r .1)
-  k-then a (stopped ps x) o′ f f′ h g u = subst⁻¹ (λ y. andThen y f′ ≡ stopped ps x) (h u) refl
+  kept-then a (laid ps s q) o′ f f′ h g =
+      record {
+        same = λ u.
+            ap (λ x. andThen x f′) (h .same (λ e. also-split ps (f s q) (u e) .0)) ∙ ap (also ps) (g s q .same (λ e. also-split ps (f s q) (u e) .1));
+      }
+  kept-then a (stopped ps x) o′ f f′ h g = record { same = λ u. ap (λ y. andThen y f′) (h .same u) }
 
   -- by a test
-  k-test : (a b : Bool) (o o′ q q′ : Laid) → Kept a o o′ → Kept a q q′ → Kept a (if b then o else q) (if b then o′ else q′)
-  k-test a true o o′ q q′ h g = h
-  k-test a false o o′ q q′ h g = g
+  kept-test : {a : Bool} (b : Bool) {o o′ q q′ : Laid} → Kept a o o′ → Kept a q q′ → Kept a (if b then o else q) (if b then o′ else q′)
+  kept-test true h g = h
+  kept-test false h g = g
 
-  -- by a reference's value
-  k-reading : (a : Bool) (x : Slot) (r : Reference) (i : ℕ) (f f′ : ℕ → Laid) → ((n : ℕ) → Kept a (f n) (f′ n)) → Kept a (reading x r i f) (reading x r i f′)
-  unfolding reading
-  k-reading a unread r i f f′ h = λ u. refl
-  k-reading a (holds o n) r i f f′ h =
-      k-test a (r .low + r .width ≤? 8 * o) (f (bitRange n r)) (f′ (bitRange n r)) (stopped [] (bitOutside i)) (stopped [] (bitOutside i)) (h (bitRange n r)) (λ u. refl)
+  -- the same whatever the image
+  kept-equal : {a : Bool} {o o′ : Laid} → o′ ≡ o → Kept a o o′
+  kept-equal e = record { same = λ u. e }
 
-  -- a UINT: one that sets a slot stands outside arrays, and its number is the same
-  k-uint : (a : Bool) (i o k : ℕ) (subs : List ℕ) (s : Slots) (p : ℕ) → (a ≡ true → k ≡ 0)
-      → Kept a (inImage a (length img) i p (placed i k subs (setSlot k (holds o (numberAt img p o)) s) p o))
-      (inImage a (length img) i p (placed i k subs (setSlot k (holds o (numberAt later p o)) s) p o))
-  unfolding inImage placed setSlot Every
-  k-uint true i o k subs s p h = λ u. rw (h refl)
-  k-uint false i o zero subs s p h = λ u. refl
-  k-uint false i o (suc k) subs s p h = go (p + o ≤? length img)
+  -- with a reference's value
+  kept-valued : (a : Bool) (s : Slots) (f : Fields) (i : ℕ) {g g′ : ℕ → Laid} → ((x : ℕ) → Kept a (g x) (g′ x)) → Kept a (valued s f i g) (valued s f i g′)
+  unfolding valued reading
+  kept-valued a s f i {g} {g′} h = kept-test (refers f) (by (s (f .slot))) (h 0)
     where
-      there : (n : ℕ) → Laid
-      there n = placed i (suc k) subs (setSlot (suc k) (holds o n) s) p o
+      by : (x : Slot) → Kept a (reading x f i g) (reading x f i g′)
+      by unread = kept-equal refl
+      by (holds o x) = kept-test (f .low + f .width ≤? 8 * o) (h _) (kept-equal refl)
 
-      go : (b : Bool) → Kept false (if b then there (numberAt img p o) else stopped [] (short i p)) (if b then there (numberAt later p o) else stopped [] (short i p))
-      go true u = let same : numberAt later p o ≡ numberAt img p o = u refl .0 (omega arith) in ap there same
-      go false u = refl
+  -- one element, if it sets a slot to the same number
+  placed-same : (i : ℕ) (f : Fields) (s : Slots) (p n : ℕ) → (0 < f .sets → numberAt later p n ≡ numberAt img p n) → placed i f later s p n ≡ placed i f img s p n
+  unfolding placed
+  placed-same i f s p n h = rw (slot-same (f .sets) n (numberAt later p n) (numberAt img p n) s h)
+
+  -- one that sets a slot stands outside arrays
+  kept-leaf : (a : Bool) (i : ℕ) (f : Fields) (s : Slots) (p n : ℕ) → (a ≡ true → f .sets ≡ 0)
+      → Kept a (inImage a (length img) i p (placed i f img s p n)) (inImage a (length img) i p (placed i f later s p n))
+  unfolding inImage placed Every
+  kept-leaf true i f s p n h = kept-equal (placed-same i f s p n (λ g. absurd (omega (arith, h refl))))
+  kept-leaf false i f s p n h =
+      kept-test (p + n ≤? length img) {o = placed i f img s p n} (record { same = λ u. placed-same i f s p n (u refl .0) }) (kept-equal refl)
 
   mutual
-    unfolding layBody FitBody
+    unfolding layBody SoundBody
 
     -- a body
-    k-body : (b : Body) (a : Bool) (subs : List ℕ) (s : Slots) (p : ℕ) → FitBody a b → Kept a (layBody b img a subs s p) (layBody b later a subs s p)
-    k-body done a subs s p h = λ u. refl
-    k-body (more n b) a subs s p h = k-then a _ _ _ _ (k-node n a subs s p (h .0)) (λ t q. k-body b a subs t q (h .1))
+    kept-body : (b : Body) (free : Bool) (κ : Known) → SoundBody free κ b → (a : Bool) → (a ≡ true → free ≡ false) → (s : Slots) (p : ℕ)
+        → Kept a (layBody b img a s p) (layBody b later a s p)
+    kept-body done free κ h a r s p = kept-equal refl
+    kept-body (more n b) free κ h a r s p =
+        kept-then a _ _ _ _ (kept-node n free κ (h .0) a r s p) (λ t q. kept-body b free (afterNode n κ) (h .1) a r t q)
 
     -- an item
-    k-node : (n : Node) (a : Bool) (subs : List ℕ) (s : Slots) (p : ℕ) → FitNode a n → Kept a (layNode n img a subs s p) (layNode n later a subs s p)
-    k-node (uint i o k) a subs s p h = rw long (k-uint a i o k subs s p h)
-    k-node (block i o) a subs s p h = λ u. rw long
-    k-node (set i r v) a subs s p h = λ u. rw long
-    k-node (array i r b) a subs s p h = λ u.
-        let element : (image : List ℕ) → ℕ → Slots → ℕ → Laid = λ image j t q. layBody b image true (subs ++ (j ∷ [])) t q in
+    kept-node : (n : Node) (free : Bool) (κ : Known) → SoundNode free κ n → (a : Bool) → (a ≡ true → free ≡ false) → (s : Slots) (p : ℕ)
+        → Kept a (layNode n img a s p) (layNode n later a s p)
+    kept-node (leaf i f) free κ h a r s p = rw long (kept-valued a s f i (λ x. kept-leaf a i f s p (leafOctets f x) (λ e. h .unset (r e))))
+    kept-node (array i f b) free κ h a r s p =
+        let element : (image : List ℕ) → Slots → ℕ → Laid = λ image t q. layBody b image true t q in
         let same : element later ≡ element img =
-        fun-ext (λ j. fun-ext (λ t. fun-ext (λ q. k-body b true (subs ++ (j ∷ [])) t q h (λ e. absurd (true≢false e))))) in
-        rw long
-        (ap (λ (f : ℕ → Slots → ℕ → Laid). reading (s (r .slot)) r i (λ c. inImage a (length img) i p (repeated f i (sizeFrom p (f 0 s p)) c 0 s p))) same)
-    k-node (choice i r y f) a subs s p h =
-        k-reading a (s (r .slot)) r i _ _ (λ x. k-test a (x =? 0) _ _ _ _ (k-body f a subs s p (h .1)) (k-body y a subs s p (h .0)))
-    k-node (stray i) a subs s p h = λ u. refl
+        fun-ext (λ t. fun-ext (λ q. kept-body b false κ (h .1) true (λ e. refl) t q .same (λ e. absurd (true≢false e)))) in
+        rw long (kept-equal (ap (λ (g : Slots → ℕ → Laid). valued s f i (λ c. inImage a (length img) i p (repeated g i (sizeFrom p (g s p)) c 0 s p))) same))
+    kept-node (choice i f arms) free κ h a r s p = kept-valued a s f i (λ x. kept-arms arms κ (h .1) x a s p)
+    kept-node (stray i) free κ h a r s p = kept-equal refl
+
+    -- the arm that is taken
+    kept-arms : (arms : Arms) (κ : Known) → SoundArms κ arms → (x : ℕ) (a : Bool) (s : Slots) (p : ℕ)
+        → Kept a (layArms arms x img a s p) (layArms arms x later a s p)
+    kept-arms noArm κ h x a s p = kept-equal refl
+    kept-arms (arm t b arms) κ h x a s p = kept-test (t x) (kept-body b false κ (h .0) a (λ e. refl) s p) (kept-arms arms κ (h .1) x a s p)
 
   -- THE WHOLE IMAGE
   -- what o comes to, o′ does, where no dimension reached has changed
@@ -104,28 +118,30 @@ module _ (img later : List ℕ) (long : length later ≡ length img) where
   KeptAll o o′ = Undisturbed img later (elementsReached o) → o′ ≡ o
 
   -- a table before others
-  k-before : (t : Seat) (ps : List Placed) (o o′ : Layout) → KeptAll o o′ → Undisturbed img later (elementsReached (before t ps o))
-      → Undisturbed img later ps × (before t ps o′ ≡ before t ps o)
-  k-before t ps (laidOut ts qs s n) o′ g u = let r = every-split _ ps qs u in (r .0, ap (before t ps) (g (r .1)))
-  k-before t ps (stoppedAt qs x) o′ g u = let r = every-split _ ps qs u in (r .0, ap (before t ps) (g (r .1)))
+  before-split : (t : Seat) (ps : List Placed) (o : Layout) → Undisturbed img later (elementsReached (before t ps o))
+      → Undisturbed img later ps × Undisturbed img later (elementsReached o)
+  before-split t ps (laidOut ts qs s n) u = every-split _ ps qs u
+  before-split t ps (stoppedAt qs x) u = every-split _ ps qs u
 
   -- a table, then others
-  k-seated : (i m k p : ℕ) (o o′ : Laid) (f f′ : Slots → ℕ → Layout) → Kept false o o′ → ((s : Slots) (q : ℕ) → KeptAll (f s q) (f′ s q))
-      → KeptAll (seated i m k p o f) (seated i m k p o′ f′)
+  kept-seated : (i : ℕ) (f : Fields) (p : ℕ) (o o′ : Laid) (g g′ : Slots → ℕ → Layout) → Kept false o o′ → ((s : Slots) (q : ℕ) → KeptAll (g s q) (g′ s q))
+      → KeptAll (seated i f p o g) (seated i f p o′ g′)
   unfolding seated
-  k-seated i m k p (laid ps s q) o′ f f′ h g u =
-      let r = k-before _ ps (f s q) (f′ s q) (g s q) u in
-      subst⁻¹ (λ x. seated i m k p x f′ ≡ seated i m k p (laid ps s q) f) (h (λ e. r .0)) (r .1)
-  k-seated i m k p (stopped ps x) o′ f f′ h g u = subst⁻¹ (λ y. seated i m k p y f′ ≡ stoppedAt ps x) (h (λ e. u)) refl
+  kept-seated i f p (laid ps s q) o′ g g′ h k u =
+      let r = before-split _ ps (g s q) u in
+      ap (λ x. seated i f p x g′) (h .same (λ e. r .0)) ∙ ap (before _ ps) (k s q (r .1))
+  kept-seated i f p (stopped ps x) o′ g g′ h k u = ap (λ y. seated i f p y g′) (h .same (λ e. u))
 
   -- all tables
-  k-tables : (t : Tables) (s : Slots) (p : ℕ) → FitTables t → KeptAll (layTables t img s p) (layTables t later s p)
-  unfolding layTables FitTables
-  k-tables noMore s p h = λ u. refl
-  k-tables (table i m k body rest) s p h = k-seated i m k p _ _ _ _ (k-body body false [] s p (h .0)) (λ t q. k-tables rest t q (h .1))
-  k-tables (strayTable i) s p h = λ u. refl
+  kept-tables : (t : Tables) (κ : Known) → SoundTables κ t → (s : Slots) (p : ℕ) → KeptAll (layTables t img s p) (layTables t later s p)
+  unfolding layTables SoundTables
+  kept-tables noMore κ h s p = λ u. refl
+  kept-tables (table i f body rest) κ h s p =
+      kept-seated i f p _ _ _ _ (kept-body body true κ (h .0) false (λ e. absurd (true≢false (sym e))) s p) (λ t q. kept-tables rest (afterBody body κ) (h .1) t q)
+  kept-tables (strayTable i) κ h s p = λ u. refl
 
--- a passed description laid over two images
-pub layout-kept : (d img later : List ℕ) → Passes d → length later ≡ length img → Undisturbed img later (elementsReached (layOut d img)) → layOut d later ≡ layOut d img
+-- a passed description laid over two images: its tree is sound
+pub layout-kept : (d img later : List ℕ) → Passes d → length later ≡ length img → Undisturbed img later (elementsReached (layOut d img))
+    → layOut d later ≡ layOut d img
 unfolding layOut
-layout-kept d img later h e = k-tables img later e (treeOf d) (λ k. unread) 0 (sound-fit noneKnown (treeOf d) (passed-sound d h))
+layout-kept d img later h e = kept-tables img later e (treeOf d) noneKnown (passed-sound d h) (λ k. unread) 0

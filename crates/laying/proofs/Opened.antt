@@ -14,27 +14,14 @@ use Rattle.meaning.specs.declared.Refusal.{Refusal}
 use Rattle.meaning.specs.declared.Verdict.{Verdict}
 use Rattle.meaning.specs.declared.Reply.{Reply}
 use Rattle.meaning.specs.declared.Place.{Place}
-use Rattle.meaning.specs.Description.{checkReply}
-use Rattle.meaning.specs.Passed.{Passes}
-use Rattle.meaning.specs.Layout.{Placed, Seat, Slots, Layout, laidOut, stoppedAt, layOut, elementNamed, tableNamed}
-use Rattle.meaning.specs.Refusals.{
-  stopRefusal,
-  opened,
-  refused,
-  openLaid,
-  openSound,
-  openImage,
-  layoutIn,
-  layoutReply,
-  seatPlace,
-  tablePlaceIn,
-  tablePlaceReply,
-  elementIn,
-  placedPlace,
-  elementPlaceIn,
-  elementPlaceReply,
-}
-use Rattle.meaning.specs.Numbers.{imageTooLong}
+use Rattle.meaning.specs.Description.{checkReply, fieldsAt, isUint}
+use Rattle.meaning.specs.Passed.{Passes, Exactly}
+use Rattle.meaning.specs.Layout.{Placed, Seat, Slots, fault, short, Layout, laidOut, stoppedAt, layOut, elementNamed, tableNamed}
+use Rattle.meaning.specs.Refusals.{stopRefusal, opened, refused, openLaid, openSound, openImage, layoutIn, layoutReply}
+use Rattle.meaning.specs.Refusals.{seatPlace, tablePlaceIn, tablePlaceReply, elementIn, placedPlace, elementPlaceIn, elementPlaceReply, integerPlace}
+use Rattle.meaning.specs.Numbers.{imageTooLong, imageShort, noElement}
+use Rattle.laying.specs.Outcomes.{Lays}
+use Rattle.laying.proofs.Reaches.{passed-lays}
 
 -- THE IMAGE OPENED
 -- a passed description, an image of at most 65,535 octets, and the tables, elements, slots and total that laying out comes to
@@ -53,17 +40,25 @@ pub open-laid : (d img : List ℕ) → Passes d → length img ≤ 65535 → ope
 unfolding openImage openSound
 open-laid d img p h = rw (p, le-ltb 65535 (length img) h)
 
+-- the image by cases: what is refused by the check, too long or short, and what opens
+pub opening : (d img : List ℕ) {A : Type 0}
+    → ((r : Refusal) → checkReply d ≡ Verdict.Refused r → openImage d img ≡ refused r → A)
+    → (Passes d → (65535 <? length img) ≡ true → openImage d img ≡ refused imageTooLong → A)
+    → (Passes d → (65535 <? length img) ≡ false → (es : List Placed) (i p : ℕ) → layOut d img ≡ stoppedAt es (short i p) → openImage d img ≡ refused (imageShort i p) → A)
+    → ((ts : List Seat) (es : List Placed) (s : Slots) (n : ℕ) → Opens d img ts es s n → A) → A
+unfolding openImage openSound openLaid stopRefusal Lays
+opening d img {A} unsound long cut whole = go (checkReply d) refl (65535 <? length img) refl (layOut d img) refl
+  where
+    go : (v : Verdict) → checkReply d ≡ v → (b : Bool) → (65535 <? length img) ≡ b → (o : Layout) → layOut d img ≡ o → A
+    go (Verdict.Refused r) e b g o h = unsound r e (rw e)
+    go Verdict.Passed e true g o h = long e g (rw (e, g))
+    go Verdict.Passed e false g (laidOut ts es s n) h = whole ts es s n (record { passes = e; allowed = ltb-false 65535 (length img) g; laid = h })
+    go Verdict.Passed e false g (stoppedAt es (short i p)) h = cut e g es i p h (rw (e, g, h))
+    go Verdict.Passed e false g (stoppedAt es (fault x i)) h = absurd (subst Lays h (passed-lays d img e))
+
 -- what openImage comes to
 pub came : (d img : List ℕ) → Came d img
-unfolding openImage openSound openLaid
-came d img = by-verdict (checkReply d) refl (65535 <? length img) refl (layOut d img) refl
-  where
-    by-verdict : (v : Verdict) → checkReply d ≡ v → (b : Bool) → (65535 <? length img) ≡ b → (o : Layout) → layOut d img ≡ o → Came d img
-    by-verdict (Verdict.Refused r) e b g o h = refuses r (rw e)
-    by-verdict Verdict.Passed e true g o h = refuses imageTooLong (rw (e, g))
-    by-verdict Verdict.Passed e false g (laidOut ts es s n) h =
-        opens ts es s n (record { passes = e; allowed = ltb-false 65535 (length img) g; laid = h })
-    by-verdict Verdict.Passed e false g (stoppedAt es x) h = refuses (stopRefusal x) (rw (e, g, h))
+came d img = opening d img (λ r e. refuses r) (λ p l. refuses _) (λ p l es i x e. refuses _) opens
 
 -- THE REPLIES, COMPUTED
 module _ {d img : List ℕ} {ts : List Seat} {es : List Placed} {s : Slots} {n : ℕ} (o : Opens d img ts es s n) where
@@ -115,6 +110,18 @@ placeStart (Place.Refused r) = 0
 abbrev pub placeLength : Place → ℕ
 placeLength (Place.At p n) = n
 placeLength (Place.Refused r) = 0
+
+-- the place of an integer is where the element is
+pub integer-exactly : (d : List ℕ) (i : ℕ) (v : Place) (p n : ℕ)
+    → Exactly (integerPlace d i v ≡ Place.At (record { 0 = p }) n) ((isUint (fieldsAt d i) ≡ true) × (v ≡ Place.At (record { 0 = p }) n))
+unfolding integerPlace
+integer-exactly d i (Place.At s l) p n = (go (isUint (fieldsAt d i)) refl, λ c. rw (c .0) (c .1))
+  where
+    go : (b : Bool) → isUint (fieldsAt d i) ≡ b → (if b then Place.At s l else Place.Refused noElement) ≡ Place.At (record { 0 = p }) n
+        → (isUint (fieldsAt d i) ≡ true) × (Place.At s l ≡ Place.At (record { 0 = p }) n)
+    go true e h = (e, h)
+    go false e h = let z : _≡_ {A = ℕ} 0 1 = cc in absurd (omega arith)
+integer-exactly d i (Place.Refused r) p n = (λ e. let z : _≡_ {A = ℕ} 0 1 = cc in absurd (omega arith), λ c. c .1)
 
 -- an element was found, at p and n octets long
 pub record FoundAt (o : Option Placed) (p n : ℕ) : Type 0 where

@@ -1,198 +1,225 @@
--- Laws of spots: of one after another, further on, past the subscripts of the ARRAYs round them, and in lists of elements. Assumes nothing.
+-- Spots: one further on, the first of two, in a list of elements, in an array, and by a row. Assumes nothing.
 use Prim.Native.Nat.{ℕ, suc, _+_, _-_, _*_, _<_, _≤_}
 use mathlib.Core.Path.{_≡_, refl, _∙_, ap, sym}
-use mathlib.Core.Bool.{Bool, true, false, cond, _&&_}
+use mathlib.Core.Logic.{_⊎_, inl, inr}
+use mathlib.Core.Bool.{Bool, true, false, cond, _&&_, and-false}
 use mathlib.Core.List.{List, [], _∷_, _++_}
 use mathlib.Core.Option.{Option, some, none}
 use lib.Dec.{eqb, ltb}
 use borrow.Author.Tests.{eqb-true, eqb-false, ltb-true, ltb-false, lt-ltb, le-ltb}
+use native.Mathlib.Nat.{zero-mul, suc-mul}
 use native.Mathlib.Omega.{arith}
-use native.Mathlib.Nat.{suc-mul, zero-mul}
-use Rattle.meaning.specs.Layout.{Placed, sameList, elementNamed}
-use Rattle.laying.specs.declared.Spot.{Spot}
-use Rattle.laying.specs.declared.Spot.the-variants.{Nowhere, At}
-use Rattle.laying.specs.Sizes.{orElse, further, leafSpot, arraySpot, spotOf, seen, past}
+use Rattle.meaning.specs.Layout.{Placed, under, sameList, elementNamed}
+use Rattle.laying.specs.Rows.{Array, Row, row, notChosen, noRow, Spot, spot, absent, spotIn, rowSpot, firstRow, onward, inArray, unchosen, spotOf, seen}
 
-pub or-nowhere : (a : Spot) → orElse a Nowhere ≡ a
-unfolding orElse
-or-nowhere Nowhere = refl
-or-nowhere (At o n) = refl
+-- the first that is somewhere
+unfoldable pub orElse : Spot → Spot → Spot
+orElse (spot p n) b = spot p n
+orElse absent b = b
 
-pub or-assoc : (a b c : Spot) → orElse (orElse a b) c ≡ orElse a (orElse b c)
+-- so many octets further on
+unfoldable pub further : ℕ → Spot → Spot
+further k (spot p n) = spot (k + p) n
+further k absent = absent
+
+pub or-absent : (a : Spot) → orElse a absent ≡ a
 unfolding orElse
-or-assoc Nowhere b c = refl
-or-assoc (At o n) b c = refl
+or-absent (spot p n) = refl
+or-absent absent = refl
 
 pub further-or : (k : ℕ) (a b : Spot) → further k (orElse a b) ≡ orElse (further k a) (further k b)
-unfolding orElse further
-further-or k Nowhere b = refl
-further-or k (At o n) b = refl
+unfolding further orElse
+further-or k (spot p n) b = refl
+further-or k absent b = refl
 
 pub further-twice : (j k : ℕ) (a : Spot) → further j (further k a) ≡ further (j + k) a
 unfolding further
-further-twice j k Nowhere = refl
-further-twice j k (At o n) = let e : j + (k + o) ≡ j + k + o = omega arith in rw e
+further-twice j k (spot p n) = let e : j + (k + p) ≡ j + k + p = omega arith in rw e
+further-twice j k absent = refl
 
 pub further-none : (a : Spot) → further 0 a ≡ a
 unfolding further
-further-none Nowhere = refl
-further-none (At o n) = let e : 0 + o ≡ o = omega arith in rw e
+further-none (spot p n) = let e : 0 + p ≡ p = omega arith in rw e
+further-none absent = refl
 
-pub further-nowhere : (k : ℕ) → further k Nowhere ≡ Nowhere
+pub further-absent : (k : ℕ) → further k absent ≡ absent
 unfolding further
-further-nowhere k = refl
-
--- PAST THE SUBSCRIPTS ROUND
-pub past-as : (subs : List ℕ) (f g : List ℕ → Spot) (xs : List ℕ) → ((ys : List ℕ) → f ys ≡ g ys) → past subs f xs ≡ past subs g xs
-unfolding past
-past-as [] f g xs h = h xs
-past-as (a ∷ bs) f g [] h = refl
-past-as (a ∷ bs) f g (x ∷ xs) h = ap (λ (s : Spot). cond (eqb a x) s Nowhere) (past-as bs f g xs h)
-
-cond-or : (c : Bool) (a b : Spot) → cond c (orElse a b) Nowhere ≡ orElse (cond c a Nowhere) (cond c b Nowhere)
-unfolding orElse
-cond-or true a b = refl
-cond-or false a b = refl
-
-pub past-or : (subs : List ℕ) (f g : List ℕ → Spot) (xs : List ℕ) → past subs (λ ys. orElse (f ys) (g ys)) xs ≡ orElse (past subs f xs) (past subs g xs)
-unfolding past orElse
-past-or [] f g xs = refl
-past-or (a ∷ bs) f g [] = refl
-past-or (a ∷ bs) f g (x ∷ xs) = ap (λ (s : Spot). cond (eqb a x) s Nowhere) (past-or bs f g xs) ∙ cond-or (eqb a x) (past bs f xs) (past bs g xs)
-
-cond-further : (c : Bool) (k : ℕ) (a : Spot) → cond c (further k a) Nowhere ≡ further k (cond c a Nowhere)
-unfolding further
-cond-further true k a = refl
-cond-further false k a = refl
-
-pub past-further : (subs : List ℕ) (k : ℕ) (f : List ℕ → Spot) (xs : List ℕ) → past subs (λ ys. further k (f ys)) xs ≡ further k (past subs f xs)
-unfolding past further
-past-further [] k f xs = refl
-past-further (a ∷ bs) k f [] = refl
-past-further (a ∷ bs) k f (x ∷ xs) = ap (λ (s : Spot). cond (eqb a x) s Nowhere) (past-further bs k f xs) ∙ cond-further (eqb a x) k (past bs f xs)
-
-cond-nowhere : (c : Bool) → cond c Nowhere Nowhere ≡ Nowhere
-cond-nowhere true = refl
-cond-nowhere false = refl
-
-pub past-nowhere : (subs xs : List ℕ) → past subs (λ ys. Nowhere) xs ≡ Nowhere
-unfolding past
-past-nowhere [] xs = refl
-past-nowhere (a ∷ bs) [] = refl
-past-nowhere (a ∷ bs) (x ∷ xs) = ap (λ (s : Spot). cond (eqb a x) s Nowhere) (past-nowhere bs xs) ∙ cond-nowhere (eqb a x)
-
--- one subscript more
-pub past-more : (subs : List ℕ) (j : ℕ) (f : List ℕ → Spot) (xs : List ℕ) → past (subs ++ (j ∷ [])) f xs ≡ past subs (past (j ∷ []) f) xs
-unfolding past
-past-more [] j f xs = refl
-past-more (a ∷ bs) j f [] = refl
-past-more (a ∷ bs) j f (x ∷ xs) = ap (λ (s : Spot). cond (eqb a x) s Nowhere) (past-more bs j f xs)
+further-absent k = refl
 
 -- IN LISTS OF ELEMENTS
-pub seen-none : (i : ℕ) (q : List ℕ) → seen i q [] ≡ Nowhere
+pub seen-none : (i : ℕ) (xs : List ℕ) → seen i xs [] ≡ absent
 unfolding elementNamed spotOf
-seen-none i q = refl
+seen-none i xs = refl
 
-pub seen-append : (i : ℕ) (q : List ℕ) (ps qs : List Placed) → seen i q (ps ++ qs) ≡ orElse (seen i q ps) (seen i q qs)
+pub seen-append : (i : ℕ) (xs : List ℕ) (ps qs : List Placed) → seen i xs (ps ++ qs) ≡ orElse (seen i xs ps) (seen i xs qs)
 unfolding elementNamed spotOf orElse
-seen-append i q [] qs = refl
-seen-append i q (e ∷ es) qs = go (eqb (e .item) i && sameList (e .subscripts) q) (seen-append i q es qs)
+seen-append i xs [] qs = refl
+seen-append i xs (e ∷ es) qs = go (eqb (e .item) i && sameList (e .subscripts) xs) (seen-append i xs es qs)
   where
-    go : (b : Bool) → seen i q (es ++ qs) ≡ orElse (seen i q es) (seen i q qs) → spotOf (cond b (some e) (elementNamed i q (es ++ qs))) ≡ orElse (spotOf (cond b (some e) (elementNamed i q es))) (seen i q qs)
+    go : (b : Bool) → seen i xs (es ++ qs) ≡ orElse (seen i xs es) (seen i xs qs)
+        → spotOf (cond b (some e) (elementNamed i xs (es ++ qs))) ≡ orElse (spotOf (cond b (some e) (elementNamed i xs es))) (seen i xs qs)
     go true h = refl
     go false h = h
 
--- one element: its name is that of the item, and its subscripts those round it
-leaf-past : (j i p n : ℕ) (subs q : List ℕ) → cond (eqb j i && sameList subs q) (At p n) Nowhere ≡ further p (past subs (λ xs. leafSpot j i xs n) q)
-unfolding sameList past leafSpot further
-leaf-past j i p n [] [] = go (eqb j i)
+-- one element, outside arrays or under none yet
+pub seen-one : (j k p n i : ℕ) (xs : List ℕ)
+    → seen i xs (record { item = j; slot = k; subscripts = []; start = p; size = n } ∷ []) ≡ further p (rowSpot (cond (eqb j i) (row 0 n []) noRow) xs)
+unfolding elementNamed spotOf sameList further rowSpot spotIn
+seen-one j k p n i [] = go (eqb j i)
   where
-    go : (b : Bool) → cond (b && true) (At p n) Nowhere ≡ further p (cond b (At 0 n) Nowhere)
+    go : (b : Bool) → spotOf (cond {A = Option Placed} (b && true) (some (record { item = j; slot = k; subscripts = []; start = p; size = n })) none)
+        ≡ further p (rowSpot (cond b (row 0 n []) noRow) [])
     go true = let e : p + 0 ≡ p = omega arith in rw e
     go false = refl
-leaf-past j i p n [] (x ∷ xs) = go (eqb j i)
+seen-one j k p n i (x ∷ xs) = go (eqb j i)
   where
-    go : (b : Bool) → cond (b && false) (At p n) Nowhere ≡ further p Nowhere
+    go : (b : Bool) → spotOf (cond {A = Option Placed} (b && false) (some (record { item = j; slot = k; subscripts = []; start = p; size = n })) none)
+        ≡ further p (rowSpot (cond b (row 0 n []) noRow) (x ∷ xs))
     go true = refl
     go false = refl
-leaf-past j i p n (a ∷ bs) [] = go (eqb j i)
-  where
-    go : (b : Bool) → cond (b && false) (At p n) Nowhere ≡ further p Nowhere
-    go true = refl
-    go false = refl
-leaf-past j i p n (a ∷ bs) (x ∷ xs) = go (eqb a x) (eqb j i) (leaf-past j i p n bs xs)
-  where
-    go : (c b : Bool) → cond (b && sameList bs xs) (At p n) Nowhere ≡ further p (past bs (λ xs. leafSpot j i xs n) xs)
-        → cond (b && (c && sameList bs xs)) (At p n) Nowhere ≡ further p (cond c (past bs (λ xs. leafSpot j i xs n) xs) Nowhere)
-    go true b h = h
-    go false true h = refl
-    go false false h = refl
 
-pub seen-one : (j k : ℕ) (subs : List ℕ) (p n i : ℕ) (q : List ℕ)
-    → seen i q (record { item = j; slot = k; subscripts = subs; start = p; size = n } ∷ []) ≡ further p (past subs (λ xs. leafSpot j i xs n) q)
-unfolding elementNamed spotOf
-seen-one j k subs p n i q = go (eqb j i && sameList subs q) ∙ leaf-past j i p n subs q
+-- in an array's element j, the first subscript is j
+pub seen-under : (i j x : ℕ) (xs : List ℕ) (ps : List Placed) → seen i (x ∷ xs) (under j ps) ≡ cond (eqb j x) (seen i xs ps) absent
+unfolding elementNamed spotOf sameList under
+seen-under i j x xs [] = go (eqb j x)
   where
-    go : (b : Bool) → spotOf (cond {A = Option Placed} b (some (record { item = j; slot = k; subscripts = subs; start = p; size = n })) none) ≡ cond b (At p n) Nowhere
+    go : (b : Bool) → absent ≡ cond b absent absent
     go true = refl
     go false = refl
+seen-under i j x xs (e ∷ es) = go (eqb (e .item) i) (eqb j x) (sameList (e .subscripts) xs) (seen-under i j x xs es)
+  where
+    deeper : Placed
+    deeper = record { item = e .item; slot = e .slot; subscripts = j ∷ e .subscripts; start = e .start; size = e .size }
+
+    go : (a b c : Bool) → seen i (x ∷ xs) (under j es) ≡ cond b (seen i xs es) absent
+        → spotOf (cond (a && (b && c)) (some deeper) (elementNamed i (x ∷ xs) (under j es))) ≡ cond b (spotOf (cond (a && c) (some e) (elementNamed i xs es))) absent
+    go true true true h = refl
+    go true true false h = h
+    go true false c h = h
+    go false true c h = h
+    go false false c h = h
+
+-- and there is one
+pub seen-unnamed : (i j : ℕ) (ps : List Placed) → seen i [] (under j ps) ≡ absent
+unfolding elementNamed spotOf sameList under
+seen-unnamed i j [] = refl
+seen-unnamed i j (e ∷ es) = rw (and-false (eqb (e .item) i)) (seen-unnamed i j es)
 
 -- ONE ELEMENT OF AN ARRAY AFTER ANOTHER
 -- of c elements from subscript j on, each w octets long, the first subscript picks the one to look in
 unfoldable pub someSpot : (j c w : ℕ) → (List ℕ → Spot) → List ℕ → Spot
-someSpot j c w f [] = Nowhere
-someSpot j c w f (x ∷ xs) = cond (ltb x j) Nowhere (cond (ltb x (j + c)) (further ((x - j) * w) (f xs)) Nowhere)
+someSpot j c w f [] = absent
+someSpot j c w f (x ∷ xs) = cond (ltb x j) absent (cond (ltb x (j + c)) (further ((x - j) * w) (f xs)) absent)
 
-pub some-none : (j w : ℕ) (f : List ℕ → Spot) (xs : List ℕ) → someSpot j 0 w f xs ≡ Nowhere
+pub some-none : (j w : ℕ) (f : List ℕ → Spot) (xs : List ℕ) → someSpot j 0 w f xs ≡ absent
 unfolding someSpot
 some-none j w f [] = refl
 some-none j w f (x ∷ xs) = go (ltb x j) refl
   where
-    go : (b : Bool) → ltb x j ≡ b → cond b Nowhere (cond (ltb x (j + 0)) (further ((x - j) * w) (f xs)) Nowhere) ≡ Nowhere
+    go : (b : Bool) → ltb x j ≡ b → cond b absent (cond (ltb x (j + 0)) (further ((x - j) * w) (f xs)) absent) ≡ absent
     go true e = refl
     go false e = let h : j + 0 ≤ x = omega (arith, ltb-false x j e) in rw (le-ltb x (j + 0) h)
 
-pub some-more : (j c w : ℕ) (f : List ℕ → Spot) (xs : List ℕ) → orElse (past (j ∷ []) f xs) (further w (someSpot (j + 1) c w f xs)) ≡ someSpot j (suc c) w f xs
-unfolding someSpot past orElse further
-some-more j c w f [] = refl
-some-more j c w f (x ∷ xs) = go (eqb j x) refl
+-- the first of them, then the others
+pub some-more : (i j c w p : ℕ) (ps : List Placed) (f : List ℕ → Spot) → ((xs : List ℕ) → seen i xs ps ≡ further p (f xs)) → (xs : List ℕ)
+    → orElse (seen i xs (under j ps)) (further (p + w) (someSpot (j + 1) c w f xs)) ≡ further p (someSpot j (suc c) w f xs)
+unfolding someSpot orElse further
+some-more i j c w p ps f h [] = rw (seen-unnamed i j ps)
+some-more i j c w p ps f h (x ∷ xs) = rw (seen-under i j x xs ps, h xs) (go (eqb j x) refl)
   where
     go : (b : Bool) → eqb j x ≡ b
-        → orElse (cond b (f xs) Nowhere) (further w (cond (ltb x (j + 1)) Nowhere (cond (ltb x (j + 1 + c)) (further ((x - (j + 1)) * w) (f xs)) Nowhere)))
-        ≡ cond (ltb x j) Nowhere (cond (ltb x (j + suc c)) (further ((x - j) * w) (f xs)) Nowhere)
+        → orElse (cond b (further p (f xs)) absent) (further (p + w) (cond (ltb x (j + 1)) absent (cond (ltb x (j + 1 + c)) (further ((x - (j + 1)) * w) (f xs)) absent)))
+        ≡ further p (cond (ltb x j) absent (cond (ltb x (j + suc c)) (further ((x - j) * w) (f xs)) absent))
     go true e =
-        let h : j ≡ x = eqb-true j x e in
-        let a : x < j + 1 = omega arith in
-        let b : j ≤ x = omega arith in
-        let g : x < j + suc c = omega arith in
+        let a : j ≡ x = eqb-true j x e in
+        let b : x < j + 1 = omega arith in
+        let l : j ≤ x = omega arith in
+        let u : x < j + suc c = omega arith in
         let z : x - j ≡ 0 = omega arith in
-        rw (lt-ltb _ _ a, le-ltb x j b, lt-ltb _ _ g, z, zero-mul w) (or-nowhere (f xs) ∙ sym (further-none (f xs)))
-    go false e =
-        let ne : j ≡ x → ⊥ = eqb-false j x e in
-        below (ltb x j) refl ne
+        rw (lt-ltb _ _ b, le-ltb x j l, lt-ltb _ _ u, z, zero-mul w) (or-absent (further p (f xs)) ∙ ap (further p) (sym (further-none (f xs))))
+    go false e = below (ltb x j) refl
       where
-        below : (b : Bool) → ltb x j ≡ b → (j ≡ x → ⊥)
-            → further w (cond (ltb x (j + 1)) Nowhere (cond (ltb x (j + 1 + c)) (further ((x - (j + 1)) * w) (f xs)) Nowhere))
-            ≡ cond b Nowhere (cond (ltb x (j + suc c)) (further ((x - j) * w) (f xs)) Nowhere)
-        below true t ne = let a : x < j + 1 = omega (arith, ltb-true x j t) in rw (lt-ltb _ _ a)
-        below false t ne =
-            let a : j + 1 ≤ x = omega (arith, ltb-false x j t) in
+        other : j ≡ x → ⊥
+        other = eqb-false j x e
+
+        last : (b : Bool) → j + 1 ≤ x
+            → further (p + w) (cond b (further ((x - (j + 1)) * w) (f xs)) absent) ≡ further p (cond b (further ((x - j) * w) (f xs)) absent)
+        last true a =
+            let y : x - j ≡ suc (x - (j + 1)) = omega arith in
+            let z : p + w + (x - (j + 1)) * w ≡ p + suc (x - (j + 1)) * w = omega (arith, suc-mul (x - (j + 1)) w) in
+            further-twice (p + w) ((x - (j + 1)) * w) (f xs) ∙ rw (y, z) (sym (further-twice p (suc (x - (j + 1)) * w) (f xs)))
+        last false a = refl
+
+        below : (b : Bool) → ltb x j ≡ b
+            → further (p + w) (cond (ltb x (j + 1)) absent (cond (ltb x (j + 1 + c)) (further ((x - (j + 1)) * w) (f xs)) absent))
+            ≡ further p (cond b absent (cond (ltb x (j + suc c)) (further ((x - j) * w) (f xs)) absent))
+        below true t = let a : x < j + 1 = omega (arith, ltb-true x j t) in rw (lt-ltb _ _ a)
+        below false t =
+            let a : j + 1 ≤ x = omega (arith, ltb-false x j t, other) in
             let b : j + 1 + c ≡ j + suc c = omega arith in
             rw (le-ltb x (j + 1) a, b) (last (ltb x (j + suc c)) a)
-          where
-            last : (b : Bool) → j + 1 ≤ x → further w (cond b (further ((x - (j + 1)) * w) (f xs)) Nowhere) ≡ cond b (further ((x - j) * w) (f xs)) Nowhere
-            last true a =
-                let y : x - j ≡ suc (x - (j + 1)) = omega arith in
-                let z : w + (x - (j + 1)) * w ≡ suc (x - (j + 1)) * w = sym (suc-mul (x - (j + 1)) w ∙ omega arith) in
-                further-twice w ((x - (j + 1)) * w) (f xs) ∙ rw (y, z)
-            last false a = refl
 
--- from subscript 0 on they are the array's
-pub some-all : (c w : ℕ) (f : List ℕ → Spot) (xs : List ℕ) → someSpot 0 c w f xs ≡ arraySpot c w f xs
-unfolding someSpot arraySpot
-some-all c w f [] = refl
-some-all c w f (x ∷ xs) =
+-- BY A ROW
+pub spot-onward : (k p n : ℕ) (arrays : List Array) (xs : List ℕ) → spotIn (k + p) n arrays xs ≡ further k (spotIn p n arrays xs)
+unfolding spotIn further
+spot-onward k p n [] [] = refl
+spot-onward k p n [] (x ∷ xs) = refl
+spot-onward k p n (a ∷ rest) [] = refl
+spot-onward k p n (a ∷ rest) (x ∷ xs) = go (ltb x (a .count)) (spot-onward k (p + x * a .stride) n rest xs)
+  where
+    go : (b : Bool) → spotIn (k + (p + x * a .stride)) n rest xs ≡ further k (spotIn (p + x * a .stride) n rest xs)
+        → cond b (spotIn (k + p + x * a .stride) n rest xs) absent ≡ further k (cond b (spotIn (p + x * a .stride) n rest xs) absent)
+    go true h = let e : k + p + x * a .stride ≡ k + (p + x * a .stride) = omega arith in rw e h
+    go false h = refl
+
+pub row-onward : (k : ℕ) (r : Row) (xs : List ℕ) → rowSpot (onward k r) xs ≡ further k (rowSpot r xs)
+unfolding rowSpot onward further
+row-onward k (row p n rest) xs = spot-onward k p n rest xs
+row-onward k (notChosen rest) xs = refl
+row-onward k noRow xs = refl
+
+pub row-unchosen : (r : Row) (xs : List ℕ) → rowSpot (unchosen r) xs ≡ absent
+unfolding rowSpot unchosen
+row-unchosen (row p n rest) xs = refl
+row-unchosen (notChosen rest) xs = refl
+row-unchosen noRow xs = refl
+
+pub row-absent : (xs : List ℕ) → rowSpot noRow xs ≡ absent
+unfolding rowSpot
+row-absent xs = refl
+
+-- all elements of an array are told by its count and stride
+pub row-array : (c w : ℕ) (r : Row) (xs : List ℕ) → someSpot 0 c w (rowSpot r) xs ≡ rowSpot (inArray c w r) xs
+unfolding someSpot rowSpot inArray spotIn
+row-array c w r [] = none-named r
+  where
+    none-named : (r : Row) → absent ≡ rowSpot (inArray c w r) []
+    none-named (row p n rest) = refl
+    none-named (notChosen rest) = refl
+    none-named noRow = refl
+row-array c w r (x ∷ xs) =
     let h : 0 ≤ x = omega arith in
     let a : x - 0 ≡ x = omega arith in
     let b : 0 + c ≡ c = omega arith in
-    rw (le-ltb x 0 h, a, b)
+    rw (le-ltb x 0 h, a, b) (go r)
+  where
+    pick : (b : Bool) (p n : ℕ) (rest : List Array) → cond b (further (x * w) (spotIn p n rest xs)) absent ≡ cond b (spotIn (p + x * w) n rest xs) absent
+    pick true p n rest = let e : x * w + p ≡ p + x * w = omega arith in sym (spot-onward (x * w) p n rest xs) ∙ rw e
+    pick false p n rest = refl
+
+    gone : (b : Bool) → cond b (further (x * w) absent) absent ≡ absent
+    gone true = further-absent (x * w)
+    gone false = refl
+
+    go : (r : Row) → cond (ltb x c) (further (x * w) (rowSpot r xs)) absent ≡ rowSpot (inArray c w r) (x ∷ xs)
+    go (row p n rest) = pick (ltb x c) p n rest
+    go (notChosen rest) = gone (ltb x c)
+    go noRow = gone (ltb x c)
+
+-- of two rows of which one at most is a row
+pub row-first : (r q : Row) (xs : List ℕ) → (r ≡ noRow) ⊎ (q ≡ noRow) → rowSpot (firstRow r q) xs ≡ orElse (rowSpot r xs) (rowSpot q xs)
+unfolding rowSpot firstRow orElse
+row-first r q xs (inl e) = rw e
+row-first (row p n rest) q xs (inr e) = rw e (sym (or-absent (spotIn p n rest xs)))
+row-first (notChosen rest) q xs (inr e) = rw e
+row-first noRow q xs (inr e) = refl

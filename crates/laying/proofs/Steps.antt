@@ -3,8 +3,8 @@ use Prim.Native.Nat.{ℕ, zero, suc, _+_, _-_}
 use mathlib.Core.Path.{_≡_, refl, _∙_, ap, sym}
 use mathlib.Core.List.{List}
 use native.Mathlib.Omega.{arith}
-use Rattle.meaning.specs.Description.{itemAt}
-use Rattle.meaning.specs.Layout.{Body, more, done, noMore, bodyOf, bodyAt, nested, tablesOf, tableAt, tabled}
+use Rattle.meaning.specs.Description.{fieldsAt, nested}
+use Rattle.meaning.specs.Layout.{Body, more, done, noMore, bodyOf, bodyAt, tablesOf, tableAt}
 use Rattle.laying.specs.Tree.{innerAt, nodeAt}
 
 -- items that stand inside an item before them may be passed over at once
@@ -31,10 +31,10 @@ body-none k d at = at-depth k d at 0
 
 -- a body of n + 1 items is its first item, and what follows what stands inside that
 pub body-step : (k : ℕ) (d : List ℕ) (at n : ℕ)
-    → bodyAt k d at (suc n) ≡ more (nodeAt k d at n) (bodyAt k d (at + 1 + nested (itemAt d at) n) (n - nested (itemAt d at) n))
+    → bodyAt k d at (suc n) ≡ more (nodeAt k d at n) (bodyAt k d (at + 1 + nested (fieldsAt d at)) (n - nested (fieldsAt d at)))
 unfolding bodyOf
 body-step k d at n =
-    let u = nested (itemAt d at) n in
+    let u = nested (fieldsAt d at) in
     at-depth k d at (suc n) ∙ ap (more (nodeAt k d at n)) (skipped (innerAt k d) d n u (at + 1) ∙ sym (at-depth k d (at + 1 + u) (n - u)))
 
 -- no tables
@@ -55,6 +55,6 @@ tables-skipped d (suc n) (suc s) at =
 
 -- the tables of n + 1 items are the first, and those that follow what stands inside it
 pub tables-step : (d : List ℕ) (at n : ℕ)
-    → tablesOf d (suc n) 0 at ≡ tableAt d (itemAt d at) at n (tablesOf d (n - tabled (itemAt d at) n) 0 (at + 1 + tabled (itemAt d at) n))
+    → tablesOf d (suc n) 0 at ≡ tableAt d (fieldsAt d at) at n (tablesOf d (n - nested (fieldsAt d at)) 0 (at + 1 + nested (fieldsAt d at)))
 unfolding tablesOf
-tables-step d at n = ap (tableAt d (itemAt d at) at n) (tables-skipped d n (tabled (itemAt d at) n) (at + 1))
+tables-step d at n = ap (tableAt d (fieldsAt d at) at n) (tables-skipped d n (nested (fieldsAt d at)) (at + 1))

@@ -1,41 +1,32 @@
--- The tree of a passed description is sound. Assumes nothing.
+-- The tree of a passed description is sound, and nothing stray stands in it. Assumes nothing.
 use Prim.Native.Nat.{ℕ, zero, suc, _+_, _-_, _<_, _≤_}
 use mathlib.Core.Path.{_≡_, refl, sym}
 use mathlib.Core.List.{List}
-use mathlib.Core.Bool.{true, false≢true}
+use mathlib.Core.Bool.{Bool, true, false, true≢false}
+use borrow.Author.Tests.{le-leb, eqb-true}
 use native.Mathlib.Omega.{arith}
-use borrow.Author.Tests.{le-leb}
-use Rattle.meaning.specs.declared.Item.{Item}
-use Rattle.meaning.specs.declared.Item.the-variants.{Table, Uint, Block, Set, Array, If, Malformed}
 use Rattle.meaning.specs.declared.Round.{Round}
-use Rattle.meaning.specs.Description.{itemCount, itemAt, fieldsOf, fieldsAt, isTable, count, inside}
-use Rattle.meaning.specs.Layout.{Tables, table, bodyAt, tabled, tableAt, tablesOf, treeOf}
+use Rattle.meaning.specs.Description.{itemCount, fieldsAt, isTable, nested, count, inside}
 use Rattle.meaning.specs.Passed.{Passes, PassedLaws, endOf}
-use Rattle.meaning.proofs.Rules.{slot-none, slot-step, round-none}
+use Rattle.meaning.specs.Layout.{Node, Body, Arms, Tables, leaf, array, choice, stray, done, more, noArm, arm, noMore, table, strayTable, tableAt, bodyAt}
+use Rattle.meaning.specs.Layout.{tablesOf, treeOf}
 use Rattle.meaning.proofs.Passed.{passed-laws}
-use Rattle.laying.specs.Sound.{Known, setKnown, noneKnown, SoundTables}
-use Rattle.laying.proofs.Steps.{tables-none, tables-step}
-use Rattle.laying.proofs.Nested.{Run, first-keeps, first-ends, first-body, rest-body}
+use Rattle.meaning.proofs.Ranges.{fields-range, sets-none}
+use Rattle.meaning.proofs.Rules.{round-none, slot-none, slot-step}
+use Rattle.laying.specs.Sound.{Known, setKnown, noneKnown, FitBody, FitNode, FitArms, FitTables, SoundBody, SoundNode, SoundArms, SoundTables, afterNode}
+use Rattle.laying.specs.Sound.{afterBody}
 use Rattle.laying.proofs.Bodies.{Same, same-next, runs}
+use Rattle.laying.proofs.Nested.{Run, first-keeps, first-ends, first-body, rest-body}
+use Rattle.laying.proofs.Steps.{tables-none, tables-step}
 
--- What a TABLE comes to at item `at`, with n items after it: it has one body, sets no slot, and is that table of the tree
-pub record TableItem (d : List ℕ) (it : Item) (at n : ℕ) : Type 0 where
-  pub used : tabled it n ≡ fieldsOf it .first
-  pub one : fieldsOf it .second ≡ 0
-  pub quiet : fieldsOf it .sets ≡ 0
-  pub is : (rest : Tables) → fieldsOf it .first ≤ n
-      → tableAt d it at n rest ≡ table at (fieldsOf it .manufacturer) (fieldsOf it .number) (bodyAt 4 d (at + 1) (fieldsOf it .first)) rest
+-- a TABLE at item `at`, with n items after it, is that table of the tree: it has one body
+pub table-is : (d : List ℕ) (at n : ℕ) (rest : Tables) → isTable (fieldsAt d at) ≡ true → fieldsAt d at .first ≤ n
+    → tableAt d (fieldsAt d at) at n rest ≡ table at (fieldsAt d at) (bodyAt 4 d (at + 1) (fieldsAt d at .first)) rest
+unfolding tableAt
+table-is d at n rest e h = rw (e, le-leb (fieldsAt d at .first) n h)
 
--- every TABLE comes to that
-pub table-item : (d : List ℕ) (it : Item) (at n : ℕ) → isTable (fieldsOf it) ≡ true → TableItem d it at n
-unfolding fieldsOf tabled tableAt
-table-item d (Table m i w c) at n e = record { used = refl; one = refl; quiet = refl; is = λ rest h. rw (le-leb c n h) }
-table-item d (Uint o s) at n e = absurd (false≢true e)
-table-item d (Block o) at n e = absurd (false≢true e)
-table-item d (Set r u) at n e = absurd (false≢true e)
-table-item d (Array r c) at n e = absurd (false≢true e)
-table-item d (If r y f) at n e = absurd (false≢true e)
-table-item d Malformed at n e = absurd (false≢true e)
+pub table-one : (d : List ℕ) (at : ℕ) → isTable (fieldsAt d at) ≡ true → fieldsAt d at .second ≡ 0
+table-one d at e = fields-range d at .one (omega (arith, eqb-true (fieldsAt d at .kind) 1 e))
 
 -- at the top level nothing stands round an item
 abbrev pub top : (description : List ℕ) → Round
@@ -51,15 +42,16 @@ tops {d} p (suc m) at (suc n) κ few long run same =
     let l : at < itemCount d = omega arith in
     let f = fieldsAt d at in
     let ends = first-ends p run l in
-    let t = table-item d (itemAt d at) at n (first-keeps p run l .top refl) in
-    let next : Same d κ (at + 1) = rw (t .quiet) at (same-next d at (f .sets) (f .octets) κ same (slot-step d at)) in
-    let one : count (isTable f) ≡ 1 = rw (first-keeps p run l .top refl) in
-    let x = runs p (f .first + 1) 4 (at + 1) (f .first) _ _ κ (omega arith) refl (first-body p run l) (omega arith) (omega arith) next in
-    let end : at + 1 + f .first ≡ endOf d at = omega (arith, t .one) in
-    let there : at + 1 + tabled (itemAt d at) n ≡ endOf d at = omega (arith, t .used, t .one) in
-    let left = n - tabled (itemAt d at) n in
-    rw (tables-step d at n, there, t .is (tablesOf d left 0 (endOf d at)) (omega arith))
-    (x .direct, tops p m (endOf d at) left _ (omega arith) (omega (arith, t .used, t .one)) (rest-body p run l) (rw end at (x .after)))
+    let is : isTable f ≡ true = first-keeps p run l .top refl in
+    let second = table-one d at is in
+    let quiet = sets-none f (fields-range d at) (λ two. omega (arith, eqb-true (f .kind) 1 is)) in
+    let next : Same d κ (at + 1) = rw quiet at (same-next d at (f .sets) (f .octets) κ same (slot-step d at)) in
+    let one : count (isTable f) ≡ 1 = rw is in
+    let x = runs p (f .first + 1) 4 (at + 1) (f .first) _ _ true κ (omega arith) refl (first-body p run l) (omega arith) (λ z. absurd (true≢false z)) (omega arith) next in
+    let end : at + 1 + f .first ≡ endOf d at = omega arith in
+    let there : at + 1 + nested f ≡ endOf d at = omega arith in
+    rw (tables-step d at n, there, table-is d at n (tablesOf d (n - nested f) 0 (endOf d at)) is (omega arith))
+    (x .sound, tops p m (endOf d at) (n - nested f) _ (omega arith) (omega arith) (rest-body p run l) (rw end at (x .after)))
 
 -- the whole description is a run at the top level
 pub whole-run : (d : List ℕ) → Run d 0 (itemCount d) (top d)
@@ -70,3 +62,28 @@ pub passed-sound : (d : List ℕ) → Passes d → SoundTables noneKnown (treeOf
 unfolding treeOf
 passed-sound d h =
     tops (passed-laws d h) (itemCount d + 1) 0 (itemCount d) noneKnown (omega arith) (omega arith) (whole-run d) (λ j p. sym (slot-none d j))
+
+-- NOTHING STRAY stands in a sound tree
+mutual
+  unfolding FitBody SoundBody
+
+  pub fit-body : (free : Bool) (κ : Known) (b : Body) → SoundBody free κ b → FitBody b
+  fit-body free κ done h = tt
+  fit-body free κ (more n b) h = (fit-node free κ n (h .0), fit-body free (afterNode n κ) b (h .1))
+
+  pub fit-node : (free : Bool) (κ : Known) (n : Node) → SoundNode free κ n → FitNode n
+  fit-node free κ (leaf i f) h = tt
+  fit-node free κ (array i f b) h = fit-body false κ b (h .1)
+  fit-node free κ (choice i f arms) h = fit-arms κ arms (h .1)
+  fit-node free κ (stray i) h = h
+
+  fit-arms : (κ : Known) (arms : Arms) → SoundArms κ arms → FitArms arms
+  fit-arms κ noArm h = tt
+  fit-arms κ (arm t b arms) h = (fit-body false κ b (h .0), fit-arms κ arms (h .1))
+
+-- in any table
+pub fit-tables : (κ : Known) (t : Tables) → SoundTables κ t → FitTables t
+unfolding FitTables SoundTables
+fit-tables κ noMore h = tt
+fit-tables κ (table i f b rest) h = (fit-body true κ b (h .0), fit-tables (afterBody b κ) rest (h .1))
+fit-tables κ (strayTable i) h = h

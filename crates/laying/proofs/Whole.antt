@@ -1,139 +1,280 @@
--- Inside an ARRAY nothing stops a sound body: no slot is set, and the body is as long as its size says. So an array's elements are of one size.
--- Assumes nothing.
-use Prim.Native.Nat.{ℕ, zero, suc, _+_, _-_, _*_, _≤_}
-use mathlib.Core.Path.{_≡_, refl, _∙_, subst⁻¹}
+-- Inside an ARRAY a sound body is laid whole: nothing stops it, no slot is set, it is as long as its size says, and its elements stand where its rows say.
+-- So an array's elements are of one size. Assumes nothing.
+use Prim.Native.Nat.{ℕ, zero, suc, _+_, _-_, _*_, _<_, _≤_}
+use mathlib.Core.Path.{_≡_, refl, _∙_, ap, ap₂, sym}
+use mathlib.Core.Logic.{_⊎_, inl, inr}
 use mathlib.Core.Bool.{Bool, true, false, cond}
-use mathlib.Core.List.{List, [], _∷_, _++_}
+use mathlib.Core.List.{List, [], _∷_}
 use lib.Dec.{eqb}
-use borrow.Author.Tests.{le-leb, eq-eqb}
+use borrow.Author.Tests.{le-leb, eq-eqb, ne-eqb, ltb-true}
+use native.Mathlib.Decide.{decLt}
 use native.Mathlib.Nat.{suc-mul}
 use native.Mathlib.Omega.{arith}
-use Rattle.meaning.specs.declared.Reference.{Reference}
-use Rattle.meaning.specs.Layout.{Node, Body, uint, block, set, array, choice, stray, done, more, Slot, Slots, unread, holds, setSlot, bitRange, setOctets, numberAt, Placed, Laid, laid, stopped, also, andThen, reading, inImage, placed, sizeFrom, ofSize, repeated, layBody, layNode}
-use Rattle.meaning.specs.Numbers.{numbered}
-use Rattle.laying.specs.Sizes.{Numbers, value, bodySize, itemSize}
-use Rattle.laying.specs.Sound.{Known, setKnown, GoodReference, SoundBody, SoundNode}
-use Rattle.laying.specs.Slots.{numberOf, octetsOf, Numbered, Matches}
-use Rattle.laying.specs.Outcomes.{setNumber, readOn}
+use Rattle.meaning.specs.declared.Fields.{Fields}
+use Rattle.meaning.specs.Description.{refers}
+use Rattle.meaning.specs.Layout.{Node, Body, Arms, leaf, array, choice, stray, done, more, noArm, arm}
+use Rattle.meaning.specs.Layout.{Slot, Slots, unread, holds, setSlot, bitRange, leafOctets, Placed, Laid, laid, stopped, also, andThen, reading, valued}
+use Rattle.meaning.specs.Layout.{inImage, placed, sizeFrom, under, asElement, repeated, layBody, layNode, layArms}
+use Rattle.laying.specs.Every.{Every}
+use Rattle.laying.specs.Rows.{Row, row, notChosen, noRow, Spot, absent, rowSpot, firstRow, onward, inArray, unchosen, bodyRow, itemRow, armsRow, passedOver, seen}
+use Rattle.laying.specs.Sizes.{Numbers, value, bodySize, itemSize, armsSize}
+use Rattle.laying.specs.Slots.{numberOf, octetsOf, numbersOf, Matches}
+use Rattle.laying.specs.Sound.{Known, GoodReference, SoundBody, SoundNode, SoundArms}
+use Rattle.laying.proofs.Bodies.{quiet-node}
+use Rattle.laying.proofs.Either.{tested}
+use Rattle.laying.proofs.Every.{every-append}
+use Rattle.laying.proofs.Rising.{RisesBody, RisesNode, RisesArms}
+use Rattle.laying.proofs.Spots.{orElse, further, further-or, further-twice, further-absent, seen-none, seen-append, seen-one, someSpot, some-none}
+use Rattle.laying.proofs.Spots.{some-more, row-onward, row-unchosen, row-absent, row-array, row-first}
 
--- THE SLOTS
--- the slots hold the numbers v, of dimensions of κ octets
-pub record Ready (s : Slots) (v : Numbers) (κ : Known) : Type 0 where
-  pub numbered : Numbered s v
-  pub matches : Matches s κ
+-- ROWS OF OTHER ITEMS
+-- i is none of the items from lo up to hi
+abbrev pub Other : (lo hi i : ℕ) → Type 0
+Other lo hi i = (i < lo) ⊎ (hi ≤ i)
 
--- a slot that is set, on each side
-pub ready-set : (k o x : ℕ) (s : Slots) (v : Numbers) (κ : Known) → Ready s v κ → Ready (setSlot k (holds o x) s) (setNumber k x v) (setKnown k o κ)
-unfolding setSlot setNumber setKnown numberOf octetsOf
-ready-set zero o x s v κ h = h
-ready-set (suc k) o x s v κ h =
-    record { numbered = record { numbers = λ j. one j (eqb j (suc k)) }; matches = record { octets = λ j. two j (eqb j (suc k)) } }
+pub other-narrower : (lo hi from to i : ℕ) → lo ≤ from → to ≤ hi → Other lo hi i → Other from to i
+other-narrower lo hi from to i a b (inl h) = inl (omega arith)
+other-narrower lo hi from to i a b (inr h) = inr (omega arith)
+
+pub first-none : (r q : Row) → r ≡ noRow → q ≡ noRow → firstRow r q ≡ noRow
+unfolding firstRow
+first-none r q e g = rw e g
+
+pub onward-none : (k : ℕ) (r : Row) → r ≡ noRow → onward k r ≡ noRow
+unfolding onward
+onward-none k r e = rw e
+
+pub unchosen-none : (r : Row) → r ≡ noRow → unchosen r ≡ noRow
+unfolding unchosen
+unchosen-none r e = rw e
+
+array-none : (c w : ℕ) (r : Row) → r ≡ noRow → inArray c w r ≡ noRow
+unfolding inArray
+array-none c w r e = rw e
+
+-- i is not an item from lo up to hi
+other-item : (lo hi j i : ℕ) → lo ≤ j → j < hi → Other lo hi i → j ≡ i → ⊥
+other-item lo hi j i a b (inl h) e = omega arith
+other-item lo hi j i a b (inr h) e = omega arith
+
+-- of two rows without elements
+first-absent : (r q : Row) (xs : List ℕ) → rowSpot r xs ≡ absent → rowSpot q xs ≡ absent → rowSpot (firstRow r q) xs ≡ absent
+unfolding firstRow
+first-absent (row p n rest) q xs e g = e
+first-absent (notChosen rest) q xs e g = e
+first-absent noRow q xs e g = g
+
+-- items before mid have no row after it, and the others none before it
+pub parted : (i mid : ℕ) (r q : Row) → (mid ≤ i → r ≡ noRow) → (i < mid → q ≡ noRow) → (r ≡ noRow) ⊎ (q ≡ noRow)
+parted i mid r q h k = go (decLt i mid)
   where
-    one : (j : ℕ) (b : Bool) → numberOf (cond b (holds o x) (s j)) ≡ cond b x (v j)
-    one j true = refl
-    one j false = h .numbered .numbers j
+    go : Dec (i < mid) → (r ≡ noRow) ⊎ (q ≡ noRow)
+    go (yes p) = inr (k p)
+    go (no p) = inl (h (omega arith))
 
-    two : (j : ℕ) (b : Bool) → octetsOf (cond b (holds o x) (s j)) ≡ cond b o (κ j)
-    two j true = refl
-    two j false = h .matches .octets j
+module _ (d : List ℕ) (v : Numbers) (i : ℕ) where
+  mutual
+    unfolding bodyRow RisesBody
+
+    -- a body has no row of other items
+    pub other-body : (n lo hi : ℕ) (b : Body) → RisesBody d n lo hi b → Other lo hi i → bodyRow b v i ≡ noRow
+    other-body n lo hi done h o = refl
+    other-body n lo hi (more x b) h o =
+        first-none _ _ (other-node n lo (h .0) x (h .3) (other-narrower lo hi lo (h .0) i (omega arith) (h .2) o))
+        (onward-none (itemSize x v) _ (other-body n (h .0) hi b (h .4) (other-narrower lo hi (h .0) hi i (h .1) (omega arith) o)))
+
+    pub other-node : (n lo hi : ℕ) (x : Node) → RisesNode d n lo hi x → Other lo hi i → itemRow x v i ≡ noRow
+    other-node n lo hi (leaf j f) h o = rw (ne-eqb j i (other-item lo hi j i (h .low) (h .high) o))
+    other-node n lo hi (array j f b) h o = array-none _ _ _ (other-body (n + 1) lo hi b h o)
+    other-node n lo hi (choice j f arms) h o = other-arms n lo hi arms (value v f) h o
+    other-node n lo hi (stray j) h o = refl
+
+    pub other-arms : (n lo hi : ℕ) (arms : Arms) (x : ℕ) → RisesArms d n lo hi arms → Other lo hi i → armsRow arms x v i ≡ noRow
+    other-arms n lo hi noArm x h o = refl
+    other-arms n lo hi (arm t b arms) x h o =
+        let r = other-body n lo (h .0) b (h .3) (other-narrower lo hi lo (h .0) i (omega arith) (h .2) o) in
+        let rest = other-narrower lo hi (h .0) hi i (h .1) (omega arith) o in
+        tested (λ r. r ≡ noRow) (t x) _ _ (λ e. first-none _ _ r (other-over n (h .0) hi arms (h .4) rest))
+        (λ e. first-none _ _ (unchosen-none _ r) (other-arms n (h .0) hi arms x (h .4) rest))
+
+    pub other-over : (n lo hi : ℕ) (arms : Arms) → RisesArms d n lo hi arms → Other lo hi i → passedOver arms v i ≡ noRow
+    other-over n lo hi noArm h o = refl
+    other-over n lo hi (arm t b arms) h o =
+        first-none _ _ (unchosen-none _ (other-body n lo (h .0) b (h .3) (other-narrower lo hi lo (h .0) i (omega arith) (h .2) o)))
+        (other-over n (h .0) hi arms (h .4) (other-narrower lo hi (h .0) hi i (h .1) (omega arith) o))
+
+  -- arms passed over hold no element
+  pub over-absent : (arms : Arms) (xs : List ℕ) → rowSpot (passedOver arms v i) xs ≡ absent
+  unfolding passedOver
+  over-absent noArm xs = row-absent xs
+  over-absent (arm t b arms) xs = first-absent _ _ xs (row-unchosen (bodyRow b v i) xs) (over-absent arms xs)
+
+-- WHOLE
+abbrev pub Spots : Type 0
+Spots = ℕ → List ℕ → Spot
+
+-- elements from p on, n octets in all, that set no slot and stand where the spots say, counted from p
+pub record Stand (s : Slots) (p n : ℕ) (f : Spots) (ps : List Placed) (t : Slots) (q : ℕ) : Type 0 where
+  pub same : t ≡ s
+  pub ends : q ≡ p + n
+  pub seen-at : (i : ℕ) (xs : List ℕ) → seen i xs ps ≡ further p (f i xs)
+  pub unset : Every (λ e. e .slot ≡ 0) ps
+
+-- so laid, and not stopped
+abbrev pub Whole : Slots → (p n : ℕ) → Spots → Laid → Type 0
+Whole s p n f (laid ps t q) = Stand s p n f ps t q
+Whole s p n f (stopped ps x) = ⊥
+
+-- under a subscript no slot is set either
+unset-under : (j : ℕ) (ps : List Placed) → Every (λ e. e .slot ≡ 0) ps → Every (λ e. e .slot ≡ 0) (under j ps)
+unfolding Every under
+unset-under j [] h = tt
+unset-under j (e ∷ es) h = (h .0, unset-under j es (h .1))
+
+module _ (s : Slots) where
+  -- the same by another name for the octets and the spots
+  w-as : (p n m : ℕ) (f g : Spots) (o : Laid) → n ≡ m → ((i : ℕ) (xs : List ℕ) → f i xs ≡ g i xs) → Whole s p n f o → Whole s p m g o
+  w-as p n m f g (laid ps t q) e h k =
+      record { same = k .same; ends = omega (arith, k .ends); seen-at = λ i xs. k .seen-at i xs ∙ ap (further p) (h i xs); unset = k .unset }
+  w-as p n m f g (stopped ps x) e h k = k
+
+  -- nothing laid
+  w-none : (p : ℕ) → Whole s p 0 (λ i xs. absent) (laid [] s p)
+  unfolding Every
+  w-none p = record { same = refl; ends = omega arith; seen-at = λ i xs. seen-none i xs ∙ sym (further-absent p); unset = tt }
+
+  -- elements before
+  w-also : (p n m : ℕ) (f g h : Spots) (ps : List Placed) (o : Laid)
+      → ((i : ℕ) (xs : List ℕ) → orElse (seen i xs ps) (further (p + n) (g i xs)) ≡ further p (h i xs)) → Every (λ e. e .slot ≡ 0) ps
+      → Whole s (p + n) m g o → Whole s p (n + m) h (also ps o)
+  w-also p n m f g h ps (laid qs t q) j u k =
+      record {
+        same = k .same;
+        ends = omega (arith, k .ends);
+        seen-at = λ i xs. seen-append i xs ps qs ∙ ap (orElse (seen i xs ps)) (k .seen-at i xs) ∙ j i xs;
+        unset = every-append _ ps qs u (k .unset);
+      }
+  w-also p n m f g h ps (stopped qs x) j u k = k
+
+  -- one after another
+  w-then : (p n m : ℕ) (f g h : Spots) (o : Laid) (next : Slots → ℕ → Laid) → ((i : ℕ) (xs : List ℕ) → orElse (f i xs) (further n (g i xs)) ≡ h i xs)
+      → Whole s p n f o → Whole s (p + n) m g (next s (p + n)) → Whole s p (n + m) h (andThen o next)
+  unfolding andThen
+  w-then p n m f g h (laid ps t q) next j k l =
+      rw (k .same, k .ends)
+      (w-also p n m f g h ps (next s (p + n))
+      (λ i xs. ap₂ orElse (k .seen-at i xs) (sym (further-twice p n (g i xs))) ∙ sym (further-or p (f i xs) (further n (g i xs))) ∙ ap (further p) (j i xs))
+      (k .unset) l)
+  w-then p n m f g h (stopped ps x) next j k l = absurd k
+
+  -- elements of an array, each w octets long
+  module _ (w : ℕ) (f : Spots) where
+    -- one as element j, before others
+    w-element : (i j p m : ℕ) (g h : Spots) (o : Laid) (next : Slots → ℕ → Laid)
+        → ((ps : List Placed) → ((i : ℕ) (xs : List ℕ) → seen i xs ps ≡ further p (f i xs))
+        → (i : ℕ) (xs : List ℕ) → orElse (seen i xs (under j ps)) (further (p + w) (g i xs)) ≡ further p (h i xs))
+        → Whole s p w f o → Whole s (p + w) m g (next s (p + w)) → Whole s p (w + m) h (andThen (asElement i w j p o) next)
+    unfolding andThen asElement
+    w-element i j p m g h (laid ps t q) next join k l =
+        let e : q - p ≡ w = omega (arith, k .ends) in
+        rw (eq-eqb (q - p) w e, k .same, k .ends) (w-also p w m f g h (under j ps) (next s (p + w)) (join ps (k .seen-at)) (unset-under j ps (k .unset)) l)
+    w-element i j p m g h (stopped ps x) next join k l = absurd k
+
+    w-repeated : (element : Slots → ℕ → Laid) → ((p : ℕ) → Whole s p w f (element s p)) → (i c j p : ℕ)
+        → Whole s p (c * w) (λ i xs. someSpot j c w (f i) xs) (repeated element i w c j s p)
+    unfolding repeated
+    w-repeated element h i zero j p = w-as p 0 (0 * w) _ _ (laid [] s p) (omega arith) (λ i xs. sym (some-none j w (f i) xs)) (w-none p)
+    w-repeated element h i (suc c) j p =
+        let e : suc c * w ≡ w + c * w = suc-mul c w ∙ omega arith in
+        rw e
+        (w-element i j p (c * w) (λ i xs. someSpot (j + 1) c w (f i) xs) _ (element s p) (repeated element i w c (j + 1))
+        (λ ps k i xs. some-more i j c w p ps (f i) (λ ys. k i ys) xs) (h p) (w-repeated element h i c (j + 1) (p + w)))
+
+  -- the size asked of each element is the first one's
+  w-size : (p n : ℕ) (f : Spots) (o : Laid) → Whole s p n f o → sizeFrom p o ≡ n
+  unfolding sizeFrom
+  w-size p n f (laid ps t q) h = omega (arith, h .ends)
+  w-size p n f (stopped ps x) h = absurd h
+
+  pub w-array : (element : Slots → ℕ → Laid) (w : ℕ) (r : ℕ → Row) → ((p : ℕ) → Whole s p w (λ i xs. rowSpot (r i) xs) (element s p)) → (i c p : ℕ)
+      → Whole s p (c * w) (λ j xs. rowSpot (inArray c w (r j)) xs) (repeated element i (sizeFrom p (element s p)) c 0 s p)
+  w-array element w r h i c p =
+      rw (w-size p w _ (element s p) (h p))
+      (w-as p (c * w) (c * w) _ _ (repeated element i w c 0 s p) refl (λ j xs. row-array c w (r j) xs) (w-repeated w (λ i xs. rowSpot (r i) xs) element h i c 0 p))
+
+-- one element
+pub stand-placed : (i : ℕ) (f : Fields) (img : List ℕ) (s : Slots) (p n : ℕ) → f .sets ≡ 0
+    → Whole s p n (λ j xs. rowSpot (cond (eqb i j) (row 0 n []) noRow) xs) (placed i f img s p n)
+unfolding placed setSlot Every
+stand-placed i f img s p n e = record { same = rw e; ends = refl; seen-at = λ j xs. seen-one i (f .sets) p n j xs; unset = (e, tt) }
 
 -- a good reference is read
-pub read-is : (s : Slots) (v : Numbers) (κ : Known) (r : Reference) (i : ℕ) (f : ℕ → Laid) → Ready s v κ → GoodReference κ r
-    → reading (s (r .slot)) r i f ≡ f (value v r)
-unfolding reading value numberOf octetsOf
-read-is s v κ r i f h g = go (s (r .slot)) (h .numbered .numbers (r .slot)) (h .matches .octets (r .slot))
+pub value-is : (s : Slots) (κ : Known) (f : Fields) (i : ℕ) (g : ℕ → Laid) → Matches s κ → GoodReference κ f → valued s f i g ≡ g (value (numbersOf s) f)
+unfolding valued value reading numberOf octetsOf
+value-is s κ f i g m h = by-test (refers f) refl
   where
-    go : (x : Slot) → numberOf x ≡ v (r .slot) → octetsOf x ≡ κ (r .slot) → reading x r i f ≡ f (bitRange (v (r .slot)) r)
-    go unread a b = absurd (omega (arith, g .some, g .inside))
-    go (holds o x) a b = let l : r .low + r .width ≤ 8 * o = omega (arith, g .inside) in rw (le-leb (r .low + r .width) (8 * o) l, a)
+    by-slot : (x : Slot) → octetsOf x ≡ κ (f .slot) → 0 < f .slot → reading x f i g ≡ g (bitRange (numberOf x) f)
+    by-slot unread e l = absurd (omega (arith, h .some l, h .inside l))
+    by-slot (holds o x) e l = let b : f .low + f .width ≤ 8 * o = omega (arith, h .inside l) in rw (le-leb (f .low + f .width) (8 * o) b)
 
--- elements one list after another
-pub read-append : (img : List ℕ) (ps qs : List Placed) (v : Numbers) → readOn img (ps ++ qs) v ≡ readOn img qs (readOn img ps v)
-unfolding readOn
-read-append img [] qs v = refl
-read-append img (e ∷ es) qs v = read-append img es qs (setNumber (e .slot) (numberAt img (e .start) (e .size)) v)
+    by-test : (b : Bool) → refers f ≡ b
+        → cond b (reading (s (f .slot)) f i g) (g 0) ≡ g (cond b (bitRange (numberOf (s (f .slot))) f) 0)
+    by-test true e = by-slot (s (f .slot)) (m .octets (f .slot)) (ltb-true 0 (f .slot) e)
+    by-test false e = refl
 
-module _ (img : List ℕ) where
-  -- o takes n octets from p on, and its elements take the numbers of the slots from v to w
-  abbrev pub Whole : (v w : Numbers) → Known → (p n : ℕ) → Laid → Type 0
-  Whole v w κ p n (laid ps t q) = Ready t w κ × (q ≡ p + n) × (readOn img ps v ≡ w)
-  Whole v w κ p n (stopped ps x) = ⊥
+-- by the first arm, or by those after it
+pub w-pick : (s : Slots) (p : ℕ) (b : Bool) (n m : ℕ) (f g : Spots) (r q : ℕ → Row) (o u : Laid) → Whole s p n f o → Whole s p m g u
+    → ((i : ℕ) (xs : List ℕ) → f i xs ≡ rowSpot (r i) xs) → ((i : ℕ) (xs : List ℕ) → g i xs ≡ rowSpot (q i) xs)
+    → Whole s p (cond b n m) (λ i xs. rowSpot (cond b (r i) (q i)) xs) (cond b o u)
+w-pick s p true n m f g r q o u h k a b = w-as s p n n f _ o refl a h
+w-pick s p false n m f g r q o u h k a b = w-as s p m m g _ u refl b k
 
-  -- one element
-  pub w-placed : (i k : ℕ) (subs : List ℕ) (s : Slots) (v : Numbers) (κ : Known) (p n : ℕ) → Ready s (setNumber k (numberAt img p n) v) κ
-      → Whole v (setNumber k (numberAt img p n) v) κ p n (placed i k subs s p n)
-  unfolding placed readOn
-  w-placed i k subs s v κ p n h = (h, refl, refl)
+-- where the other row holds no element, the first tells all
+pub first-alone : (r q : Row) (xs : List ℕ) → rowSpot q xs ≡ absent → rowSpot r xs ≡ rowSpot (firstRow r q) xs
+unfolding firstRow
+first-alone (row p n rest) q xs e = refl
+first-alone (notChosen rest) q xs e = refl
+first-alone noRow q xs e = row-absent xs ∙ sym e
 
-  -- one that sets no slot
-  pub w-plain : (i : ℕ) (subs : List ℕ) (s : Slots) (v : Numbers) (κ : Known) (p n : ℕ) → Ready s v κ → Whole v v κ p n (placed i 0 subs s p n)
-  unfolding setNumber
-  w-plain i subs s v κ p n h = w-placed i 0 subs s v κ p n h
+-- and what isn't chosen holds none
+pub first-later : (r q : Row) (xs : List ℕ) → (unchosen r ≡ noRow) ⊎ (q ≡ noRow) → rowSpot q xs ≡ rowSpot (firstRow (unchosen r) q) xs
+unfolding orElse
+first-later r q xs h = sym (row-first (unchosen r) q xs h ∙ rw (row-unchosen r xs))
 
-  module _ (v : Numbers) (κ : Known) where
-    -- what is laid, after elements that set no slot
-    w-also : (p n m : ℕ) (ps : List Placed) (o : Laid) → readOn img ps v ≡ v → Whole v v κ (p + n) m o → Whole v v κ p (n + m) (also ps o)
-    w-also p n m ps (laid qs t q) e h = (h .0, omega (arith, h .1), read-append img ps qs v ∙ rw e (h .2))
-    w-also p n m ps (stopped qs x) e h = h
+-- a sound body that rises is laid whole, and so is each item in it
+module _ (d img : List ℕ) (s : Slots) (κ : Known) (m : Matches s κ) where
+  abbrev v : Numbers
+  v = numbersOf s
 
-    -- one after another
-    w-then : (p n m : ℕ) (o : Laid) (f : Slots → ℕ → Laid) → Whole v v κ p n o → ((t : Slots) → Ready t v κ → Whole v v κ (p + n) m (f t (p + n)))
-        → Whole v v κ p (n + m) (andThen o f)
-    unfolding andThen
-    w-then p n m (laid ps t q) f h k =
-        subst⁻¹ (λ (q : ℕ). Whole v v κ p (n + m) (also ps (f t q))) (h .1) (w-also p n m ps (f t (p + n)) (h .2) (k t (h .0)))
-    w-then p n m (stopped ps x) f h k = absurd h
+  mutual
+    unfolding layBody SoundBody RisesBody bodySize bodyRow inImage
 
-    -- the size asked of each element is its own
-    w-sized : (i p n : ℕ) (o : Laid) → Whole v v κ p n o → Whole v v κ p n (ofSize i n p o)
-    unfolding ofSize
-    w-sized i p n (laid ps t q) h = let e : q - p ≡ n = omega (arith, h .1) in rw (eq-eqb (q - p) n e) h
-    w-sized i p n (stopped ps x) h = h
+    pub w-body : (b : Body) (n lo hi p : ℕ) → SoundBody false κ b → RisesBody d n lo hi b
+        → Whole s p (bodySize b v) (λ i xs. rowSpot (bodyRow b v i) xs) (layBody b img true s p)
+    w-body done n lo hi p h r = w-as s p 0 0 _ _ (laid [] s p) refl (λ i xs. sym (row-absent xs)) (w-none s p)
+    w-body (more x b) n lo hi p h r =
+        w-then s p (itemSize x v) (bodySize b v) _ _ _ (layNode x img true s p) (λ t q. layBody b img true t q)
+        (λ i xs. ap (orElse (rowSpot (itemRow x v i) xs)) (sym (row-onward (itemSize x v) (bodyRow b v i) xs))
+        ∙ sym (row-first (itemRow x v i) (onward (itemSize x v) (bodyRow b v i)) xs
+        (parted i (r .0) _ _ (λ l. other-node d v i n lo (r .0) x (r .3) (inr l)) (λ l. onward-none _ _ (other-body d v i n (r .0) hi b (r .4) (inl l))))))
+        (w-node x n lo (r .0) p (h .0) (r .3)) (w-body b n (r .0) hi (p + itemSize x v) (rw (quiet-node κ x (h .0)) at (h .1)) (r .4))
 
-    -- and is what the first takes
-    w-size : (p n : ℕ) (o : Laid) → Whole v v κ p n o → sizeFrom p o ≡ n
-    unfolding sizeFrom
-    w-size p n (laid ps t q) h = omega (arith, h .1)
-    w-size p n (stopped ps x) h = absurd h
+    pub w-node : (x : Node) (n lo hi p : ℕ) → SoundNode false κ x → RisesNode d n lo hi x
+        → Whole s p (itemSize x v) (λ i xs. rowSpot (itemRow x v i) xs) (layNode x img true s p)
+    w-node (leaf j f) n lo hi p h r = rw (value-is s κ f j _ m (h .refers)) (stand-placed j f img s p (leafOctets f (value v f)) (h .unset refl))
+    w-node (array j f b) n lo hi p h r =
+        rw (value-is s κ f j _ m (h .0))
+        (w-array s (λ t q. layBody b img true t q) (bodySize b v) (bodyRow b v) (λ q. w-body b (n + 1) lo hi q (h .1) r) j (value v f) p)
+    w-node (choice j f arms) n lo hi p h r = rw (value-is s κ f j _ m (h .0)) (w-arms arms (value v f) n lo hi p (h .1) r)
+    w-node (stray j) n lo hi p h r = absurd h
 
-    -- elements of an array, each n octets long
-    module _ (element : ℕ → Slots → ℕ → Laid) (n : ℕ) (h : (j p : ℕ) (t : Slots) → Ready t v κ → Whole v v κ p n (element j t p)) (i : ℕ) where
-      w-repeated : (c j p : ℕ) (t : Slots) → Ready t v κ → Whole v v κ p (c * n) (repeated element i n c j t p)
-      unfolding repeated readOn
-      w-repeated zero j p t r = (r, omega arith, refl)
-      w-repeated (suc c) j p t r =
-          let e : suc c * n ≡ n + c * n = suc-mul c n ∙ omega arith in
-          rw e (w-then p n (c * n) (ofSize i n p (element j t p)) (repeated element i n c (j + 1)) (w-sized i p n (element j t p) (h j p t r))
-          (λ t r. w-repeated c (j + 1) (p + n) t r))
-
-      -- the size asked is the first element's
-      pub w-array : (c p : ℕ) (t : Slots) → Ready t v κ → Whole v v κ p (c * n) (repeated element i (sizeFrom p (element 0 t p)) c 0 t p)
-      w-array c p t r = rw (w-size p n (element 0 t p) (h 0 p t r)) (w-repeated c 0 p t r)
-
-    -- either body
-    w-pick : (p n m : ℕ) (b : Bool) (o q : Laid) → Whole v v κ p n o → Whole v v κ p m q → Whole v v κ p (cond b n m) (cond b o q)
-    w-pick p n m true o q g h = g
-    w-pick p n m false o q g h = h
-
-    -- a sound body is laid whole, and so is each item in it
-    mutual
-      unfolding layBody SoundBody bodySize inImage setSlot readOn
-
-      pub w-body : (b : Body) (subs : List ℕ) (s : Slots) (p : ℕ) → Ready s v κ → SoundBody κ b → Whole v v κ p (bodySize b v) (layBody b img true subs s p)
-      w-body done subs s p r h = (r, omega arith, refl)
-      w-body (more n b) subs s p r h =
-          w-then p (itemSize n v) (bodySize b v) (layNode n img true subs s p) (λ t q. layBody b img true subs t q) (w-node n subs s p r (h .0))
-          (λ t r. w-body b subs t (p + itemSize n v) r (h .1))
-
-      w-node : (n : Node) (subs : List ℕ) (s : Slots) (p : ℕ) → Ready s v κ → SoundNode κ n → Whole v v κ p (itemSize n v) (layNode n img true subs s p)
-      w-node (uint i o k) subs s p r h = rw h (w-plain i subs s v κ p o r)
-      w-node (block i o) subs s p r h = w-plain i subs s v κ p o r
-      w-node (set i f u) subs s p r h = rw (read-is s v κ f i _ r h) (w-plain i subs s v κ p (setOctets u (value v f)) r)
-      w-node (array i f b) subs s p r h =
-          rw (read-is s v κ f i _ r (h .0))
-          (w-array (λ j t q. layBody b img true (subs ++ (j ∷ [])) t q) (bodySize b v)
-          (λ j q t r. w-body b (subs ++ (j ∷ [])) t q r (h .1)) i (value v f) p s r)
-      w-node (choice i f y n) subs s p r h =
-          rw (read-is s v κ f i _ r (h .0))
-          (w-pick p (bodySize n v) (bodySize y v) (eqb (value v f) 0) _ _ (w-body n subs s p r (h .2)) (w-body y subs s p r (h .1)))
-      w-node (stray i) subs s p r h = absurd h
+    w-arms : (arms : Arms) (x n lo hi p : ℕ) → SoundArms κ arms → RisesArms d n lo hi arms
+        → Whole s p (armsSize arms x v) (λ i xs. rowSpot (armsRow arms x v i) xs) (layArms arms x img true s p)
+    w-arms noArm x n lo hi p h r = w-as s p 0 0 _ _ (laid [] s p) refl (λ i xs. sym (row-absent xs)) (w-none s p)
+    w-arms (arm t b arms) x n lo hi p h r =
+        w-pick s p (t x) (bodySize b v) (armsSize arms x v) _ _ (λ i. firstRow (bodyRow b v i) (passedOver arms v i))
+        (λ i. firstRow (unchosen (bodyRow b v i)) (armsRow arms x v i)) _ _
+        (w-body b n lo (r .0) p (h .0) (r .3)) (w-arms arms x n (r .0) hi p (h .1) (r .4))
+        (λ i xs. first-alone (bodyRow b v i) (passedOver arms v i) xs (over-absent d v i arms xs))
+        (λ i xs. first-later (bodyRow b v i) (armsRow arms x v i) xs
+        (parted i (r .0) _ _ (λ l. unchosen-none _ (other-body d v i n lo (r .0) b (r .3) (inr l))) (λ l. other-arms d v i n (r .0) hi arms x (r .4) (inl l))))

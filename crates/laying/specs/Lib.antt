@@ -1,7 +1,7 @@
 pub mod Sizes
+pub mod Rows
 pub mod Sound
 pub mod Slots
-pub mod Dimensions
 pub mod Tree
 pub mod Outcomes
 pub mod Cover

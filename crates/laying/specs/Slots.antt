@@ -14,9 +14,9 @@ unfoldable pub octetsOf : Slot → ℕ
 octetsOf unread = 0
 octetsOf (holds o x) = o
 
--- v has the numbers of the slots
-pub record Numbered (s : Slots) (v : Numbers) : Type 0 where
-  pub numbers : (k : ℕ) → numberOf (s k) ≡ v k
+-- of all slots
+abbrev pub numbersOf : Slots → Numbers
+numbersOf s = λ k. numberOf (s k)
 
 -- κ has the octets of the slots
 pub record Matches (s : Slots) (κ : Known) : Type 0 where

@@ -1,28 +1,30 @@
--- SOUND TREES: what the rules on a description come to for its tree, and the smaller part of it on which sizes and the walk lean. Assumes nothing.
+-- SOUND TREES: what the rules on a description come to for its tree, and the smaller part of it that the code leans on. Assumes nothing.
 use Prim.Native.Nat.{ℕ, zero, suc, _+_, _*_, _<_, _≤_}
 use mathlib.Core.Path.{_≡_}
 use mathlib.Core.Bool.{Bool, true, false}
 use Rattle.meaning.specs.Basics.{if_then_else_, _=?_}
-use Rattle.meaning.specs.declared.Reference.{Reference}
-use Rattle.meaning.specs.Layout.{Node, Body, Tables, uint, block, set, array, choice, stray, done, more, noMore, table, strayTable}
+use Rattle.meaning.specs.declared.Fields.{Fields}
+use Rattle.meaning.specs.Layout.{Node, Body, Arms, Tables, leaf, array, choice, stray, done, more, noArm, arm, noMore, table, strayTable}
 
--- NOTHING STRAY, AND NO DIMENSION IN AN ARRAY
+-- NOTHING STRAY
 unfoldable mutual
-  pub FitBody : (inArray : Bool) → Body → Type 0
-  FitBody a done = Unit {0}
-  FitBody a (more n b) = FitNode a n × FitBody a b
+  pub FitBody : Body → Type 0
+  FitBody done = Unit {0}
+  FitBody (more n b) = FitNode n × FitBody b
 
-  pub FitNode : (inArray : Bool) → Node → Type 0
-  FitNode a (uint i o k) = a ≡ true → k ≡ 0
-  FitNode a (block i o) = Unit {0}
-  FitNode a (set i r u) = Unit {0}
-  FitNode a (array i r b) = FitBody true b
-  FitNode a (choice i r y f) = FitBody a y × FitBody a f
-  FitNode a (stray i) = ⊥
+  pub FitNode : Node → Type 0
+  FitNode (leaf i f) = Unit {0}
+  FitNode (array i f b) = FitBody b
+  FitNode (choice i f arms) = FitArms arms
+  FitNode (stray i) = ⊥
+
+  pub FitArms : Arms → Type 0
+  FitArms noArm = Unit {0}
+  FitArms (arm t b arms) = FitBody b × FitArms arms
 
 unfoldable pub FitTables : Tables → Type 0
 FitTables noMore = Unit {0}
-FitTables (table i m k body rest) = FitBody false body × FitTables rest
+FitTables (table i f body rest) = FitBody body × FitTables rest
 FitTables (strayTable i) = ⊥
 
 -- REFERENCES ARE GOOD TOO
@@ -35,53 +37,47 @@ setKnown zero o κ = κ
 setKnown (suc k) o κ = λ j. if j =? suc k then o else κ j
 
 -- a reference has bits, and they lie inside the element that set its slot
-pub record GoodReference (κ : Known) (r : Reference) : Type 0 where
-  pub some : 0 < r .width
-  pub inside : r .low + r .width ≤ 8 * κ (r .slot)
+pub record GoodReference (κ : Known) (f : Fields) : Type 0 where
+  pub some : 0 < f .slot → 0 < f .width
+  pub inside : 0 < f .slot → f .low + f .width ≤ 8 * κ (f .slot)
 
-unfoldable mutual
-  -- in an ARRAY or IF: no dimension stands there
-  pub SoundBody : Known → Body → Type 0
-  SoundBody κ done = Unit {0}
-  SoundBody κ (more n b) = SoundNode κ n × SoundBody κ b
-
-  pub SoundNode : Known → Node → Type 0
-  SoundNode κ (uint i o k) = k ≡ 0
-  SoundNode κ (block i o) = Unit {0}
-  SoundNode κ (set i r u) = GoodReference κ r
-  SoundNode κ (array i r b) = GoodReference κ r × SoundBody κ b
-  SoundNode κ (choice i r y f) = GoodReference κ r × SoundBody κ y × SoundBody κ f
-  SoundNode κ (stray i) = ⊥
-
--- directly in a TABLE's body a UINT may be a dimension
-unfoldable pub SoundDirect : Known → Node → Type 0
-SoundDirect κ (uint i o k) = Unit {0}
-SoundDirect κ (block i o) = SoundNode κ (block i o)
-SoundDirect κ (set i r u) = SoundNode κ (set i r u)
-SoundDirect κ (array i r b) = SoundNode κ (array i r b)
-SoundDirect κ (choice i r y f) = SoundNode κ (choice i r y f)
-SoundDirect κ (stray i) = ⊥
-
--- the slots known after an item, and after a TABLE's body
+-- the slots known after an item: in a TABLE's body a UINT may be a dimension
 unfoldable pub afterNode : Node → Known → Known
-afterNode (uint i o k) κ = setKnown k o κ
-afterNode (block i o) κ = κ
-afterNode (set i r u) κ = κ
-afterNode (array i r b) κ = κ
-afterNode (choice i r y f) κ = κ
+afterNode (leaf i f) κ = setKnown (f .sets) (f .octets) κ
+afterNode (array i f b) κ = κ
+afterNode (choice i f arms) κ = κ
 afterNode (stray i) κ = κ
 
+-- and after a body
 unfoldable pub afterBody : Body → Known → Known
 afterBody done κ = κ
 afterBody (more n b) κ = afterBody b (afterNode n κ)
 
-unfoldable pub SoundTable : Known → Body → Type 0
-SoundTable κ done = Unit {0}
-SoundTable κ (more n b) = SoundDirect κ n × SoundTable (afterNode n κ) b
+-- a UINT, BLOCK or SET: where it isn't free to, it sets no slot; what sets one has octets of its own
+pub record SoundLeaf (free : Bool) (κ : Known) (f : Fields) : Type 0 where
+  pub refers : GoodReference κ f
+  pub unset : free ≡ false → f .sets ≡ 0
+  pub owns : 0 < f .sets → f .slot ≡ 0
+
+-- `free`: directly in a TABLE's body, where a dimension may stand
+unfoldable mutual
+  pub SoundBody : (free : Bool) → Known → Body → Type 0
+  SoundBody free κ done = Unit {0}
+  SoundBody free κ (more n b) = SoundNode free κ n × SoundBody free (afterNode n κ) b
+
+  pub SoundNode : (free : Bool) → Known → Node → Type 0
+  SoundNode free κ (leaf i f) = SoundLeaf free κ f
+  SoundNode free κ (array i f b) = GoodReference κ f × SoundBody false κ b
+  SoundNode free κ (choice i f arms) = GoodReference κ f × SoundArms κ arms
+  SoundNode free κ (stray i) = ⊥
+
+  pub SoundArms : Known → Arms → Type 0
+  SoundArms κ noArm = Unit {0}
+  SoundArms κ (arm t b arms) = SoundBody false κ b × SoundArms κ arms
 
 unfoldable pub SoundTables : Known → Tables → Type 0
 SoundTables κ noMore = Unit {0}
-SoundTables κ (table i m k body rest) = SoundTable κ body × SoundTables (afterBody body κ) rest
+SoundTables κ (table i f body rest) = SoundBody true κ body × SoundTables (afterBody body κ) rest
 SoundTables κ (strayTable i) = ⊥
 
 -- before the first table no slot is known

@@ -7,8 +7,9 @@ use mathlib.Core.Bool.{Bool, true, false, true≢false, false≢true}
 use native.Mathlib.Decide.{decLt, le-ind}
 use native.Mathlib.Numerals.{add-one}
 use native.Mathlib.Omega.{arith}
-use Rattle.meaning.specs.Description.{itemCount, itemAt, fieldsAt, isTable, nests, count, inside, round}
+use Rattle.meaning.specs.Description.{itemCount, fieldsAt, isTable, nests, count, inside, round}
 use Rattle.meaning.specs.Passed.{Keeps, Levels, BodiesNest, endOf}
+use Rattle.meaning.proofs.Ranges.{fields-range}
 use Rattle.meaning.proofs.Rules.{round-none, beyond, in-first, in-second, bodies}
 
 -- what holds at some number, and at each next one, holds from there on
@@ -116,7 +117,7 @@ module _ (d : List ℕ) (kept : (i : ℕ) → i < itemCount d → Keeps d (field
   unfolding inside
   enclosed k i e l n b s h =
       let c = kept k (omega arith) in
-      let m = one-more (isTable (fieldsAt d k)) (nests (fieldsAt d k)) _ _ (bodies (itemAt d k) (omega arith)) (c .top) (c .within) (c .shallow) (h .one) (h .four) in
+      let m = one-more (isTable (fieldsAt d k)) (nests (fieldsAt d k)) _ _ (bodies (fieldsAt d k) (fields-range d k) (omega arith)) (c .top) (c .within) (c .shallow) (h .one) (h .four) in
       rw (s, shared k i (omega arith) l b) (record { one = m .0; four = m .1 })
 
   -- nothing stands deeper than a TABLE and four levels in it

@@ -231,12 +231,12 @@ module _ (d : List ℕ) (p : Passes d) where
         two = two-items;
         begins = kept 0 (omega (arith, two-items)) .table00 refl;
         ordered = kept 1 two-items .dataOrder refl;
-        refers = λ i l h. setter d (fieldsAt d i .slot) (fieldsAt d i .bits) i (fields-range d i .some-bits h) (kept i l .refers h);
+        refers = λ i l h. setter d (fieldsAt d i .slot) (fieldsAt d i .low + fieldsAt d i .width) i (omega (arith, fields-range d i .some-bits h)) (kept i l .refers h);
         nest = bodies-nest d kept;
         shared = shared d kept;
         tables = tables-round;
         levels = λ i l. levels d kept i i (omega arith) l;
-        direct = λ i l h. (tables-round i l ∙ rw (fields-range d i .uint h), kept i l .direct h);
+        direct = λ i l h. (tables-round i l ∙ rw (fields-range d i .dimension h), kept i l .direct h);
         slots = λ i j n m h e.
             let over : j < i → ⊥ = λ l. slot-once i j l n h (sym e) in
             let under : i < j → ⊥ = λ l. slot-once j i l m (omega arith) e in

@@ -2,13 +2,10 @@
 -- A description is a list of octets. The rules are said flat: item i breaks rule n, by what stands before it and what encloses it. Counts include nested
 -- items, so a body is an interval of item numbers, and whatever a rule asks of an item is a search over the items before it. Assumes nothing.
 use Prim.Native.Nat.{ℕ, zero, suc, _+_, _*_, _/_, _%_}
-use mathlib.Core.Bool.{Bool, true, false, not, _&&_, _||_}
+use mathlib.Core.Bool.{Bool, false, not, _&&_, _||_}
 use mathlib.Core.List.{List}
 use lib.ListN.{length}
-use Rattle.meaning.specs.Basics.{if_then_else_, _=?_, _<?_, bits, part, mostFirst}
-use Rattle.meaning.specs.declared.Reference.{Reference}
-use Rattle.meaning.specs.declared.Item.{Item}
-use Rattle.meaning.specs.declared.Item.the-variants.{Table, Uint, Block, Set, Array, If, Malformed}
+use Rattle.meaning.specs.Basics.{if_then_else_, _=?_, _≤?_, _<?_, bits, part, mostFirst}
 use Rattle.meaning.specs.declared.Fields.{Fields}
 use Rattle.meaning.specs.declared.Round.{Round}
 use Rattle.meaning.specs.declared.Verdict.{Verdict}
@@ -23,9 +20,31 @@ itemCount d = length d / 4
 unfoldable pub wordAt : (description : List ℕ) → (item : ℕ) → ℕ
 wordAt d i = mostFirst (part d (i * 4) 4)
 
+-- AN ITEM'S FIELDS, each 0 where its kind has none: kind (0: malformed); a TABLE's manufacturer bit, number and writable mark; items in its body, of an IF
+-- those if true, then those if false; the slot that a UINT sets; a UINT's or BLOCK's octets; the reference's slot, low bit and width; a SET's unit
+-- octets of its own, and the slot that they set
+abbrev pub ownOctets : (kind sets octets : ℕ) → Fields
+ownOctets k s o = record { kind = k; manufacturer = 0; number = 0; writable = 0; first = 0; second = 0; sets = s; octets = o; slot = 0; low = 0; width = 0; unit = 0 }
+
 -- a reference: 27..22 slot, 21..17 low bit, 16..12 width less 1
-abbrev pub referenceOf : (word : ℕ) → Reference
-referenceOf w = record { slot = bits 27 22 w; low = bits 21 17 w; width = bits 16 12 w + 1 }
+abbrev pub referring : (kind unit first second word : ℕ) → Fields
+referring k u a b w = record {
+  kind = k;
+  manufacturer = 0;
+  number = 0;
+  writable = 0;
+  first = a;
+  second = b;
+  sets = 0;
+  octets = 0;
+  slot = bits 27 22 w;
+  low = bits 21 17 w;
+  width = bits 16 12 w + 1;
+  unit = u;
+}
+
+abbrev pub malformed : Fields
+malformed = ownOctets 0 0 0
 
 -- a reference names a slot of 1 to 63
 abbrev pub namesSlot : (word : ℕ) → Bool
@@ -36,56 +55,55 @@ unfoldable pub octetsOfCode : ℕ → ℕ
 octetsOfCode c = if c =? 0 then 1 else if c =? 1 then 2 else 4
 
 -- 1 TABLE: 27 manufacturer, 26..16 number, 15 writable, 14..0 items in body
-unfoldable pub tableOf : (word : ℕ) → Item
-tableOf w = Table (bits 27 27 w) (bits 26 16 w) (bits 15 15 w) (bits 14 0 w)
+unfoldable pub tableOf : (word : ℕ) → Fields
+tableOf w = record {
+  kind = 1;
+  manufacturer = bits 27 27 w;
+  number = bits 26 16 w;
+  writable = bits 15 15 w;
+  first = bits 14 0 w;
+  second = 0;
+  sets = 0;
+  octets = 0;
+  slot = 0;
+  low = 0;
+  width = 0;
+  unit = 0;
+}
 
 -- 2 UINT: 27..26 width code (not 3), 25..20 slot set (0 = none), 19..0 spare
-unfoldable pub uintOf : (word : ℕ) → Item
-uintOf w = if bits 27 26 w <? 3 && bits 19 0 w =? 0 then Uint (octetsOfCode (bits 27 26 w)) (bits 25 20 w) else Malformed
+unfoldable pub uintOf : (word : ℕ) → Fields
+uintOf w = if bits 27 26 w <? 3 && bits 19 0 w =? 0 then ownOctets 2 (bits 25 20 w) (octetsOfCode (bits 27 26 w)) else malformed
 
 -- 3 BLOCK: 27..16 octets, 1 to 4,095; 15..0 spare
-unfoldable pub blockOf : (word : ℕ) → Item
-blockOf w = if 0 <? bits 27 16 w && bits 15 0 w =? 0 then Block (bits 27 16 w) else Malformed
+unfoldable pub blockOf : (word : ℕ) → Fields
+blockOf w = if 0 <? bits 27 16 w && bits 15 0 w =? 0 then ownOctets 3 0 (bits 27 16 w) else malformed
 
 -- 4 SET: reference, 11 unit (0 octets, 1 flags), 10..0 spare
-unfoldable pub setOf : (word : ℕ) → Item
-setOf w = if namesSlot w && bits 10 0 w =? 0 then Set (referenceOf w) (bits 11 11 w) else Malformed
+unfoldable pub setOf : (word : ℕ) → Fields
+setOf w = if namesSlot w && bits 10 0 w =? 0 then referring 4 (bits 11 11 w) 0 0 w else malformed
 
 -- 5 ARRAY: reference (the count), 11..0 items in body, at least 1
-unfoldable pub arrayOf : (word : ℕ) → Item
-arrayOf w = if namesSlot w && 0 <? bits 11 0 w then Array (referenceOf w) (bits 11 0 w) else Malformed
+unfoldable pub arrayOf : (word : ℕ) → Fields
+arrayOf w = if namesSlot w && 0 <? bits 11 0 w then referring 5 0 (bits 11 0 w) 0 w else malformed
 
 -- 6 IF: reference (nonzero is true), 11..6 items if true, at least 1, 5..0 items if false
-unfoldable pub ifOf : (word : ℕ) → Item
-ifOf w = if namesSlot w && 0 <? bits 11 6 w then If (referenceOf w) (bits 11 6 w) (bits 5 0 w) else Malformed
+unfoldable pub ifOf : (word : ℕ) → Fields
+ifOf w = if namesSlot w && 0 <? bits 11 6 w then referring 6 0 (bits 11 6 w) (bits 5 0 w) w else malformed
 
 -- bits 31..28 are the kind. Malformed: kind unknown, width code 3, spare bit set, a count or slot below its least
-unfoldable pub itemOf : (word : ℕ) → Item
-itemOf w =
+unfoldable pub fieldsOf : (word : ℕ) → Fields
+fieldsOf w =
     if bits 31 28 w =? 1 then tableOf w
     else if bits 31 28 w =? 2 then uintOf w
     else if bits 31 28 w =? 3 then blockOf w
     else if bits 31 28 w =? 4 then setOf w
     else if bits 31 28 w =? 5 then arrayOf w
     else if bits 31 28 w =? 6 then ifOf w
-    else Malformed
-
-abbrev pub itemAt : (description : List ℕ) → (item : ℕ) → Item
-itemAt d i = itemOf (wordAt d i)
-
--- AN ITEM'S FIELDS, each 0 where its kind has none: kind (0: malformed); a TABLE's manufacturer bit, number and writable mark; items in its body, of an IF
--- those if true, then those if false; the slot that a UINT sets and its octets; the slot that a reference names and the bit after its last
-unfoldable pub fieldsOf : Item → Fields
-fieldsOf (Table m n w k) = record { kind = 1; manufacturer = m; number = n; writable = w; first = k; second = 0; sets = 0; octets = 0; slot = 0; bits = 0 }
-fieldsOf (Uint o s) = record { kind = 2; manufacturer = 0; number = 0; writable = 0; first = 0; second = 0; sets = s; octets = o; slot = 0; bits = 0 }
-fieldsOf (Block o) = record { kind = 3; manufacturer = 0; number = 0; writable = 0; first = 0; second = 0; sets = 0; octets = 0; slot = 0; bits = 0 }
-fieldsOf (Set r u) = record { kind = 4; manufacturer = 0; number = 0; writable = 0; first = 0; second = 0; sets = 0; octets = 0; slot = r .slot; bits = r .low + r .width }
-fieldsOf (Array r k) = record { kind = 5; manufacturer = 0; number = 0; writable = 0; first = k; second = 0; sets = 0; octets = 0; slot = r .slot; bits = r .low + r .width }
-fieldsOf (If r y n) = record { kind = 6; manufacturer = 0; number = 0; writable = 0; first = y; second = n; sets = 0; octets = 0; slot = r .slot; bits = r .low + r .width }
-fieldsOf Malformed = record { kind = 0; manufacturer = 0; number = 0; writable = 0; first = 0; second = 0; sets = 0; octets = 0; slot = 0; bits = 0 }
+    else malformed
 
 abbrev pub fieldsAt : (description : List ℕ) → (item : ℕ) → Fields
-fieldsAt d i = fieldsOf (itemAt d i)
+fieldsAt d i = fieldsOf (wordAt d i)
 
 abbrev pub isTable : Fields → Bool
 isTable f = f .kind =? 1
@@ -93,9 +111,24 @@ isTable f = f .kind =? 1
 abbrev pub isUint : Fields → Bool
 isUint f = f .kind =? 2
 
+-- an element is a UINT, BLOCK or SET
+abbrev pub isElement : Fields → Bool
+isElement f = 2 ≤? f .kind && f .kind ≤? 4
+
+abbrev pub isArray : Fields → Bool
+isArray f = f .kind =? 5
+
+-- an IF is a choice of two bodies
+abbrev pub isChoice : Fields → Bool
+isChoice f = f .kind =? 6
+
 -- an ARRAY or IF, which count in the depth
 abbrev pub nests : Fields → Bool
-nests f = f .kind =? 5 || f .kind =? 6
+nests f = isArray f || isChoice f
+
+-- how many items stand inside an item
+abbrev pub nested : Fields → ℕ
+nested f = f .first + f .second
 
 -- a UINT that sets a slot is a dimension
 abbrev pub isDimension : Fields → Bool
@@ -179,7 +212,7 @@ breaks6 d f i = isTable f && tableGiven d i (f .manufacturer) (f .number) || isD
 
 -- 7: reference to a slot not set earlier (it has no octets), or bits outside it
 unfoldable pub breaks7 : (description : List ℕ) → Fields → (i : ℕ) → Bool
-breaks7 d f i = refers f && 8 * slotOctets d i (f .slot) <? f .bits
+breaks7 d f i = refers f && 8 * slotOctets d i (f .slot) <? f .low + f .width
 
 -- of the rules that an item breaks, the lowest refusal number; 0 for none
 unfoldable pub lowestBroken : (description : List ℕ) → Fields → (i : ℕ) → Round → ℕ

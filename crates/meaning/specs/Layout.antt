@@ -7,21 +7,18 @@ use mathlib.Core.Bool.{Bool, true, false, _&&_}
 use mathlib.Core.List.{List, [], _∷_, _++_}
 use mathlib.Core.Option.{Option, some, none}
 use lib.ListN.{length, getD}
-use Rattle.meaning.specs.Basics.{if_then_else_, _=?_, _≤?_, bits, part, numberIn}
-use Rattle.meaning.specs.declared.Reference.{Reference}
-use Rattle.meaning.specs.declared.Item.{Item}
-use Rattle.meaning.specs.declared.Item.the-variants.{Table, Uint, Block, Set, Array, If, Malformed}
-use Rattle.meaning.specs.Description.{itemCount, itemAt}
+use Rattle.meaning.specs.Basics.{if_then_else_, _=?_, _≤?_, _<?_, bits, part, numberIn}
+use Rattle.meaning.specs.declared.Fields.{Fields}
+use Rattle.meaning.specs.Description.{itemCount, fieldsAt, isTable, isElement, isArray, isChoice, nested, refers}
 
 -- THE TREE OF A DESCRIPTION
 mutual
-  -- an item with its number, and the bodies inside it
+  -- an item with its number and fields, and the bodies inside it
   pub data Node : Type 0 where
-    uint : (item octets slot : ℕ) → Node
-    block : (item octets : ℕ) → Node
-    set : (item : ℕ) → Reference → (unit : ℕ) → Node
-    array : (item : ℕ) → Reference → Body → Node
-    choice : (item : ℕ) → Reference → (ifTrue ifFalse : Body) → Node
+    -- a UINT, BLOCK or SET
+    leaf : (item : ℕ) → Fields → Node
+    array : (item : ℕ) → Fields → Body → Node
+    choice : (item : ℕ) → Fields → Arms → Node
     -- no item of a body, or one whose body runs past what encloses it
     stray : (item : ℕ) → Node
 
@@ -29,38 +26,36 @@ mutual
     done : Body
     more : Node → Body → Body
 
--- the tables, one after another, each with its item, manufacturer bit and number
+  -- the arms of a choice, each with its test on the value and its body: the first whose test holds is taken
+  pub data Arms : Type 0 where
+    noArm : Arms
+    arm : (test : ℕ → Bool) → Body → Arms → Arms
+
+-- the tables, one after another, each with its item and fields
 pub data Tables : Type 0 where
   noMore : Tables
-  table : (item manufacturer number : ℕ) → Body → Tables → Tables
+  table : (item : ℕ) → Fields → Body → Tables → Tables
   -- no TABLE where one should stand, or one whose body runs past the description
   strayTable : (item : ℕ) → Tables
 
--- how many of the n items after an item stand inside it: an item counts those nested in it; what has no place takes all
-unfoldable pub nested : Item → (n : ℕ) → ℕ
-nested (Table m k w c) n = n
-nested (Uint o s) n = 0
-nested (Block o) n = 0
-nested (Set r u) n = 0
-nested (Array r c) n = c
-nested (If r y f) n = y + f
-nested Malformed n = n
+-- the arms of an IF at item `at`: nonzero is true, and its false items follow its true items; `inner at n` is the body of n items from `at` on, one level down
+unfoldable pub armsOf : (inner : ℕ → ℕ → Body) → Fields → (at : ℕ) → Arms
+armsOf inner f at = arm (λ x. 0 <? x) (inner (at + 1) (f .first)) (arm (λ x. true) (inner (at + 1 + f .first) (f .second)) noArm)
 
--- the item `at`, with n items after it in its body; `inner at n` is the body of n items from `at` on, one level down
-unfoldable pub nodeOf : (inner : ℕ → ℕ → Body) → Item → (at n : ℕ) → Node
-nodeOf inner (Table m k w c) at n = stray at
-nodeOf inner (Uint o s) at n = uint at o s
-nodeOf inner (Block o) at n = block at o
-nodeOf inner (Set r u) at n = set at r u
-nodeOf inner (Array r c) at n = if c ≤? n then array at r (inner (at + 1) c) else stray at
-nodeOf inner (If r y f) at n = if y + f ≤? n then choice at r (inner (at + 1) y) (inner (at + 1 + y) f) else stray at
-nodeOf inner Malformed at n = stray at
+-- the item `at`, with n items after it in its body
+unfoldable pub nodeOf : (inner : ℕ → ℕ → Body) → Fields → (at n : ℕ) → Node
+nodeOf inner f at n =
+    if n <? nested f then stray at
+    else if isElement f then leaf at f
+    else if isArray f then array at f (inner (at + 1) (f .first))
+    else if isChoice f then choice at f (armsOf inner f at)
+    else stray at
 
 -- the n items from `at` on, of which the first `skip` stand inside an item before them
 unfoldable pub bodyOf : (inner : ℕ → ℕ → Body) → (description : List ℕ) → (n skip at : ℕ) → Body
 bodyOf inner d zero skip at = done
 bodyOf inner d (suc n) (suc skip) at = bodyOf inner d n skip (at + 1)
-bodyOf inner d (suc n) zero at = more (nodeOf inner (itemAt d at) at n) (bodyOf inner d n (nested (itemAt d at) n) (at + 1))
+bodyOf inner d (suc n) zero at = more (nodeOf inner (fieldsAt d at) at n) (bodyOf inner d n (nested (fieldsAt d at)) (at + 1))
 
 -- bodies stand inside bodies, at most `depth` deep; a deeper one is none
 unfoldable pub bodyAt : (depth : ℕ) → (description : List ℕ) → (at n : ℕ) → Body
@@ -68,30 +63,14 @@ bodyAt zero d at n = bodyOf (λ a m. more (stray a) done) d n zero at
 bodyAt (suc k) d at n = bodyOf (bodyAt k d) d n zero at
 
 -- the table at item `at`, with n items after it and the tables that follow
-unfoldable pub tableAt : (description : List ℕ) → Item → (at n : ℕ) → Tables → Tables
-tableAt d (Table m k w c) at n rest = if c ≤? n then table at m k (bodyAt 4 d (at + 1) c) rest else strayTable at
-tableAt d (Uint o s) at n rest = strayTable at
-tableAt d (Block o) at n rest = strayTable at
-tableAt d (Set r u) at n rest = strayTable at
-tableAt d (Array r c) at n rest = strayTable at
-tableAt d (If r y f) at n rest = strayTable at
-tableAt d Malformed at n rest = strayTable at
-
--- how many items stand inside a table
-unfoldable pub tabled : Item → (n : ℕ) → ℕ
-tabled (Table m k w c) n = c
-tabled (Uint o s) n = n
-tabled (Block o) n = n
-tabled (Set r u) n = n
-tabled (Array r c) n = n
-tabled (If r y f) n = n
-tabled Malformed n = n
+unfoldable pub tableAt : (description : List ℕ) → Fields → (at n : ℕ) → Tables → Tables
+tableAt d f at n rest = if isTable f && f .first ≤? n then table at f (bodyAt 4 d (at + 1) (f .first)) rest else strayTable at
 
 -- the tables among the n items from `at` on, of which the first `skip` stand inside a table before them
 unfoldable pub tablesOf : (description : List ℕ) → (n skip at : ℕ) → Tables
 tablesOf d zero skip at = noMore
 tablesOf d (suc n) (suc skip) at = tablesOf d n skip (at + 1)
-tablesOf d (suc n) zero at = tableAt d (itemAt d at) at n (tablesOf d n (tabled (itemAt d at) n) (at + 1))
+tablesOf d (suc n) zero at = tableAt d (fieldsAt d at) at n (tablesOf d n (nested (fieldsAt d at)) (at + 1))
 
 unfoldable pub treeOf : (description : List ℕ) → Tables
 treeOf d = tablesOf d (itemCount d) 0 0
@@ -111,12 +90,16 @@ setSlot zero x s = s
 setSlot (suc k) x s = λ j. if j =? suc k then x else s j
 
 -- a reference's value is that bit range of the slot's number, bit 0 being least significant
-unfoldable pub bitRange : (number : ℕ) → Reference → ℕ
-bitRange x r = x / 2 ^ (r .low) % 2 ^ (r .width)
+unfoldable pub bitRange : (number : ℕ) → Fields → ℕ
+bitRange x f = x / 2 ^ (f .low) % 2 ^ (f .width)
 
 -- the octets of a SET: the value, or with unit 1 as many as that many flags fill
 unfoldable pub setOctets : (unit value : ℕ) → ℕ
 setOctets u x = if u =? 0 then x else (x + 7) / 8
+
+-- a SET is as long as its reference's value says, a UINT or BLOCK as its octets say
+unfoldable pub leafOctets : Fields → (value : ℕ) → ℕ
+leafOctets f x = if refers f then setOctets (f .unit) x else f .octets
 
 -- DATA_ORDER: bit 0 of item 1, the image's first octet. It governs every UINT of the image
 unfoldable pub dataOrder : (image : List ℕ) → ℕ
@@ -135,14 +118,30 @@ pub record Placed : Type 0 where
   pub start : ℕ
   pub size : ℕ
 
--- what stops it, with the item: a reference to a dimension not read yet, a bit outside its element, an array whose elements differ in size; the image is
--- short, with the starting octet; no item of a body
+-- what a passed description never meets: a reference to a dimension not read yet, a bit outside its element, an array whose elements differ in size, no item
+-- of a body
+pub data Fault : Type 0 where
+  notRead : Fault
+  outside : Fault
+  unequal : Fault
+  noPlace : Fault
+
+-- what stops it: a fault, with its item; or the image is short, with the item and its starting octet
 pub data Stop : Type 0 where
-  unreadDimension : (item : ℕ) → Stop
-  bitOutside : (item : ℕ) → Stop
-  unequalElements : (item : ℕ) → Stop
+  fault : Fault → (item : ℕ) → Stop
   short : (item octet : ℕ) → Stop
-  noItem : (item : ℕ) → Stop
+
+abbrev pub unreadDimension : (item : ℕ) → Stop
+unreadDimension i = fault notRead i
+
+abbrev pub bitOutside : (item : ℕ) → Stop
+bitOutside i = fault outside i
+
+abbrev pub unequalElements : (item : ℕ) → Stop
+unequalElements i = fault unequal i
+
+abbrev pub noItem : (item : ℕ) → Stop
+noItem i = fault noPlace i
 
 -- the elements placed, the slots and the next octet; or the elements placed before it stopped
 pub data Laid : Type 0 where
@@ -160,9 +159,13 @@ andThen (laid ps s p) f = also ps (f s p)
 andThen (stopped ps x) f = stopped ps x
 
 -- what item i makes of its reference's value
-unfoldable pub reading : Slot → Reference → (i : ℕ) → (ℕ → Laid) → Laid
-reading unread r i f = stopped [] (unreadDimension i)
-reading (holds o x) r i f = if r .low + r .width ≤? 8 * o then f (bitRange x r) else stopped [] (bitOutside i)
+unfoldable pub reading : Slot → Fields → (i : ℕ) → (ℕ → Laid) → Laid
+reading unread f i g = stopped [] (unreadDimension i)
+reading (holds o x) f i g = if f .low + f .width ≤? 8 * o then g (bitRange x f) else stopped [] (bitOutside i)
+
+-- the same, where an item without a reference has the value 0
+unfoldable pub valued : Slots → Fields → (i : ℕ) → (ℕ → Laid) → Laid
+valued s f i g = if refers f then reading (s (f .slot)) f i g else g 0
 
 -- the walk stops as short at the first UINT, BLOCK or SET outside arrays, or outermost ARRAY, that doesn't end inside the image
 unfoldable pub inImage : (inArray : Bool) → (length i p : ℕ) → Laid → Laid
@@ -170,44 +173,50 @@ inImage true l i p o = o
 inImage false l i p (laid ps s q) = if q ≤? l then laid ps s q else stopped [] (short i p)
 inImage false l i p (stopped ps x) = stopped ps x
 
--- an element of n octets at p, with the slots as they are after it
-unfoldable pub placed : (item slot : ℕ) → (subscripts : List ℕ) → Slots → (p n : ℕ) → Laid
-placed i k subs s p n = laid (record { item = i; slot = k; subscripts = subs; start = p; size = n } ∷ []) s (p + n)
+-- an element of n octets at p, and the slot that it sets
+unfoldable pub placed : (item : ℕ) → Fields → (image : List ℕ) → Slots → (p n : ℕ) → Laid
+placed i f img s p n =
+    laid (record { item = i; slot = f .sets; subscripts = []; start = p; size = n } ∷ []) (setSlot (f .sets) (holds n (numberAt img p n)) s) (p + n)
 
 -- how many octets o takes from p on
 unfoldable pub sizeFrom : (p : ℕ) → Laid → ℕ
 sizeFrom p (laid ps s q) = q - p
 sizeFrom p (stopped ps x) = 0
 
--- o, if it takes w octets from p on: elements of item i are of one size
-unfoldable pub ofSize : (i w p : ℕ) → Laid → Laid
-ofSize i w p (laid ps s q) = if q - p =? w then laid ps s q else stopped [] (unequalElements i)
-ofSize i w p (stopped ps x) = stopped ps x
+-- elements of an array's element j: subscripts are outermost first
+unfoldable pub under : (j : ℕ) → List Placed → List Placed
+under j [] = []
+under j (e ∷ es) = record { item = e .item; slot = e .slot; subscripts = j ∷ e .subscripts; start = e .start; size = e .size } ∷ under j es
 
--- c elements from subscript j on, each w octets long; `element j` lays one
-unfoldable pub repeated : (element : ℕ → Slots → ℕ → Laid) → (i w c j : ℕ) → Slots → ℕ → Laid
+-- o as element j of item i, if it takes w octets from p on: elements are of one size
+unfoldable pub asElement : (i w j p : ℕ) → Laid → Laid
+asElement i w j p (laid ps s q) = if q - p =? w then laid (under j ps) s q else stopped [] (unequalElements i)
+asElement i w j p (stopped ps x) = stopped (under j ps) x
+
+-- c elements from subscript j on, each w octets long; `element` lays one
+unfoldable pub repeated : (element : Slots → ℕ → Laid) → (i w c j : ℕ) → Slots → ℕ → Laid
 repeated element i w zero j s p = laid [] s p
-repeated element i w (suc c) j s p = andThen (ofSize i w p (element j s p)) (repeated element i w c (j + 1))
+repeated element i w (suc c) j s p = andThen (asElement i w j p (element s p)) (repeated element i w c (j + 1))
 
--- `subs` are the subscripts of the arrays round a body, s the slots, p the next octet
+-- s are the slots, p the next octet
 unfoldable mutual
   -- items follow one another without gaps
-  pub layBody : Body → (image : List ℕ) → (inArray : Bool) → (subs : List ℕ) → Slots → ℕ → Laid
-  layBody done img inA subs s p = laid [] s p
-  layBody (more n b) img inA subs s p = andThen (layNode n img inA subs s p) (λ t q. layBody b img inA subs t q)
+  pub layBody : Body → (image : List ℕ) → (inArray : Bool) → Slots → ℕ → Laid
+  layBody done img a s p = laid [] s p
+  layBody (more n b) img a s p = andThen (layNode n img a s p) (λ t q. layBody b img a t q)
 
-  -- an array takes count times its element's size; an IF takes only the chosen body
-  pub layNode : Node → (image : List ℕ) → (inArray : Bool) → (subs : List ℕ) → Slots → ℕ → Laid
-  layNode (uint i o k) img inA subs s p = inImage inA (length img) i p (placed i k subs (setSlot k (holds o (numberAt img p o)) s) p o)
-  layNode (block i o) img inA subs s p = inImage inA (length img) i p (placed i 0 subs s p o)
-  layNode (set i r u) img inA subs s p =
-      reading (s (r .slot)) r i (λ x. inImage inA (length img) i p (placed i 0 subs s p (setOctets u x)))
-  layNode (array i r b) img inA subs s p =
-      reading (s (r .slot)) r i (λ c. inImage inA (length img) i p
-      (repeated (λ j t q. layBody b img true (subs ++ (j ∷ [])) t q) i (sizeFrom p (layBody b img true (subs ++ (0 ∷ [])) s p)) c 0 s p))
-  layNode (choice i r y f) img inA subs s p =
-      reading (s (r .slot)) r i (λ x. if x =? 0 then layBody f img inA subs s p else layBody y img inA subs s p)
-  layNode (stray i) img inA subs s p = stopped [] (noItem i)
+  -- an array takes count times its element's size; a choice takes only the chosen body
+  pub layNode : Node → (image : List ℕ) → (inArray : Bool) → Slots → ℕ → Laid
+  layNode (leaf i f) img a s p = valued s f i (λ x. inImage a (length img) i p (placed i f img s p (leafOctets f x)))
+  layNode (array i f b) img a s p =
+      valued s f i (λ c. inImage a (length img) i p (repeated (λ t q. layBody b img true t q) i (sizeFrom p (layBody b img true s p)) c 0 s p))
+  layNode (choice i f arms) img a s p = valued s f i (λ x. layArms arms x img a s p)
+  layNode (stray i) img a s p = stopped [] (noItem i)
+
+  -- where no arm's test holds, nothing is taken
+  pub layArms : Arms → (value : ℕ) → (image : List ℕ) → (inArray : Bool) → Slots → ℕ → Laid
+  layArms noArm x img a s p = laid [] s p
+  layArms (arm t b arms) x img a s p = if t x then layBody b img a s p else layArms arms x img a s p
 
 -- THE WHOLE IMAGE
 -- a table: its item, manufacturer bit and number, its first octet in the image and its length
@@ -228,15 +237,15 @@ abbrev pub before : Seat → List Placed → Layout → Layout
 before t ps (laidOut ts qs s n) = laidOut (t ∷ ts) (ps ++ qs) s n
 before t ps (stoppedAt qs x) = stoppedAt (ps ++ qs) x
 
--- the table of item i at p, as long as its items; then what f makes of the slots and the octet where it ends
-unfoldable pub seated : (i manufacturer number p : ℕ) → Laid → (Slots → ℕ → Layout) → Layout
-seated i m k p (laid ps s q) f = before (record { item = i; manufacturer = m; number = k; start = p; size = q - p }) ps (f s q)
-seated i m k p (stopped ps x) f = stoppedAt ps x
+-- the table of item i at p, as long as its items; then what g makes of the slots and the octet where it ends
+unfoldable pub seated : (i : ℕ) → Fields → (p : ℕ) → Laid → (Slots → ℕ → Layout) → Layout
+seated i f p (laid ps s q) g = before (record { item = i; manufacturer = f .manufacturer; number = f .number; start = p; size = q - p }) ps (g s q)
+seated i f p (stopped ps x) g = stoppedAt ps x
 
 -- tables follow one another; the total is where the last ends
 unfoldable pub layTables : Tables → (image : List ℕ) → Slots → ℕ → Layout
 layTables noMore img s p = laidOut [] [] s p
-layTables (table i m k body rest) img s p = seated i m k p (layBody body img false [] s p) (λ t q. layTables rest img t q)
+layTables (table i f body rest) img s p = seated i f p (layBody body img false s p) (λ t q. layTables rest img t q)
 layTables (strayTable i) img s p = stoppedAt [] (noItem i)
 
 -- from octet 0, no dimension read

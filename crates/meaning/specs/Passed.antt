@@ -68,7 +68,7 @@ pub record Keeps (d : List ℕ) (f : Fields) (i : ℕ) (r : Round) : Type 0 wher
   pub shallow : nests f ≡ true → r .nests ≤ 3
   pub tableOnce : isTable f ≡ true → tableGiven d i (f .manufacturer) (f .number) ≡ false
   pub slotOnce : 0 < f .sets → slotOctets d i (f .sets) ≡ 0
-  pub refers : 0 < f .slot → f .bits ≤ 8 * slotOctets d i (f .slot)
+  pub refers : 0 < f .slot → f .low + f .width ≤ 8 * slotOctets d i (f .slot)
 
 -- WHAT A PASSED DESCRIPTION HAS
 -- round an item stands at most one TABLE, and in it at most four ARRAYs and IFs
@@ -102,7 +102,7 @@ pub record PassedLaws (d : List ℕ) : Type 0 where
   pub begins : isTable00 (fieldsAt d 0) ≡ true
   pub ordered : isDataOrder (fieldsAt d 1) ≡ true
   -- every reference names a slot set by an earlier dimension, with its bits inside
-  pub refers : (i : ℕ) → i < itemCount d → 0 < fieldsAt d i .slot → SetEarlier d i (fieldsAt d i .slot) (fieldsAt d i .bits)
+  pub refers : (i : ℕ) → i < itemCount d → 0 < fieldsAt d i .slot → SetEarlier d i (fieldsAt d i .slot) (fieldsAt d i .low + fieldsAt d i .width)
   pub nest : BodiesNest d
   -- what stands round an item stands round all that is nested in it
   pub shared : (k i : ℕ) → k < itemCount d → k < i → i < endOf d k → round d k i ≡ round d k k

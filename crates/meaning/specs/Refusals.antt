@@ -14,7 +14,7 @@ use Rattle.meaning.specs.declared.Reply.{Reply}
 use Rattle.meaning.specs.declared.Told.{Told}
 use Rattle.meaning.specs.declared.Place.{Place}
 use Rattle.meaning.specs.Description.{fieldsAt, isTable, isUint, checkReply}
-use Rattle.meaning.specs.Layout.{Placed, Seat, Slots, Stop, unreadDimension, bitOutside, unequalElements, short, noItem, Layout, laidOut, stoppedAt, layOut, elementNamed, tableNamed, dataOrder, numberAt}
+use Rattle.meaning.specs.Layout.{Placed, Seat, Slots, Stop, Fault, notRead, outside, unequal, noPlace, fault, short, Layout, laidOut, stoppedAt, layOut, elementNamed, tableNamed, dataOrder, numberAt}
 use Rattle.meaning.specs.Numbers.{nothingRefused, breaksRule, imageTooLong, imageShort, noTable, noElement, outsideTable, notWritable, holdsDimension, wrongSize}
 
 -- WHAT A REPLY TELLS, IN NUMBERS: the refusal, all 0 where there is none; then the answer's own two, 0 on refusal
@@ -58,13 +58,16 @@ placeReply (Place.At p n) = Reply.At p n
 placeReply (Place.Refused r) = Reply.Refused r
 
 -- ORDER: 1 TO 9 COME BEFORE ANY ANSWER
--- 9 is the short image. The other stops never come for a passed description; were they to come, each would be the rule that it breaks
+-- 9 is the short image. A fault never comes for a passed description; were one to come, it would be the rule that it breaks
+unfoldable pub faultRule : Fault → ℕ
+faultRule notRead = 7
+faultRule outside = 7
+faultRule unequal = 3
+faultRule noPlace = 3
+
 unfoldable pub stopRefusal : Stop → Refusal
-stopRefusal (unreadDimension i) = breaksRule 7 i
-stopRefusal (bitOutside i) = breaksRule 7 i
-stopRefusal (unequalElements i) = breaksRule 3 i
+stopRefusal (fault x i) = breaksRule (faultRule x) i
 stopRefusal (short i p) = imageShort i p
-stopRefusal (noItem i) = breaksRule 3 i
 
 -- the image opened: its tables, elements, slots and total; or the refusal
 pub data Opened : Type 0 where

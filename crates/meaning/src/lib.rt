@@ -3,59 +3,25 @@
 
 use offsets::ImageOffset;
 
-// A bit range of a slot's number: `width` bits from bit `low` up, bit 0 least significant.
-pub struct Reference {
-    pub slot: usize,
-    pub low: u32,
-    pub width: u32,
-}
-
-// An item of a description. Counts of items include nested items.
-pub enum Item {
-    Table {
-        manufacturer: u32,
-        number: u32,
-        writable: u32,
-        items: usize,
-    },
-    Uint {
-        octets: usize,
-        slot: usize,
-    },
-    Block {
-        octets: usize,
-    },
-    Set {
-        of: Reference,
-        unit: u32,
-    },
-    Array {
-        of: Reference,
-        items: usize,
-    },
-    If {
-        of: Reference,
-        yes: usize,
-        no: usize,
-    },
-    Malformed,
-}
-
-// The fields of an item that the rules ask about, each 0 where its kind has none.
+// What an item of a description says, each field 0 where its kind has none.
 pub struct Fields {
+    // 1 to 6; 0 is malformed.
     pub kind: u32,
     pub manufacturer: u32,
     pub number: u32,
     pub writable: u32,
-    // Items in its body, of an IF those if true; and an IF's items if false.
+    // Items in its body, nested ones included, of an IF those if true; and an IF's items if false.
     pub first: usize,
     pub second: usize,
-    // The slot that a UINT sets, and its octets.
+    // The slot that a UINT sets, and the octets of a UINT or BLOCK.
     pub sets: usize,
     pub octets: usize,
-    // The slot that a reference names, and the bit after its last.
+    // A reference: `width` bits of the slot's number from bit `low` up, bit 0 least significant.
     pub slot: usize,
-    pub bits: u32,
+    pub low: u32,
+    pub width: u32,
+    // A SET's: 0 octets, 1 flags.
+    pub unit: u32,
 }
 
 // What stands round an item: where the innermost body round it ends, and how many TABLEs, and ARRAYs and IFs, enclose it.

@@ -1,7 +1,14 @@
-pub mod Laws
-pub mod Sizes
+pub mod Numbers
+pub mod Over
+pub mod RowLaws
+pub mod Reach
+pub mod Taken
+pub mod Measures
+pub mod Opened
+pub mod Held
 pub mod Pieces
 pub mod Walks
 pub mod Through
 pub mod Surveys
+pub mod Walking
 pub mod Replies

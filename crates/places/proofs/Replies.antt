@@ -1,75 +1,169 @@
--- The answer is the reply: the total, the table's place, the element's. Assumes nothing.
-use Prim.Native.Nat.{ℕ, _<_}
-use mathlib.Core.Path.{_≡_, refl, _∙_, ap, sym}
-use mathlib.Core.Option.{Option, some, none}
+-- What one walk tells is what the replies say: the total, where two tables are, where an element is, which table a range lies in. Assumes nothing.
+use Prim.Native.Nat.{ℕ, _+_, _≤_, min}
+use mathlib.Core.Path.{_≡_, refl, _∙_, ap, sym, subst}
+use mathlib.Core.Bool.{Bool, true, false}
 use mathlib.Core.List.{List}
-use borrow.Author.Tests.{lt-leb}
+use mathlib.Core.Option.{Option, some, none}
+use lib.ListN.{length, take}
 use native.Mathlib.Omega.{arith}
+use Rattle.meaning.specs.Basics.{if_then_else_, _≤?_}
 use Rattle.meaning.specs.declared.ElementName.{ElementName}
 use Rattle.meaning.specs.declared.Refusal.{Refusal}
 use Rattle.meaning.specs.declared.Reply.{Reply}
 use Rattle.meaning.specs.declared.Verdict.{Verdict}
-use Rattle.meaning.specs.Layout.{Seat, tableNamed}
+use Rattle.meaning.specs.Layout.{Placed, Seat, Slots, elementNamed}
+use Rattle.meaning.specs.Numbers.{noTable}
 use Rattle.meaning.specs.Refusals.{Opened, opened, refused, openImage, layoutIn, layoutReply, seatPlace, tablePlaceIn, tablePlaceReply, elementIn, placedPlace, elementPlaceIn, elementPlaceReply}
-use Rattle.places.specs.declared.Asked.{Asked}
-use Rattle.places.specs.declared.Answer.{Answer}
-use Rattle.places.specs.Parts.{NameReady}
-use Rattle.places.specs.Opening.{nothingAsked, tableFound, answerTo}
-use Rattle.places.specs.Surveying.{refusalOr, unnamedOf, foundPlace}
+use Rattle.laying.specs.Rows.{Spot, spot, absent, rowSpot, rowOf, spotOf}
+use Rattle.laying.specs.Rows as def
+use Rattle.laying.proofs.Among.{every-among, named-among}
+use Rattle.laying.proofs.Cover.{EndsBy}
+use Rattle.laying.proofs.LaidOut.{elements-end, total-inside}
+use Rattle.laying.proofs.Opened.{Opens, Came, opens, refuses, came, opened-image}
+use Rattle.laying.proofs.Reaches.{row-says}
+use Rattle.laying.proofs.Spots.{further, row-onward}
+use Rattle.offsets.specs.declared.TableStart.{TableStart}
+use Rattle.places.specs.declared.Ranged.{Ranged}
+use Rattle.places.specs.declared.survey.Answer.{Answer}
+use Rattle.places.specs.declared.survey.Asked.{Asked}
+use Rattle.places.specs.declared.survey.Standing.{Standing}
+use Rattle.places.specs.declared.survey.TableFound.{TableFound}
+use Rattle.places.specs.declared.survey.TableFound.the-variants.{No, Yes}
+use Rattle.places.specs.Opening.{spotPlace, placeBy, refusalOr, foundPlace, rangeOf, rangeIn}
+use Rattle.places.specs.Rows.{Few}
+use Rattle.places.specs.Surveying.{tableFound, heldIn, StandsAs, AnswerAs}
+use Rattle.places.proofs.Reach.{spot-as}
+use Rattle.places.proofs.RowLaws.{as-none}
 
--- the total, told by the verdict
-abbrev totalOf : Verdict → ℕ → Reply
-totalOf Verdict.Passed n = Reply.Total n
-totalOf (Verdict.Refused r) n = Reply.Refused r
-
-total-in : (q : Asked) (o : Opened) → totalOf (answerTo q o .verdict) (answerTo q o .total) ≡ layoutIn o
-unfolding layoutIn answerTo
-total-in q (opened ts es s n) = refl
-total-in q (refused x) = refl
-
+-- a place in a table, and none
 seat-place : (t : Option Seat) → foundPlace (tableFound t) ≡ seatPlace t
 unfolding foundPlace tableFound seatPlace
 seat-place none = refl
 seat-place (some t) = refl
 
-table-in : (q : Asked) (o : Opened) → refusalOr (answerTo q o .verdict) (foundPlace (answerTo q o .table)) ≡ tablePlaceIn (q .manufacturer) (q .number) o
-unfolding tablePlaceIn answerTo refusalOr
-table-in q (opened ts es s n) = seat-place (tableNamed (q .manufacturer) (q .number) ts)
-table-in q (refused x) = refl
+-- WHERE AN ELEMENT IS
+-- by what is found of it in the table that starts at p
+found-place : (p : ℕ) (e : Option Placed) (s : Spot) → spotOf e ≡ further p s → ((x : Placed) → e ≡ some x → x .start ≤ 65535) → spotPlace p s ≡ placedPlace e
+unfolding spotPlace placedPlace spotOf further
+found-place p none absent h small = refl
+found-place p none (spot o n) h small = let z : _≡_ {A = ℕ} 0 1 = cc in absurd (omega arith)
+found-place p (some x) absent h small = let z : _≡_ {A = ℕ} 0 1 = cc in absurd (omega arith)
+found-place p (some x) (spot o n) h small =
+    let a : x .start ≡ p + o = cc in
+    let b : x .size ≡ n = cc in
+    let m : min (p + o) 18446744073709551615 ≡ x .start = omega (arith, small x refl) in
+    rw (m, b)
 
-element-in : (q : Asked) (o : Opened) → answerTo q o .element ≡ elementPlaceIn (q .name) o
-unfolding elementPlaceIn answerTo
-element-in q (opened ts es s n) = refl
-element-in q (refused x) = refl
+-- and so it isn't far into the table
+spot-early : (p : ℕ) (e : Option Placed) (s : Spot) → spotOf e ≡ further p s → ((x : Placed) → e ≡ some x → x .start ≤ 65535) → (o m : ℕ) → s ≡ spot o m → o ≤ 65535
+unfolding spotOf further
+spot-early p none s h small o m e = let z : _≡_ {A = ℕ} 0 1 = cc (h ∙ ap (further p) e) in absurd (omega arith)
+spot-early p (some x) s h small o m e =
+    let a : x .start ≡ p + o = cc (h ∙ ap (further p) e) in
+    omega (arith, small x refl)
 
--- more than four subscripts name none
-pub unnamed-in : (q : Asked) (name : ElementName) (o : Opened) → 4 < q .name .count
-    → unnamedOf (answerTo (record { manufacturer = q .manufacturer; number = q .number; name = name; from = q .from; octets = q .octets }) o) ≡ answerTo q o
-unfolding answerTo unnamedOf refusalOr elementIn placedPlace
-unnamed-in q name (opened ts es s n) h = rw (lt-leb (q .name .count) 4 h)
-unnamed-in q name (refused x) h = refl
+-- an element that is found starts no later than the image's end
+module _ {d img : List ℕ} {ts : List Seat} {es : List Placed} {s : Slots} {n : ℕ} (o : Opens d img ts es s n) where
+  early : (i : ℕ) (xs : List ℕ) (x : Placed) → elementNamed i xs es ≡ some x → x .start ≤ 65535
+  early i xs x e =
+      omega (
+        arith,
+        every-among (EndsBy n) x es (elements-end d img ts es s n (o .laid)) (named-among i xs es x e .among),
+        total-inside d img ts es s n (o .laid),
+        o .allowed,
+      )
 
--- asking for nothing names an element well
-pub nothing-ready : NameReady (nothingAsked .name) 0
-unfolding nothingAsked
-nothing-ready = record { few = omega arith; room = refl; shallow = omega arith }
+  element-is : (q : ElementName) (e : Standing) → length (q .subscripts) ≡ 4 → StandsAs e (rowOf d img (q .item)) → placeBy e q ≡ placedPlace (elementIn q es)
+  unfolding elementIn spotPlace placedPlace
+  element-is q e four h = rw (spot-as (e .row) (h .inTable) q (h .row-as) four (spot-early p found (rowSpot (h .inTable) xs) told (early (q .item) xs))) (go (q .count ≤? 4))
+    where
+      xs : List ℕ
+      xs = take (q .count) (q .subscripts)
 
--- THE REPLIES, to one who has the answer r
-module _ (d img : List ℕ) (q : Asked) (r : Answer) (a : r ≡ answerTo q (openImage d img)) where
-  total-is : totalOf (r .verdict) (r .total) ≡ layoutReply d img
-  unfolding layoutReply
-  total-is = ap (λ (y : Answer). totalOf (y .verdict) (y .total)) a ∙ total-in q (openImage d img)
+      found : Option Placed
+      found = elementNamed (q .item) xs es
 
-  pub total-passed : r .verdict ≡ Verdict.Passed → Reply.Total (r .total) ≡ layoutReply d img
-  total-passed e = ap (λ (v : Verdict). totalOf v (r .total)) (sym e) ∙ total-is
+      p : ℕ
+      p = e .start .0
+
+      told : spotOf found ≡ further p (rowSpot (h .inTable) xs)
+      told = row-says d img (o .passes) (o .laid) (q .item) xs ∙ ap (λ (r : def.Row). rowSpot r xs) (h .is) ∙ row-onward p (h .inTable) xs
+
+      go : (b : Bool) → spotPlace p (if b then rowSpot (h .inTable) xs else absent) ≡ placedPlace (if b then found else none)
+      go true = found-place p found (rowSpot (h .inTable) xs) told (early (q .item) xs)
+      go false = refl
+
+module _ (d img : List ℕ) (q : Asked) (r : Answer) (a : AnswerAs d img q r (openImage d img)) where
+  -- THE TOTAL
+  total-in : (o : Opened) → AnswerAs d img q r o → ((x : Refusal) → r .verdict ≡ Verdict.Refused x → Reply.Refused x ≡ layoutIn o) × (r .verdict ≡ Verdict.Passed → Reply.Total (r .total) ≡ layoutIn o)
+  unfolding layoutIn
+  total-in (opened ts es s n) h = ((λ x e. let z : _≡_ {A = ℕ} 0 1 = cc (h .passed) in absurd (omega arith)), λ e. rw (h .total))
+  total-in (refused y) h = ((λ x e. cc), λ e. let z : _≡_ {A = ℕ} 0 1 = cc in absurd (omega arith))
 
   pub total-refused : (x : Refusal) → r .verdict ≡ Verdict.Refused x → Reply.Refused x ≡ layoutReply d img
-  total-refused x e = ap (λ (v : Verdict). totalOf v (r .total)) (sym e) ∙ total-is
+  unfolding layoutReply
+  total-refused = total-in (openImage d img) a .0
 
-  pub table-told : refusalOr (r .verdict) (foundPlace (r .table)) ≡ tablePlaceReply d img (q .manufacturer) (q .number)
+  pub total-passed : r .verdict ≡ Verdict.Passed → Reply.Total (r .total) ≡ layoutReply d img
+  unfolding layoutReply
+  total-passed = total-in (openImage d img) a .1
+
+  -- THE TABLES
+  tables-in : (o : Opened) → AnswerAs d img q r o
+      → (refusalOr (r .verdict) (foundPlace (r .first)) ≡ tablePlaceIn (q .first .manufacturer) (q .first .number) o)
+      × (refusalOr (r .verdict) (foundPlace (r .second)) ≡ tablePlaceIn (q .second .manufacturer) (q .second .number) o)
+  unfolding tablePlaceIn refusalOr
+  tables-in (opened ts es s n) h = (rw (h .passed, h .first) (seat-place _), rw (h .passed, h .second) (seat-place _))
+  tables-in (refused y) h = (rw h, rw h)
+
+  pub tables-told : (refusalOr (r .verdict) (foundPlace (r .first)) ≡ tablePlaceReply d img (q .first .manufacturer) (q .first .number))
+      × (refusalOr (r .verdict) (foundPlace (r .second)) ≡ tablePlaceReply d img (q .second .manufacturer) (q .second .number))
   unfolding tablePlaceReply
-  table-told = ap (λ (y : Answer). refusalOr (y .verdict) (foundPlace (y .table))) a ∙ table-in q (openImage d img)
+  tables-told = tables-in (openImage d img) a
 
-  pub element-told : r .element ≡ elementPlaceReply d img (q .name)
-  unfolding elementPlaceReply
-  element-told = ap (λ (y : Answer). y .element) a ∙ element-in q (openImage d img)
+  -- THE ELEMENT
+  pub standing-few : Few 4 (r .element .row .arrays)
+  standing-few = go (openImage d img) a
+    where
+      go : (o : Opened) → AnswerAs d img q r o → Few 4 (r .element .row .arrays)
+      go (opened ts es s n) h = h .element .row-as .few
+      go (refused y) h = rw h (as-none 4 .few)
+
+  pub element-told : (name : ElementName) → q .item ≡ name .item → length (name .subscripts) ≡ 4 → refusalOr (r .verdict) (placeBy (r .element) name) ≡ elementPlaceReply d img name
+  unfolding elementPlaceReply elementPlaceIn refusalOr
+  element-told name same four = go (came d img)
+    where
+      go : Came d img → refusalOr (r .verdict) (placeBy (r .element) name) ≡ elementPlaceIn name (openImage d img)
+      go (opens ts es s n o) =
+          let h : AnswerAs d img q r (opened ts es s n) = subst (AnswerAs d img q r) (opened-image o) a in
+          rw (opened-image o, h .passed) (element-is o name (r .element) four (rw same at (h .element)))
+      go (refuses y e) = let h : AnswerAs d img q r (refused y) = subst (AnswerAs d img q r) e a in rw (e, h)
+
+  -- THE RANGE
+  -- by the table found
+  abbrev ranged : TableFound → (held : Bool) → Ranged
+  ranged No b = Ranged.Refused noTable
+  ranged (Yes i s l) b = Ranged.In i s l b
+
+  range-found : (X : Option Seat) (es : List Placed) → r .first ≡ tableFound X → r .held ≡ heldIn (q .from .0) (q .octets) X es
+      → ranged (r .first) (r .held) ≡ rangeOf (q .from .0) (q .octets) X es
+  unfolding rangeOf tableFound
+  range-found none es e h = ap (λ (z : TableFound). ranged z (r .held)) e
+  range-found (some t) es e h = ap (λ (z : TableFound). ranged z (r .held)) e ∙ ap (λ (b : Bool). Ranged.In (t .item) (record { 0 = t .start }) (t .size) b) h
+
+  range-in : (o : Opened) → AnswerAs d img q r o
+      → ((x : Refusal) → r .verdict ≡ Verdict.Refused x → Ranged.Refused x ≡ rangeIn (q .first .manufacturer) (q .first .number) (q .from) (q .octets) o)
+      × (r .verdict ≡ Verdict.Passed → ranged (r .first) (r .held) ≡ rangeIn (q .first .manufacturer) (q .first .number) (q .from) (q .octets) o)
+  unfolding rangeIn
+  range-in (opened ts es s n) h = ((λ x e. let z : _≡_ {A = ℕ} 0 1 = cc (h .passed) in absurd (omega arith)), λ e. range-found _ es (h .first) (h .held))
+  range-in (refused y) h = ((λ x e. cc), λ e. let z : _≡_ {A = ℕ} 0 1 = cc in absurd (omega arith))
+
+  pub range-refused : (x : Refusal) → r .verdict ≡ Verdict.Refused x → Ranged.Refused x ≡ rangeIn (q .first .manufacturer) (q .first .number) (q .from) (q .octets) (openImage d img)
+  range-refused = range-in (openImage d img) a .0
+
+  pub range-none : r .verdict ≡ Verdict.Passed → r .first ≡ No → Ranged.Refused noTable ≡ rangeIn (q .first .manufacturer) (q .first .number) (q .from) (q .octets) (openImage d img)
+  range-none e g = ap (λ (z : TableFound). ranged z (r .held)) (sym g) ∙ range-in (openImage d img) a .1 e
+
+  pub range-told : r .verdict ≡ Verdict.Passed → (i : ℕ) (s : TableStart) (l : ℕ) → r .first ≡ Yes i s l
+      → Ranged.In i s l (r .held) ≡ rangeIn (q .first .manufacturer) (q .first .number) (q .from) (q .octets) (openImage d img)
+  range-told e i s l g = ap (λ (z : TableFound). ranged z (r .held)) (sym g) ∙ range-in (openImage d img) a .1 e

@@ -1,87 +1,168 @@
--- The tables laid one after another: what is laid and what is left come to the whole image, at the start, after each table and at the end. Assumes nothing.
+-- Tables laid one after another: those laid and those left come to the whole image, at the start, after each table and at the end; and what is asked for is
+-- found among those laid. Assumes nothing.
 use Prim.Native.Nat.{ℕ, zero, suc, _+_, _-_, _<_, _≤_, min}
-use mathlib.Core.Path.{_≡_, refl, _∙_, ap, ap₂, sym, subst, subst⁻¹}
-use mathlib.Core.Bool.{Bool, true, false, cond, _&&_, _||_, false≢true}
+use mathlib.Core.Path.{_≡_, refl, _∙_, ap, ap₂, sym, subst, fun-ext}
+use mathlib.Core.Logic.{inl, inr}
+use mathlib.Core.Bool.{Bool, true, false, cond, _&&_, false≢true, or-false}
 use mathlib.Core.List.{List, [], _∷_, _++_, append-assoc, append-nil}
 use mathlib.Core.Option.{Option, some, none}
 use lib.ListN.{length, getD, replicate}
-use lib.Dec.{eqb, leb}
-use borrow.Author.Tests.{leb-true, le-leb, lt-ltb, le-ltb}
+use borrow.Author.Tests.{leb-true, lt-ltb, le-ltb}
 use native.Mathlib.Omega.{arith}
-use Rattle.meaning.specs.declared.ElementName.{ElementName}
-use Rattle.meaning.specs.declared.Item.{Item}
-use Rattle.meaning.specs.declared.Item.the-variants.{Table, Uint, Block, Set, Array, If, Malformed}
-use Rattle.meaning.specs.declared.Place.{Place}
+use Rattle.meaning.specs.Basics.{_≤?_, _=?_}
+use Rattle.meaning.specs.declared.Fields.{Fields}
 use Rattle.meaning.specs.declared.Refusal.{Refusal}
 use Rattle.meaning.specs.declared.Verdict.{Verdict}
-use Rattle.meaning.specs.Description.{itemCount, itemAt, fieldsOf, fieldsAt, checkReply}
+use Rattle.meaning.specs.Description.{itemCount, fieldsAt, isTable, nested, checkReply}
 use Rattle.meaning.specs.Passed.{Passes}
-use Rattle.meaning.specs.Layout.{Body, Tables, noMore, table, strayTable, Placed, Seat, Slots, unread, Laid, laid, stopped, Stop, unreadDimension, bitOutside, unequalElements, short, noItem, Layout, laidOut, stoppedAt, before, seated, layBody, layTables, layOut, treeOf, tablesOf, tableAt, tabled, bodyAt, elementNamed, tableNamed}
+use Rattle.meaning.specs.Layout.{Body, Tables, noMore, table, tableAt, tablesOf, treeOf, bodyAt, Slots, unread, Placed, fault, short, Laid, laid, stopped, layBody}
+use Rattle.meaning.specs.Layout.{Seat, Layout, laidOut, stoppedAt, before, seated, layTables, layOut, tableNamed}
+use Rattle.meaning.specs.Numbers.{imageShort, imageTooLong, noTable}
+use Rattle.meaning.specs.Refusals.{refused, stopRefusal, openLaid, openSound, openImage, anyDimension}
 use Rattle.meaning.proofs.Passed.{passed-laws}
-use Rattle.meaning.specs.Refusals.{refused, stopRefusal, openLaid, openSound, openImage, elementIn, placedPlace, anyDimension}
-use Rattle.laying.specs.declared.Spot.{Spot}
-use Rattle.laying.specs.declared.Spot.the-variants.{Nowhere, At}
-use Rattle.laying.specs.Sizes.{orElse, further, spotOf, seen}
-use Rattle.laying.specs.Sound.{FitTables}
-use Rattle.laying.specs.Slots.{numberOf, Numbered}
-use Rattle.laying.specs.Outcomes.{Lays}
+use Rattle.laying.specs.Every.{Every}
+use Rattle.laying.specs.Outcomes.{OutsideBody}
+use Rattle.laying.specs.Rows.{Array, row, notChosen, noRow, firstRow, onward, rowAfter, walkBody, walkTables, rowOf}
+use Rattle.laying.specs.Rows as def
+use Rattle.laying.specs.Slots.{numberOf, octetsOf, Matches}
+use Rattle.laying.specs.Sound.{Known, noneKnown, SoundBody, SoundTables, afterBody}
+use Rattle.laying.proofs.Cover.{Lies, consecutive-fill}
+use Rattle.laying.proofs.Dimensions.{no-dimension}
+use Rattle.laying.proofs.Every.{every-map, every-append}
+use Rattle.laying.proofs.Laying.{laying-body}
+use Rattle.laying.proofs.Reaches.{Reaches, r-body}
+use Rattle.laying.proofs.Rising.{RisesBody, rises-body}
 use Rattle.laying.proofs.Steps.{tables-none, tables-step}
-use Rattle.laying.proofs.Fit.{sound-fit}
-use Rattle.laying.proofs.Tops.{passed-sound}
-use Rattle.laying.proofs.Lays.{passed-lays}
-use Rattle.laying.proofs.Spots.{seen-none, seen-append}
-use Rattle.laying.proofs.Dimensions.{holds-none, holds-append}
-use Rattle.offsets.specs.declared.TableStart.{TableStart}
-use Rattle.places.specs.declared.Asked.{Asked}
-use Rattle.places.specs.declared.TableFound.the-variants.{No, Yes}
-use Rattle.places.specs.declared.Survey.{Survey}
-use Rattle.places.specs.declared.Answer.{Answer}
-use Rattle.meaning.specs.declared.Fields.{Fields}
-use Rattle.meaning.specs.Numbers.{imageTooLong, imageShort, noTable, noElement, numbered}
-use Rattle.places.specs.declared.Found.{Found}
-use Rattle.places.specs.declared.Walk.{Walk}
-use Rattle.places.specs.declared.Aim.{Aim}
-use Rattle.places.specs.Parts.{numbersIn, leftOf}
-use Rattle.places.specs.Walking.{Small, Ends, WalkBodyReady, WalksBody}
-use Rattle.places.specs.Opening.{tableFound, refusedBy, answerTo}
-use Rattle.places.specs.Surveying.{seatIn, firstTable, inTable, firstFound, placeAt, beforeAll, Surveyed, TableReady, verdictOf, TableAs}
+use Rattle.laying.proofs.Tops.{passed-sound, fit-body, table-one}
+use Rattle.laying.proofs.Unchosen.{first-none-right}
+use Rattle.places.specs.declared.rows.Row.{Row}
+use Rattle.places.specs.declared.rows.Stands.{Stands}
+use Rattle.places.specs.declared.rows.Stands.the-variants.{Nowhere, NotChosen, There}
+use Rattle.places.specs.declared.survey.Answer.{Answer}
+use Rattle.places.specs.declared.survey.Asked.{Asked}
+use Rattle.places.specs.declared.survey.Standing.{Standing}
+use Rattle.places.specs.declared.survey.Survey.{Survey}
+use Rattle.places.specs.declared.survey.TableFound.{TableFound}
+use Rattle.places.specs.declared.survey.TableFound.the-variants.{No, Yes}
+use Rattle.places.specs.declared.survey.TableName.{TableName}
+use Rattle.places.specs.declared.walk.Aim.{Aim}
+use Rattle.places.specs.declared.walk.Walk.{Walk}
+use Rattle.places.specs.Measuring.{numbersIn}
+use Rattle.places.specs.Rows.{levels, saying, cutRow, alone, firstBy}
+use Rattle.places.specs.Surveying.{tableFound, isFirst, seatIn, firstStanding, heldIn, heldAfter, verdictOf, StandsAs, beforeAll, Surveyed, TableReady, TableAs, refusedBy, AnswerAs}
+use Rattle.places.specs.Walking.{WalkEnds, Ends, WalkBodyReady, WalksBody}
+use Rattle.places.proofs.Held.{holds-append}
+use Rattle.places.proofs.RowLaws.{as-none}
 
 -- WHERE THINGS ARE
-pub found-is : (r : Refusal) (x : Spot) (p : ℕ) (s : Spot) → p ≤ 65535 → Small s → firstFound (placeAt r x) p s ≡ placeAt r (orElse x (further p s))
-unfolding firstFound inTable placeAt orElse further
-found-is r (At o n) p s h k = refl
-found-is r Nowhere p Nowhere h k = refl
-found-is r Nowhere p (At o n) h k = let e : min (p + o) 18446744073709551615 ≡ p + o = omega arith in rw e
-
--- as the replies have it
-element-is : (q : ElementName) (es : List Placed) → q .count ≤ 4 → placeAt noElement (seen (q .item) (leftOf q 0) es) ≡ placedPlace (elementIn q es)
-unfolding elementIn leftOf placeAt spotOf placedPlace
-element-is q es h = rw (le-leb (q .count) 4 h) (go (elementNamed (q .item) (leftOf q 0) es))
+-- one table more among those laid
+seat-more : (n : TableName) (ts : List Seat) (h : Fields) (i p l : ℕ)
+    → tableFound (tableNamed (n .manufacturer) (n .number) (ts ++ (record { item = i; manufacturer = h .manufacturer; number = h .number; start = p; size = l } ∷ [])))
+    ≡ seatIn (tableFound (tableNamed (n .manufacturer) (n .number) ts)) (isFirst (tableFound (tableNamed (n .manufacturer) (n .number) ts)) h n) i (record { 0 = p }) l
+unfolding tableNamed tableFound isFirst seatIn
+seat-more n [] h i p l = go (h .manufacturer =? n .manufacturer && h .number =? n .number)
   where
-    go : (e : Option Placed) → placeAt noElement (spotOf e) ≡ placedPlace e
-    go none = refl
-    go (some e) = refl
-
--- tables one after another
-seat-append : (m k : ℕ) (ts us : List Seat) → tableFound (tableNamed m k (ts ++ us)) ≡ firstTable (tableFound (tableNamed m k ts)) (tableFound (tableNamed m k us))
-unfolding tableNamed tableFound firstTable
-seat-append m k [] us = refl
-seat-append m k (t ∷ ts) us = go (eqb (t .manufacturer) m && eqb (t .number) k) (seat-append m k ts us)
-  where
-    go : (b : Bool) → tableFound (tableNamed m k (ts ++ us)) ≡ firstTable (tableFound (tableNamed m k ts)) (tableFound (tableNamed m k us))
-        → tableFound (cond b (some t) (tableNamed m k (ts ++ us))) ≡ firstTable (tableFound (cond b (some t) (tableNamed m k ts))) (tableFound (tableNamed m k us))
-    go true h = refl
-    go false h = h
-
--- the table asked for
-seat-one : (q : Asked) (h : Fields) (i n : ℕ) (s : TableStart)
-    → tableFound (tableNamed (q .manufacturer) (q .number) (record { item = i; manufacturer = h .manufacturer; number = h .number; start = s .0; size = n } ∷ [])) ≡ seatIn h q i s n
-unfolding tableNamed tableFound seatIn
-seat-one q h i n s = go (eqb (h .manufacturer) (q .manufacturer) && eqb (h .number) (q .number))
-  where
-    go : (b : Bool) → tableFound (cond {A = Option Seat} b (some (record { item = i; manufacturer = h .manufacturer; number = h .number; start = s .0; size = n })) none) ≡ cond b (Yes i s n) No
+    go : (b : Bool) → tableFound (cond {A = Option Seat} b (some (record { item = i; manufacturer = h .manufacturer; number = h .number; start = p; size = l })) none)
+        ≡ cond b (Yes i (record { 0 = p }) l) No
     go true = refl
     go false = refl
+seat-more n (t ∷ ts) h i p l = go (t .manufacturer =? n .manufacturer && t .number =? n .number) (seat-more n ts h i p l)
+  where
+    new : Seat
+    new = record { item = i; manufacturer = h .manufacturer; number = h .number; start = p; size = l }
+
+    go : (b : Bool)
+        → tableFound (tableNamed (n .manufacturer) (n .number) (ts ++ (new ∷ [])))
+        ≡ seatIn (tableFound (tableNamed (n .manufacturer) (n .number) ts)) (isFirst (tableFound (tableNamed (n .manufacturer) (n .number) ts)) h n) i (record { 0 = p }) l
+        → tableFound (cond b (some t) (tableNamed (n .manufacturer) (n .number) (ts ++ (new ∷ []))))
+        ≡ seatIn (tableFound (cond b (some t) (tableNamed (n .manufacturer) (n .number) ts))) (isFirst (tableFound (cond b (some t) (tableNamed (n .manufacturer) (n .number) ts))) h n) i (record { 0 = p }) l
+    go true e = refl
+    go false e = e
+
+-- a row of the code that is none says none, and one that is some comes before any other
+said-none : (L : List def.Array) (r : def.Row) → saying Nowhere L ≡ cutRow r → r ≡ noRow
+unfolding saying cutRow
+said-none L (row p n rest) e = let z : _≡_ {A = ℕ} 0 1 = cc in absurd (omega arith)
+said-none L (notChosen rest) e = let z : _≡_ {A = ℕ} 0 1 = cc in absurd (omega arith)
+said-none L noRow e = refl
+
+said-some : (p : ℕ) (x : Stands) (L : List def.Array) (r q : def.Row) → saying x L ≡ cutRow r → (x ≡ Nowhere → ⊥) → firstRow (onward p r) q ≡ onward p r
+unfolding saying cutRow firstRow onward
+said-some p x L (row o n rest) q e other = refl
+said-some p x L (notChosen rest) q e other = refl
+said-some p Nowhere L noRow q e other = absurd (other refl)
+said-some p NotChosen L noRow q e other = let z : _≡_ {A = ℕ} 0 1 = cc in absurd (omega arith)
+said-some p (There o n) L noRow q e other = let z : _≡_ {A = ℕ} 0 1 = cc in absurd (omega arith)
+
+-- which of two rows stands
+standing-first : (a b : Standing) (r q : def.Row) → StandsAs a r → StandsAs b q → StandsAs (firstStanding a b) (firstRow r q)
+unfolding firstBy firstRow onward
+standing-first a b r q h g = go (a .row .stands) (h .row-as .says)
+  where
+    L : List def.Array
+    L = levels 0 (a .row .arrays .depth) (a .row .arrays .counts) (a .row .arrays .strides)
+
+    stays : (x : Stands) → saying x L ≡ cutRow (h .inTable) → (x ≡ Nowhere → ⊥) → StandsAs a (firstRow r q)
+    stays x e other = record { inTable = h .inTable; is = rw (h .is) (said-some (a .start .0) x L (h .inTable) q e other); row-as = h .row-as; early = h .early }
+
+    go : (x : Stands) → saying x L ≡ cutRow (h .inTable) → StandsAs (firstBy x a b) (firstRow r q)
+    go Nowhere e = record { inTable = g .inTable; is = rw (h .is, said-none L (h .inTable) e) (g .is); row-as = g .row-as; early = g .early }
+    go NotChosen e = stays NotChosen e (λ z. let y : _≡_ {A = ℕ} 0 1 = cc in absurd (omega arith))
+    go (There p n) e = stays (There p n) e (λ z. let y : _≡_ {A = ℕ} 0 1 = cc in absurd (omega arith))
+
+-- OCTETS OF DIMENSIONS. n octets from offset o on of the table of that name, among tables and elements that end by p; then a table from p to x, with elements ps
+module _ (n : TableName) (o l p : ℕ) (ts : List Seat) (es ps : List Placed) (h : Fields) (i x : ℕ) (order : p ≤ x)
+    (seats-end : Every (λ t. t .start + t .size ≤ p) ts) (elements-end : Every (λ e. e .start + e .size ≤ p) es) (lies : Every (Lies p x) ps) where
+  abbrev new : Seat
+  new = record { item = i; manufacturer = h .manufacturer; number = h .number; start = p; size = x - p }
+
+  -- in a table that ends by p none of the new elements counts
+  held-earlier : (t : Seat) → t .start + t .size ≤ p → heldIn o l (some t) (es ++ ps) ≡ heldIn o l (some t) es
+  unfolding heldIn
+  held-earlier t by = go (o + l ≤? t .size) refl
+    where
+      go : (b : Bool) → (o + l ≤? t .size) ≡ b → (b && anyDimension (es ++ ps) (t .start + o) l) ≡ (b && anyDimension es (t .start + o) l)
+      go true f =
+          let fits = leb-true (o + l) (t .size) f in
+          holds-append (t .start + o) l es ps
+          ∙ rw (no-dimension (t .start + o) l ps (every-map (Lies p x) _ (λ e m. inr (omega (arith, m .starts, by, fits))) ps lies)) (or-false (anyDimension es (t .start + o) l))
+      go false f = refl
+
+  held-none : heldIn o l none (es ++ ps) ≡ heldIn o l none es
+  unfolding heldIn
+  held-none = refl
+
+  -- in the new one none of the earlier
+  held-new : heldIn o l (some new) (es ++ ps) ≡ (o + l ≤? x - p && anyDimension ps (p + o) l)
+  unfolding heldIn
+  held-new = ap (λ (b : Bool). o + l ≤? x - p && b) (holds-append (p + o) l es ps ∙ rw (no-dimension (p + o) l es (every-map _ _ (λ e m. inl (omega arith)) es elements-end)))
+
+  held-more : heldIn o l (tableNamed (n .manufacturer) (n .number) (ts ++ (new ∷ []))) (es ++ ps)
+      ≡ heldAfter (heldIn o l (tableNamed (n .manufacturer) (n .number) ts) es) (isFirst (tableFound (tableNamed (n .manufacturer) (n .number) ts)) h n)
+      (o + l ≤? x - p) (anyDimension ps (p + o) l)
+  unfolding tableNamed tableFound isFirst heldAfter Every
+  held-more = go ts seats-end
+    where
+      one : (b : Bool) → heldIn o l (cond {A = Option Seat} b (some new) none) (es ++ ps) ≡ cond b (o + l ≤? x - p && anyDimension ps (p + o) l) (heldIn o l none es)
+      one true = held-new
+      one false = held-none
+
+      go : (ts : List Seat) → Every (λ t. t .start + t .size ≤ p) ts
+          → heldIn o l (tableNamed (n .manufacturer) (n .number) (ts ++ (new ∷ []))) (es ++ ps)
+          ≡ heldAfter (heldIn o l (tableNamed (n .manufacturer) (n .number) ts) es) (isFirst (tableFound (tableNamed (n .manufacturer) (n .number) ts)) h n)
+          (o + l ≤? x - p) (anyDimension ps (p + o) l)
+      go [] e = one (h .manufacturer =? n .manufacturer && h .number =? n .number)
+      go (t ∷ ts) e = pick (t .manufacturer =? n .manufacturer && t .number =? n .number) (go ts (e .1))
+        where
+          pick : (b : Bool)
+              → heldIn o l (tableNamed (n .manufacturer) (n .number) (ts ++ (new ∷ []))) (es ++ ps)
+              ≡ heldAfter (heldIn o l (tableNamed (n .manufacturer) (n .number) ts) es) (isFirst (tableFound (tableNamed (n .manufacturer) (n .number) ts)) h n)
+              (o + l ≤? x - p) (anyDimension ps (p + o) l)
+              → heldIn o l (cond b (some t) (tableNamed (n .manufacturer) (n .number) (ts ++ (new ∷ [])))) (es ++ ps)
+              ≡ heldAfter (heldIn o l (cond b (some t) (tableNamed (n .manufacturer) (n .number) ts)) es)
+              (isFirst (tableFound (cond b (some t) (tableNamed (n .manufacturer) (n .number) ts))) h n) (o + l ≤? x - p) (anyDimension ps (p + o) l)
+          pick true rest = held-earlier t (e .0)
+          pick false rest = rest
 
 -- WHAT WAS LAID BEFORE, THEN THE REST
 before-one : (ts : List Seat) (ps : List Placed) (t : Seat) (qs : List Placed) (o : Layout) → beforeAll ts ps (before t qs o) ≡ beforeAll (ts ++ (t ∷ [])) (ps ++ qs) o
@@ -94,25 +175,11 @@ unfolding beforeAll
 before-none (laidOut us qs s n) = refl
 before-none (stoppedAt qs x) = refl
 
--- THE FIRST OF THE TABLES LEFT
-pub record TableThere (d : List ℕ) (it : Item) (at n : ℕ) (rest : Tables) : Type 0 where
-  pub few : fieldsOf it .first ≤ n
-  pub used : tabled it n ≡ fieldsOf it .first
-  pub is : tableAt d it at n rest ≡ table at (fieldsOf it .manufacturer) (fieldsOf it .number) (bodyAt 4 d (at + 1) (fieldsOf it .first)) rest
-
-table-there : (d : List ℕ) (it : Item) (at n : ℕ) (rest : Tables) → FitTables (tableAt d it at n rest) → TableThere d it at n rest
-unfolding tableAt tabled fieldsOf FitTables
-table-there d (Table m k w c) at n rest f = go (leb c n) refl f
-  where
-    go : (b : Bool) → leb c n ≡ b → FitTables (cond b (table at m k (bodyAt 4 d (at + 1) c) rest) (strayTable at)) → TableThere d (Table m k w c) at n rest
-    go true e f = record { few = leb-true c n e; used = refl; is = rw e }
-    go false e f = absurd f
-table-there d (Uint o s) at n rest f = absurd f
-table-there d (Block o) at n rest f = absurd f
-table-there d (Set r u) at n rest f = absurd f
-table-there d (Array r c) at n rest f = absurd f
-table-there d (If r y g) at n rest f = absurd f
-table-there d Malformed at n rest f = absurd f
+first-assoc : (r q p : def.Row) → firstRow r (firstRow q p) ≡ firstRow (firstRow r q) p
+unfolding firstRow
+first-assoc (row a n rest) q p = refl
+first-assoc (notChosen rest) q p = refl
+first-assoc noRow q p = refl
 
 -- AT THE START
 zeros : (n k : ℕ) → getD (replicate {A = ℕ} n 0) k 0 ≡ 0
@@ -120,32 +187,58 @@ zeros zero k = refl
 zeros (suc n) zero = refl
 zeros (suc n) (suc k) = zeros n k
 
-pub set-out : (d img : List ℕ) (q : Asked) (p : ℕ) → p ≡ 0 → Passes d
+pub set-out : (d img : List ℕ) (q : Asked) (p z : ℕ) → p ≡ 0 → z ≡ 0 → Passes d
     → Surveyed d img q (record {
       numbers = replicate 64 0;
       start = record { 0 = p };
-      next = 0;
-      table = No;
-      element = Place.Refused noElement;
+      next = record { at = z };
+      first = No;
+      second = No;
+      element = record { start = record { 0 = p }; row = alone Nowhere };
       held = false;
       verdict = Verdict.Passed;
     })
-unfolding layOut treeOf numberOf placeAt tableNamed tableFound
-set-out d img q p e h =
-    let z : itemCount d - 0 ≡ itemCount d = omega arith in
-    record {
+unfolding layOut rowOf treeOf numberOf octetsOf tableNamed tableFound heldIn firstRow onward Every
+set-out d img q p z e f h =
+    let y : itemCount d - 0 ≡ itemCount d = omega arith in
+    rw (e, f)
+    (record {
       seats = [];
       elements = [];
       slots = λ k. unread;
-      numbered = record { numbers = λ k. sym (zeros 64 k) };
-      whole = rw (z, e) (sym (before-none (layTables (tablesOf d (itemCount d) 0 0) img (λ k. unread) 0)));
-      fit = rw z (sound-fit _ _ (passed-sound d h));
+      known = noneKnown;
+      row = noRow;
+      numbers = fun-ext (λ k. sym (zeros 64 k));
+      room = refl;
+      matches = record { octets = λ k. refl };
+      whole = rw y (sym (before-none (layTables (tablesOf d (itemCount d) 0 0) img (λ k. unread) 0)));
+      rows = rw y;
+      sound = rw y (passed-sound d h);
       ordered = omega arith;
       inside = omega arith;
-      table = refl;
-      element = ap (placeAt noElement) (sym (seen-none (q .name .item) (leftOf (q .name) 0)));
-      held = sym (holds-none (q .from .0) (q .octets));
-    }
+      seats-end = tt;
+      elements-end = tt;
+      first = refl;
+      second = refl;
+      element = record { inTable = noRow; is = refl; row-as = as-none 4; early = omega arith };
+      held = refl;
+    })
+
+-- THE FIRST OF THE TABLES LEFT
+record TableThere (d : List ℕ) (at n : ℕ) (rest : Tables) : Type 0 where
+  is-one : isTable (fieldsAt d at) ≡ true
+  few : fieldsAt d at .first ≤ n
+  is : tableAt d (fieldsAt d at) at n rest ≡ table at (fieldsAt d at) (bodyAt 4 d (at + 1) (fieldsAt d at .first)) rest
+
+table-there : (d : List ℕ) (κ : Known) (at n : ℕ) (rest : Tables) → SoundTables κ (tableAt d (fieldsAt d at) at n rest) → TableThere d at n rest
+unfolding tableAt SoundTables
+table-there d κ at n rest = go (isTable (fieldsAt d at)) refl (fieldsAt d at .first ≤? n) refl
+  where
+    go : (b : Bool) → isTable (fieldsAt d at) ≡ b → (c : Bool) → (fieldsAt d at .first ≤? n) ≡ c
+        → SoundTables κ (tableAt d (fieldsAt d at) at n rest) → TableThere d at n rest
+    go true e true g f = record { is-one = e; few = leb-true _ _ g; is = rw (e, g) }
+    go true e false g f = absurd (rw (e, g) at f)
+    go false e c g f = absurd (rw e at f)
 
 -- ONE TABLE MORE
 -- a verdict is passed, or has a refusal
@@ -157,169 +250,218 @@ abbrev refusalOf : Verdict → Refusal
 refusalOf Verdict.Passed = noTable
 refusalOf (Verdict.Refused r) = r
 
-module _ (d img : List ℕ) (q : Asked) (s : Survey) (ready : TableReady d img q s) (h : Fields) (hd : h ≡ fieldsAt d (s .next)) where
+module _ (d img : List ℕ) (q : Asked) (s : Survey) (ready : TableReady d img q s) where
   abbrev g : Surveyed d img q s
   g = ready .surveyed
 
-  abbrev n : ℕ
-  n = itemCount d - s .next - 1
+  abbrev at : ℕ
+  at = s .next .at
 
-  abbrev rest : Tables
-  rest = tablesOf d (n - tabled (itemAt d (s .next)) n) 0 (s .next + 1 + tabled (itemAt d (s .next)) n)
+  abbrev f : Fields
+  f = fieldsAt d at
+
+  abbrev after : ℕ
+  after = at + 1 + f .first
 
   abbrev body : Body
-  body = bodyAt 4 d (s .next + 1) (h .first)
+  body = bodyAt 4 d (at + 1) (f .first)
 
-  split : tablesOf d (itemCount d - s .next) 0 (s .next) ≡ tableAt d (itemAt d (s .next)) (s .next) n rest
-  split = let e : itemCount d - s .next ≡ suc n = omega (arith, ready .more) in ap (λ (x : ℕ). tablesOf d x 0 (s .next)) e ∙ tables-step d (s .next) n
+  abbrev rest : Tables
+  rest = tablesOf d (itemCount d - after) 0 after
 
-  there : TableThere d (itemAt d (s .next)) (s .next) n rest
-  there = table-there d (itemAt d (s .next)) (s .next) n rest (subst FitTables split (g .fit))
+  -- the tables left are this one and the rest
+  record Left : Type 0 where
+    few : after ≤ itemCount d
+    is : tablesOf d (itemCount d - at) 0 at ≡ table at f body rest
 
-  is-table : tablesOf d (itemCount d - s .next) 0 (s .next) ≡ table (s .next) (h .manufacturer) (h .number) body rest
-  is-table = split ∙ there .is ∙ rw hd
+  left : Left
+  left =
+      let n = itemCount d - at - 1 in
+      let e : itemCount d - at ≡ suc n = omega (arith, ready .more) in
+      let split = ap (λ (x : ℕ). tablesOf d x 0 at) e ∙ tables-step d at n in
+      let there = table-there d (g .known) at n _ (subst (SoundTables (g .known)) split (g .sound)) in
+      let one = table-one d at (there .is-one) in
+      let more = there .few in
+      let same : tablesOf d (n - nested f) 0 (at + 1 + nested f) ≡ rest =
+      ap₂ (λ (a b : ℕ). tablesOf d a 0 b) (omega (arith, ready .more)) (omega arith) in
+      record { few = omega (arith, ready .more); is = split ∙ there .is ∙ ap (table at f body) same }
 
-  few : h .first ≤ n
-  few = rw hd (there .few)
+  sound : SoundBody true (g .known) body × SoundTables (afterBody body (g .known)) rest
+  unfolding SoundTables
+  sound = subst (SoundTables (g .known)) (left .is) (g .sound)
 
-  used : tabled (itemAt d (s .next)) n ≡ h .first
-  used = there .used ∙ sym (ap (λ (x : Fields). x .first) hd)
-
-  fits : FitTables (table (s .next) (h .manufacturer) (h .number) body rest)
-  fits = subst FitTables is-table (g .fit)
+  rises : RisesBody d 0 (at + 1) after body
+  rises = rises-body d 4 0 (at + 1) (f .first) (at + 1) after (omega arith) (omega (arith, left .few))
 
   abbrev aim : Aim
-  aim = record { start = s .start; name = q .name; from = q .from; octets = q .octets }
+  aim = record { start = s .start; wanted = q .item; from = q .from; octets = q .octets }
 
-  abbrev none-here : Found
-  none-here = record { spot = Nowhere; held = s .held }
+  -- the walk before it, at the item after the table's own
+  abbrev sets-off : (next octets : ℕ) → Walk
+  sets-off next octets = record { numbers = s .numbers; octets = record { 0 = octets }; row = alone Nowhere; held = false; next = record { at = next }; short = false }
 
-  abbrev from : Walk
-  from = record { numbers = s .numbers; octets = 0; found = none-here; next = s .next + 1; short = false }
+  pub table-ready : (next octets first : ℕ) → next ≡ at + 1 → octets ≡ 0 → first ≡ f .first → WalkBodyReady d img aim (sets-off next octets) first 4
+  table-ready next octets first e z i =
+      rw (e, z, i)
+      (record {
+        ready = record {
+          few = passed-laws d (ready .ready .passes) .few;
+          deep = omega arith;
+          small = ready .ready .small;
+          inside = omega (arith, g .inside);
+          going = refl;
+          slots = g .room;
+        };
+        there = omega (arith, left .few);
+        fit = fit-body true (g .known) body (sound .0);
+      })
 
-  pub table-ready : WalkBodyReady d img aim from (h .first) 4
-  unfolding FitTables
-  table-ready = record {
-    ready = record {
-      few = omega (arith, few, passed-laws d (ready .ready .passes) .few, ready .more);
-      there = omega (arith, few, ready .more);
-      deep = omega arith;
-      name = ready .ready .name;
-      small = ready .ready .small;
-      inside = omega (arith, g .inside);
-      going = refl;
-      found = tt;
-    };
-    fit = fits .0;
-  }
+  -- with the body laid out as o
+  abbrev Whole : Laid → Type 0
+  Whole o = layOut d img ≡ beforeAll (g .seats) (g .elements) (seated at f (s .start .0) o (λ t x. layTables rest img t x))
 
-  pub table-few : s .next + 1 + h .first ≤ 512
-  table-few = omega (arith, few, passed-laws d (ready .ready .passes) .few, ready .more)
-
-  whole-is : layOut d img ≡ beforeAll (g .seats) (g .elements) (seated (s .next) (h .manufacturer) (h .number) (s .start .0) (layBody body img false [] (g .slots) (s .start .0)) (λ t x. layTables rest img t x))
+  whole-is : Whole (layBody body img false (g .slots) (s .start .0))
   unfolding layTables
-  whole-is = g .whole ∙ ap (λ (x : Tables). beforeAll (g .seats) (g .elements) (layTables x img (g .slots) (s .start .0))) is-table
+  whole-is = g .whole ∙ ap (λ (x : Tables). beforeAll (g .seats) (g .elements) (layTables x img (g .slots) (s .start .0))) (left .is)
 
-  module _ (w : Walk) (walks : WalksBody d img aim from (h .first) 4 w) (r : Survey) (numbers : r .numbers ≡ w .numbers) (start : r .start .0 ≡ min (s .start .0 + w .octets) 18446744073709551615)
-      (next : r .next ≡ s .next + 1 + h .first) (seat : r .table ≡ firstTable (s .table) (seatIn h q (s .next) (s .start) (w .octets)))
-      (element : r .element ≡ firstFound (s .element) (s .start .0) (w .found .spot)) (held : r .held ≡ w .found .held) (verdict : r .verdict ≡ verdictOf (s .start .0) w) where
-    -- where it starts no octet is counted twice
-    ends : Ends aim none-here w (layBody body img false [] (g .slots) (s .start .0))
-    ends = let z : s .start .0 + 0 ≡ s .start .0 = omega arith in subst (λ (p : ℕ). Ends aim none-here w (layBody body img false [] (g .slots) p)) z (walks .ends (g .slots) (g .numbered))
+  abbrev row-here : def.Row
+  row-here = walkBody body img (g .slots) (s .start .0) (q .item)
+
+  rows-are : (o : Laid) → layBody body img false (g .slots) (s .start .0) ≡ o
+      → rowOf d img (q .item) ≡ firstRow (g .row) (firstRow row-here (rowAfter o (λ t x. walkTables rest img t x (q .item))))
+  unfolding walkTables
+  rows-are o e =
+      g .rows ∙ ap (λ (x : Tables). firstRow (g .row) (walkTables x img (g .slots) (s .start .0) (q .item))) (left .is)
+      ∙ ap (λ (z : Laid). firstRow (g .row) (firstRow row-here (rowAfter z (λ t x. walkTables rest img t x (q .item))))) e
+
+  module _ (w : Walk) (next octets first : ℕ) (ne : next ≡ at + 1) (oe : octets ≡ 0) (fe : first ≡ f .first) (walks : WalksBody d img aim (sets-off next octets) first 4 w) (r : Survey)
+      (numbers : r .numbers ≡ w .numbers) (start : r .start .0 ≡ min (s .start .0 + w .octets .0) 18446744073709551615) (goes : r .next .at ≡ min (next + first) 18446744073709551615)
+      (seat : r .first ≡ seatIn (s .first) (isFirst (s .first) f (q .first)) at (s .start) (w .octets .0))
+      (other : r .second ≡ seatIn (s .second) (isFirst (s .second) f (q .second)) at (s .start) (w .octets .0))
+      (element : r .element ≡ firstStanding (s .element) (record { start = s .start; row = w .row }))
+      (held : r .held ≡ heldAfter (s .held) (isFirst (s .first) f (q .first)) (q .from .0 + q .octets ≤? w .octets .0) (w .held))
+      (verdict : r .verdict ≡ verdictOf (s .start .0) w) where
+    few : itemCount d ≤ 512
+    few = passed-laws d (ready .ready .passes) .few
+
+    goes-on : r .next .at ≡ after
+    goes-on = omega (arith, goes, ne, fe, left .few, few)
+
+    -- what the walk came to
+    ends : Ends aim noRow false w row-here (layBody body img false (g .slots) (s .start .0))
+    ends =
+        let e : s .start .0 + octets ≡ s .start .0 = omega arith in
+        let walked : WalksBody d img aim (sets-off (at + 1) octets) (f .first) 4 w = rw (ne, fe) at walks in
+        subst (λ (p : ℕ). Ends aim noRow false w (walkBody body img (g .slots) p (q .item)) (layBody body img false (g .slots) p)) e
+        (walked .ends (g .slots) (g .known) true noRow (record { numbers = g .numbers; matches = g .matches; row-as = as-none 4 }) (sound .0))
+
+    reaches : Reaches img (OutsideBody body) (g .slots) (afterBody body (g .known)) (λ i. walkBody body img (g .slots) (s .start .0) i) (layBody body img false (g .slots) (s .start .0))
+    reaches = r-body img d body true 0 (at + 1) after (g .slots) (g .known) (s .start .0) (g .matches) (sound .0) rises
 
     verdict-going : w .short ≡ false → r .verdict ≡ Verdict.Passed
     unfolding verdictOf
     verdict-going e = verdict ∙ rw e
 
-    verdict-short : w .short ≡ true → r .verdict ≡ Verdict.Refused (imageShort (w .next) (s .start .0 + w .octets))
+    verdict-short : w .short ≡ true → r .verdict ≡ Verdict.Refused (imageShort (w .next .at) (s .start .0 + w .octets .0))
     unfolding verdictOf
-    verdict-short e = let m : min (s .start .0 + w .octets) 18446744073709551615 ≡ s .start .0 + w .octets = omega (arith, walks .inside, ready .ready .small) in verdict ∙ rw (e, m)
+    verdict-short e =
+        let m : min (s .start .0 + w .octets .0) 18446744073709551615 ≡ s .start .0 + w .octets .0 = omega (arith, walks .walked .inside, ready .ready .small) in
+        verdict ∙ rw (e, m)
 
-    laid-on : (ps : List Placed) (t : Slots) (x : ℕ) → Ends aim none-here w (laid ps t x)
-        → layOut d img ≡ beforeAll (g .seats) (g .elements) (seated (s .next) (h .manufacturer) (h .number) (s .start .0) (laid ps t x) (λ t x. layTables rest img t x)) → Surveyed d img q r
-    unfolding seated FitTables orElse further
-    laid-on ps t x e wh =
-        let t0 : Seat = record { item = s .next; manufacturer = h .manufacturer; number = h .number; start = s .start .0; size = x - s .start .0 } in
-        let st : r .start .0 ≡ x = start ∙ omega (arith, e .1, walks .inside, ready .ready .small) in
-        let le : s .start .0 ≤ 65535 = omega (arith, g .inside, ready .ready .small) in
-        let sz : w .octets ≡ x - s .start .0 = omega (arith, e .1) in
-        let at : s .next + 1 + tabled (itemAt d (s .next)) n ≡ r .next = ap (λ (y : ℕ). s .next + 1 + y) used ∙ sym next in
-        let left : n - tabled (itemAt d (s .next)) n ≡ itemCount d - r .next = omega (arith, used, next) in
-        let same : rest ≡ tablesOf d (itemCount d - r .next) 0 (r .next) = ap₂ (λ (a b : ℕ). tablesOf d a 0 b) left at in
+    -- what is told of the octets asked about, with this table
+    abbrev tells : TableFound → (before : Bool) → (length : ℕ) → (held : Bool) → Bool
+    tells z b l c = heldAfter b (isFirst z f (q .first)) (q .from .0 + q .octets ≤? l) c
+
+    laid-on : (ps : List Placed) (t : Slots) (x : ℕ) → layBody body img false (g .slots) (s .start .0) ≡ laid ps t x → WalkEnds aim noRow false w row-here ps t x
+        → Matches t (afterBody body (g .known)) → Whole (laid ps t x) → Surveyed d img q r
+    unfolding seated rowAfter firstRow Every
+    laid-on ps t x is e m wh =
+        let t0 : Seat = record { item = at; manufacturer = f .manufacturer; number = f .number; start = s .start .0; size = x - s .start .0 } in
+        let st : r .start .0 ≡ x = start ∙ omega (arith, e .here, walks .walked .inside, ready .ready .small) in
+        let sz : w .octets .0 ≡ x - s .start .0 = omega (arith, e .here) in
+        let same : tablesOf d (itemCount d - r .next .at) 0 (r .next .at) ≡ rest = ap (λ (j : ℕ). tablesOf d (itemCount d - j) 0 j) goes-on in
+        let fill = consecutive-fill (laying-body d img body 0 (at + 1) after rises false (g .slots) (s .start .0) is .consecutive) in
         record {
           seats = g .seats ++ (t0 ∷ []);
           elements = g .elements ++ ps;
           slots = t;
-          numbered = subst⁻¹ (λ (l : List ℕ). Numbered t (numbersIn l)) numbers (e .2);
+          known = afterBody body (g .known);
+          row = firstRow (g .row) row-here;
+          numbers = e .numbers ∙ ap numbersIn (sym numbers);
+          room = rw numbers (walks .walked .slots);
+          matches = m;
           whole = wh ∙ before-one (g .seats) (g .elements) t0 ps (layTables rest img t x)
-              ∙ ap₂ (λ (a : Tables) (b : ℕ). beforeAll (g .seats ++ (t0 ∷ [])) (g .elements ++ ps) (layTables a img t b)) same (sym st);
-          fit = subst FitTables same (fits .1);
-          ordered = omega (arith, next, few, ready .more);
-          inside = omega (arith, st, e .1, walks .inside);
-          table = seat ∙ ap₂ firstTable (g .table) (rw sz (sym (seat-one q h (s .next) (x - s .start .0) (s .start)))) ∙ sym (seat-append (q .manufacturer) (q .number) (g .seats) (t0 ∷ []));
-          element = element ∙ ap (λ (y : Place). firstFound y (s .start .0) (w .found .spot)) (g .element) ∙ found-is _ _ _ _ le (walks .found)
-              ∙ ap (placeAt noElement) (ap (orElse (seen (q .name .item) (leftOf (q .name) 0) (g .elements))) (e .3 .spot) ∙ sym (seen-append _ _ (g .elements) ps));
-          held = held ∙ e .3 .held ∙ ap (λ (y : Bool). y || anyDimension ps (q .from .0) (q .octets)) (g .held) ∙ sym (holds-append (q .from .0) (q .octets) (g .elements) ps);
+              ∙ ap₂ (λ (a : Tables) (b : ℕ). beforeAll (g .seats ++ (t0 ∷ [])) (g .elements ++ ps) (layTables a img t b)) (sym same) (sym st);
+          rows = rows-are (laid ps t x) is ∙ first-assoc (g .row) row-here _
+              ∙ ap₂ (λ (a : Tables) (b : ℕ). firstRow (firstRow (g .row) row-here) (walkTables a img t b (q .item))) (sym same) (sym st);
+          sound = subst (SoundTables (afterBody body (g .known))) (sym same) (sound .1);
+          ordered = omega (arith, goes-on, left .few);
+          inside = omega (arith, st, e .here, walks .walked .inside);
+          seats-end = rw st (every-append (λ u. u .start + u .size ≤ x) (g .seats) (t0 ∷ [])
+              (every-map (λ u. u .start + u .size ≤ s .start .0) _ (λ u h. omega (arith, fill .order)) (g .seats) (g .seats-end)) (omega (arith, fill .order), tt));
+          elements-end = rw st (every-append (λ u. u .start + u .size ≤ x) (g .elements) ps
+              (every-map (λ u. u .start + u .size ≤ s .start .0) _ (λ u h. omega (arith, fill .order)) (g .elements) (g .elements-end))
+              (every-map (Lies (s .start .0) x) _ (λ u h. h .ends) ps (fill .lies)));
+          first = seat ∙ ap₂ (λ (z : TableFound) (l : ℕ). seatIn z (isFirst z f (q .first)) at (s .start) l) (g .first) sz
+              ∙ sym (seat-more (q .first) (g .seats) f at (s .start .0) (x - s .start .0));
+          second = other ∙ ap₂ (λ (z : TableFound) (l : ℕ). seatIn z (isFirst z f (q .second)) at (s .start) l) (g .second) sz
+              ∙ sym (seat-more (q .second) (g .seats) f at (s .start .0) (x - s .start .0));
+          element = subst (λ (z : Standing). StandsAs z (firstRow (g .row) row-here)) (sym element) (standing-first (s .element) _ (g .row) row-here (g .element)
+              (record { inTable = e .rowIs .inTable; is = e .rowIs .is; row-as = e .rowIs .row-as; early = omega (arith, g .inside, ready .ready .small) }));
+          held = held ∙ ap₂ (λ (z : TableFound) (b : Bool). tells z b (w .octets .0) (w .held)) (g .first) (g .held)
+              ∙ ap₂ (λ (l : ℕ) (b : Bool). tells (tableFound (tableNamed (q .first .manufacturer) (q .first .number) (g .seats)))
+              (heldIn (q .from .0) (q .octets) (tableNamed (q .first .manufacturer) (q .first .number) (g .seats)) (g .elements)) l b) sz (e .holds)
+              ∙ sym (held-more (q .first) (q .from .0) (q .octets) (s .start .0) (g .seats) (g .elements) ps f at x
+              (fill .order) (g .seats-end) (g .elements-end) (fill .lies));
         }
 
-    short-here : (ps : List Placed) (i x : ℕ) → Ends aim none-here w (stopped ps (short i x))
-        → layOut d img ≡ beforeAll (g .seats) (g .elements) (seated (s .next) (h .manufacturer) (h .number) (s .start .0) (stopped ps (short i x)) (λ t x. layTables rest img t x))
+    short-here : (ps : List Placed) (i x : ℕ) → Ends aim noRow false w row-here (stopped ps (short i x)) → Whole (stopped ps (short i x))
         → openLaid (layOut d img) ≡ refused (refusalOf (r .verdict))
     unfolding seated beforeAll openLaid stopRefusal
     short-here ps i x e wh = ap openLaid wh ∙ sym (ap (λ (v : Verdict). refused (refusalOf v)) (verdict-short (e .0)) ∙ rw (e .1, e .2))
 
-    -- what a passed description never meets
-    never : (ps : List Placed) (x : Stop) → (Lays (stoppedAt (g .elements ++ ps) x) → ⊥)
-        → layOut d img ≡ beforeAll (g .seats) (g .elements) (seated (s .next) (h .manufacturer) (h .number) (s .start .0) (stopped ps x) (λ t x. layTables rest img t x)) → ⊥
-    unfolding seated beforeAll
-    never ps x clash wh = clash (subst Lays wh (passed-lays d img (ready .ready .passes)))
-
     pub table-as : TableAs d img q s r
-    unfolding Lays
-    table-as = go (layBody body img false [] (g .slots) (s .start .0)) ends whole-is
+    table-as = go (layBody body img false (g .slots) (s .start .0)) refl ends reaches whole-is
       where
-        go : (o : Laid) → Ends aim none-here w o
-            → layOut d img ≡ beforeAll (g .seats) (g .elements) (seated (s .next) (h .manufacturer) (h .number) (s .start .0) o (λ t x. layTables rest img t x)) → TableAs d img q s r
-        go (laid ps t x) e wh = record {
-          passed = λ v. (laid-on ps t x e wh, omega (arith, next));
-          stopped = λ y v. absurd (false≢true (sym (ap isPassed v) ∙ ap isPassed (verdict-going (e .0))));
+        go : (o : Laid) → layBody body img false (g .slots) (s .start .0) ≡ o → Ends aim noRow false w row-here o
+            → Reaches img (OutsideBody body) (g .slots) (afterBody body (g .known)) (λ i. walkBody body img (g .slots) (s .start .0) i) o → Whole o → TableAs d img q s r
+        go (laid ps t x) is e m wh = record {
+          passed = λ v. (laid-on ps t x is e (m .matches) wh, omega (arith, goes-on));
+          stopped = λ y v. absurd (false≢true (sym (ap isPassed v) ∙ ap isPassed (verdict-going (e .going))));
         }
-        go (stopped ps (unreadDimension i)) e wh = absurd (never ps (unreadDimension i) (λ l. l) wh)
-        go (stopped ps (bitOutside i)) e wh = absurd (never ps (bitOutside i) (λ l. l) wh)
-        go (stopped ps (unequalElements i)) e wh = absurd (never ps (unequalElements i) (λ l. l) wh)
-        go (stopped ps (short i x)) e wh = record {
+        go (stopped ps (fault z i)) is e m wh = absurd m
+        go (stopped ps (short i x)) is e m wh = record {
           passed = λ v. absurd (false≢true (sym (ap isPassed (verdict-short (e .0))) ∙ ap isPassed v));
           stopped = λ y v. short-here ps i x e wh ∙ ap (λ (z : Verdict). refused (refusalOf z)) v;
         }
-        go (stopped ps (noItem i)) e wh = absurd (never ps (noItem i) (λ l. l) wh)
 
 -- AT THE END
-pub laid-all : (d img : List ℕ) (q : Asked) (s : Survey) → Surveyed d img q s → itemCount d ≤ s .next → q .name .count ≤ 4 → (total : ℕ) → total ≡ s .start .0
-    → record { verdict = Verdict.Passed; total = total; table = s .table; element = s .element; held = s .held } ≡ answerTo q (openLaid (layOut d img))
-unfolding layTables beforeAll openLaid answerTo
-laid-all d img q s g le h total e =
-    let z : itemCount d - s .next ≡ 0 = omega arith in
-    let none : tablesOf d (itemCount d - s .next) 0 (s .next) ≡ noMore = ap (λ (x : ℕ). tablesOf d x 0 (s .next)) z ∙ tables-none d (s .next) in
+pub laid-all : (d img : List ℕ) (q : Asked) (s : Survey) → Surveyed d img q s → itemCount d ≤ s .next .at → (total : ℕ) → total ≡ s .start .0
+    → AnswerAs d img q (record { verdict = Verdict.Passed; total = total; first = s .first; second = s .second; element = s .element; held = s .held }) (openLaid (layOut d img))
+unfolding layTables walkTables beforeAll openLaid
+laid-all d img q s g le total e =
+    let z : itemCount d - s .next .at ≡ 0 = omega arith in
+    let none : tablesOf d (itemCount d - s .next .at) 0 (s .next .at) ≡ noMore = ap (λ (x : ℕ). tablesOf d x 0 (s .next .at)) z ∙ tables-none d (s .next .at) in
     let w : layOut d img ≡ laidOut (g .seats) (g .elements) (g .slots) (s .start .0) = g .whole
     ∙ ap (λ (x : Tables). beforeAll (g .seats) (g .elements) (layTables x img (g .slots) (s .start .0))) none
     ∙ ap₂ (λ (a : List Seat) (b : List Placed). laidOut a b (g .slots) (s .start .0)) (append-nil (g .seats)) (append-nil (g .elements)) in
-    rw (w, e, g .table, g .element, g .held, element-is (q .name) (g .elements) h)
+    let rows : g .row ≡ rowOf d img (q .item) = sym (g .rows ∙ ap (λ (x : Tables). firstRow (g .row) (walkTables x img (g .slots) (s .start .0) (q .item))) none ∙ first-none-right (g .row)) in
+    rw w (record { passed = refl; total = e; first = g .first; second = g .second; element = subst (StandsAs (s .element)) rows (g .element); held = g .held })
 
 -- 1 TO 9 COME FIRST
 module _ (d img : List ℕ) (q : Asked) (r : Answer) where
-  pub opened-refused : (x : Refusal) → checkReply d ≡ Verdict.Refused x → r ≡ refusedBy x → r ≡ answerTo q (openImage d img)
-  unfolding openImage openSound answerTo
+  pub opened-refused : (x : Refusal) → checkReply d ≡ Verdict.Refused x → r ≡ refusedBy x → AnswerAs d img q r (openImage d img)
+  unfolding openImage openSound
   opened-refused x e h = rw e h
 
-  pub opened-long : checkReply d ≡ Verdict.Passed → 65535 < length img → r ≡ refusedBy imageTooLong → r ≡ answerTo q (openImage d img)
-  unfolding openImage openSound answerTo
+  pub opened-long : checkReply d ≡ Verdict.Passed → 65535 < length img → r ≡ refusedBy imageTooLong → AnswerAs d img q r (openImage d img)
+  unfolding openImage openSound
   opened-long e l h = rw (e, lt-ltb 65535 (length img) l) h
 
-  pub opened-laid : checkReply d ≡ Verdict.Passed → length img ≤ 65535 → r ≡ answerTo q (openLaid (layOut d img)) → r ≡ answerTo q (openImage d img)
+  pub opened-laid : checkReply d ≡ Verdict.Passed → length img ≤ 65535 → AnswerAs d img q r (openLaid (layOut d img)) → AnswerAs d img q r (openImage d img)
   unfolding openImage openSound
   opened-laid e l h = rw (e, le-ltb 65535 (length img) l) h
 
   -- the refusal that laying out comes to
-  pub laid-refused : (x : Refusal) → openLaid (layOut d img) ≡ refused x → r ≡ refusedBy x → r ≡ answerTo q (openLaid (layOut d img))
-  unfolding answerTo
+  pub laid-refused : (x : Refusal) → openLaid (layOut d img) ≡ refused x → r ≡ refusedBy x → AnswerAs d img q r (openLaid (layOut d img))
   laid-refused x e h = rw e h

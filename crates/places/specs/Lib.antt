@@ -1,4 +1,5 @@
-pub mod Parts
+pub mod Rows
+pub mod Measuring
 pub mod Walking
-pub mod Opening
 pub mod Surveying
+pub mod Opening

@@ -1,37 +1,58 @@
--- THE IMAGE OPENED: what one walk tells of it, to whoever asks. Assumes nothing.
-use mathlib.Core.Bool.{false}
+-- WHAT THE PUBLIC CALLS TELL of an image that is opened. Assumes nothing.
+use Prim.Native.Nat.{ℕ, _+_, min}
+use mathlib.Core.List.{List}
 use mathlib.Core.Option.{Option, some, none}
-use lib.ListN.{replicate}
+use Rattle.meaning.specs.declared.ElementName.{ElementName}
 use Rattle.meaning.specs.declared.Place.{Place}
-use Rattle.meaning.specs.declared.Refusal.{Refusal}
 use Rattle.meaning.specs.declared.Verdict.{Verdict}
-use Rattle.meaning.specs.Layout.{Seat, tableNamed}
-use Rattle.meaning.specs.Refusals.{Opened, opened, refused, elementIn, placedPlace, anyDimension}
-use Rattle.places.specs.declared.Asked.{Asked}
-use Rattle.places.specs.declared.Answer.{Answer}
-use Rattle.places.specs.declared.TableFound.{TableFound}
-use Rattle.places.specs.declared.TableFound.the-variants.{No, Yes}
+use Rattle.meaning.specs.Layout.{Seat, Placed, tableNamed}
+use Rattle.meaning.specs.Numbers.{noTable, noElement}
+use Rattle.meaning.specs.Refusals.{Opened, opened, refused}
+use Rattle.laying.specs.Rows.{Spot, spot, absent}
+use Rattle.offsets.specs.declared.TableOffset.{TableOffset}
+use Rattle.places.specs.declared.Ranged.{Ranged}
+use Rattle.places.specs.declared.survey.Asked.{Asked}
+use Rattle.places.specs.declared.survey.Standing.{Standing}
+use Rattle.places.specs.declared.survey.TableFound.{TableFound}
+use Rattle.places.specs.declared.survey.TableFound.the-variants.{No, Yes}
+use Rattle.places.specs.Rows.{spotBy}
+use Rattle.places.specs.Surveying.{heldIn}
 
 -- for those who ask for less
-unfoldable pub nothingAsked : Asked
-nothingAsked = record { manufacturer = 0; number = 0; name = record { item = 0; count = 0; subscripts = replicate 4 0 }; from = record { 0 = 0 }; octets = 0 }
-
--- a table found: its item, where it starts, how long it is
-unfoldable pub tableFound : Option Seat → TableFound
-tableFound none = No
-tableFound (some t) = Yes (t .item) (record { 0 = t .start }) (t .size)
-
--- an answer that is a refusal
-abbrev pub refusedBy : Refusal → Answer
-refusedBy r = record { verdict = Verdict.Refused r; total = 0; table = No; element = Place.Refused r; held = false }
-
--- the total, where the table and the element asked for are, and whether the octets asked about hold one of a dimension
-unfoldable pub answerTo : Asked → Opened → Answer
-answerTo q (opened ts es s n) = record {
-  verdict = Verdict.Passed;
-  total = n;
-  table = tableFound (tableNamed (q .manufacturer) (q .number) ts);
-  element = placedPlace (elementIn (q .name) es);
-  held = anyDimension es (q .from .0) (q .octets);
+abbrev pub nothingAsked : Asked
+nothingAsked = record {
+  first = record { manufacturer = 0; number = 0 };
+  second = record { manufacturer = 0; number = 0 };
+  item = 0;
+  from = record { 0 = 0 };
+  octets = 0;
 }
-answerTo q (refused r) = refusedBy r
+
+-- WHERE AN ELEMENT IS, by its item's row
+-- a spot of the table that starts at p; a sum that can't be counted stands at the last number
+unfoldable pub spotPlace : (p : ℕ) → Spot → Place
+spotPlace p (spot o n) = Place.At (record { 0 = min (p + o) 18446744073709551615 }) n
+spotPlace p absent = Place.Refused noElement
+
+abbrev pub placeBy : Standing → ElementName → Place
+placeBy e q = spotPlace (e .start .0) (spotBy (e .row) q)
+
+-- WHERE A TABLE IS
+-- the verdict's refusal, or else the place given
+unfoldable pub refusalOr : Verdict → Place → Place
+refusalOr Verdict.Passed p = p
+refusalOr (Verdict.Refused r) p = Place.Refused r
+
+-- where the table found is, or none
+unfoldable pub foundPlace : TableFound → Place
+foundPlace No = Place.Refused noTable
+foundPlace (Yes i s n) = Place.At (record { 0 = s .0 }) n
+
+-- A RANGE: the table that it may lie in, and whether it lies in it and holds an octet of a dimension
+unfoldable pub rangeOf : (o n : ℕ) → Option Seat → List Placed → Ranged
+rangeOf o n none es = Ranged.Refused noTable
+rangeOf o n (some t) es = Ranged.In (t .item) (record { 0 = t .start }) (t .size) (heldIn o n (some t) es)
+
+unfoldable pub rangeIn : (manufacturer number : ℕ) → TableOffset → (n : ℕ) → Opened → Ranged
+rangeIn m k o n (opened ts es s l) = rangeOf (o .0) n (tableNamed m k ts) es
+rangeIn m k o n (refused r) = Ranged.Refused r

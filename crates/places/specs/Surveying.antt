@@ -1,108 +1,136 @@
 -- THE WHOLE IMAGE: what laying the tables one after another promises, by what laying out comes to. Assumes nothing.
 use Prim.Native.Nat.{ℕ, _+_, _-_, _<_, _≤_, min}
 use mathlib.Core.Path.{_≡_}
-use mathlib.Core.Bool.{_&&_}
+use mathlib.Core.Bool.{Bool, false, _&&_}
 use mathlib.Core.List.{List, _++_}
+use mathlib.Core.Option.{Option, some, none}
 use lib.ListN.{length}
-use Rattle.meaning.specs.Basics.{if_then_else_, _=?_}
+use Rattle.meaning.specs.Basics.{if_then_else_, _=?_, _≤?_}
 use Rattle.meaning.specs.declared.Fields.{Fields}
-use Rattle.meaning.specs.declared.Place.{Place}
 use Rattle.meaning.specs.declared.Refusal.{Refusal}
 use Rattle.meaning.specs.declared.Verdict.{Verdict}
 use Rattle.meaning.specs.Description.{itemCount}
 use Rattle.meaning.specs.Passed.{Passes}
 use Rattle.meaning.specs.Layout.{Placed, Seat, Slots, Layout, laidOut, stoppedAt, layTables, layOut, tablesOf, tableNamed}
-use Rattle.meaning.specs.Refusals.{refused, openLaid, anyDimension}
-use Rattle.meaning.specs.Numbers.{imageShort, noTable, noElement, numbered}
-use Rattle.laying.specs.declared.Spot.{Spot}
-use Rattle.laying.specs.declared.Spot.the-variants.{Nowhere, At}
-use Rattle.laying.specs.Sizes.{seen}
-use Rattle.laying.specs.Sound.{FitTables}
-use Rattle.laying.specs.Slots.{Numbered}
+use Rattle.meaning.specs.Numbers.{imageShort}
+use Rattle.meaning.specs.Refusals.{Opened, opened, refused, openLaid, anyDimension}
+use Rattle.laying.specs.Every.{Every}
+use Rattle.laying.specs.Rows.{firstRow, onward, walkTables, rowOf}
+use Rattle.laying.specs.Rows as def
+use Rattle.laying.specs.Slots.{numbersOf, Matches}
+use Rattle.laying.specs.Sound.{Known, SoundTables}
 use Rattle.offsets.specs.declared.TableStart.{TableStart}
-use Rattle.places.specs.declared.Asked.{Asked}
-use Rattle.places.specs.declared.TableFound.{TableFound}
-use Rattle.places.specs.declared.TableFound.the-variants.{No, Yes}
-use Rattle.places.specs.declared.Survey.{Survey}
-use Rattle.places.specs.declared.Answer.{Answer}
-use Rattle.places.specs.declared.Walk.{Walk}
-use Rattle.places.specs.Parts.{numbersIn, leftOf, NameReady}
-use Rattle.places.specs.Opening.{tableFound}
+use Rattle.places.specs.declared.rows.Stands.the-variants.{Nowhere}
+use Rattle.places.specs.declared.survey.Answer.{Answer}
+use Rattle.places.specs.declared.survey.Asked.{Asked}
+use Rattle.places.specs.declared.survey.Standing.{Standing}
+use Rattle.places.specs.declared.survey.Survey.{Survey}
+use Rattle.places.specs.declared.survey.TableFound.{TableFound}
+use Rattle.places.specs.declared.survey.TableFound.the-variants.{No, Yes}
+use Rattle.places.specs.declared.survey.TableName.{TableName}
+use Rattle.places.specs.declared.walk.Walk.{Walk}
+use Rattle.places.specs.Measuring.{numbersIn}
+use Rattle.places.specs.Rows.{RowAs, alone, firstBy}
 
--- the table of that item, if it is the one asked for; and the first of two
-unfoldable pub seatIn : Fields → Asked → (item : ℕ) → TableStart → (length : ℕ) → TableFound
-seatIn h q i s n = if h .manufacturer =? q .manufacturer && h .number =? q .number then Yes i s n else No
+-- WHAT IS FOUND
+-- a table found: its item, where it starts, how long it is
+unfoldable pub tableFound : Option Seat → TableFound
+tableFound none = No
+tableFound (some t) = Yes (t .item) (record { 0 = t .start }) (t .size)
 
-unfoldable pub firstTable : TableFound → TableFound → TableFound
-firstTable No y = y
-firstTable (Yes i s n) y = Yes i s n
+-- a table is the one of that name, and none was found before
+unfoldable pub isFirst : TableFound → Fields → TableName → Bool
+isFirst No h n = h .manufacturer =? n .manufacturer && h .number =? n .number
+isFirst (Yes i s l) h n = false
 
--- what stands in the table at p, or else what is given; a sum that can't be counted stands at the last number
-unfoldable pub inTable : Place → (p : ℕ) → Spot → Place
-inTable otherwise p Nowhere = otherwise
-inTable otherwise p (At o n) = Place.At (record { 0 = min (p + o) 18446744073709551615 }) n
+unfoldable pub seatIn : (before : TableFound) → (this : Bool) → (item : ℕ) → TableStart → (length : ℕ) → TableFound
+seatIn before this i s n = if this then Yes i s n else before
 
-unfoldable pub firstFound : Place → (p : ℕ) → Spot → Place
-firstFound (Place.At s n) p x = Place.At s n
-firstFound (Place.Refused r) p x = inTable (Place.Refused r) p x
+abbrev pub firstStanding : Standing → Standing → Standing
+firstStanding a b = firstBy (a .row .stands) a b
 
--- WHERE THINGS ARE, in the lists that laying out gives
--- the place at a spot of the image, or a refusal
-unfoldable pub placeAt : Refusal → Spot → Place
-placeAt r Nowhere = Place.Refused r
-placeAt r (At p n) = Place.At (record { 0 = p }) n
+-- n octets from offset o on of a table lie in it, and hold an octet of a dimension
+unfoldable pub heldIn : (o n : ℕ) → Option Seat → List Placed → Bool
+heldIn o n none es = false
+heldIn o n (some t) es = o + n ≤? t .size && anyDimension es (t .start + o) n
 
+unfoldable pub heldAfter : (before this fits held : Bool) → Bool
+heldAfter before this fits held = if this then fits && held else before
+
+-- whether the walk over the table at p came to its end
+unfoldable pub verdictOf : (p : ℕ) → Walk → Verdict
+verdictOf p w =
+    if w .short then Verdict.Refused (imageShort (w .next .at) (min (p + w .octets .0) 18446744073709551615))
+    else Verdict.Passed
+
+-- a row of the image, in the table where it stands
+pub record StandsAs (e : Standing) (r : def.Row) : Type 0 where
+  pub inTable : def.Row
+  pub is : r ≡ onward (e .start .0) inTable
+  pub row-as : RowAs 4 (e .row) inTable
+  pub early : e .start .0 ≤ 65535
+
+-- THE TABLES BEFORE item s.next ARE LAID
 -- what was laid before, then the rest
 unfoldable pub beforeAll : List Seat → List Placed → Layout → Layout
 beforeAll ts ps (laidOut us qs s n) = laidOut (ts ++ us) (ps ++ qs) s n
 beforeAll ts ps (stoppedAt qs x) = stoppedAt (ps ++ qs) x
 
-pub record SurveyReady (d img : List ℕ) (q : Asked) : Type 0 where
+pub record SurveyReady (d img : List ℕ) : Type 0 where
   pub passes : Passes d
   pub small : length img ≤ 65535
-  pub name : NameReady (q .name) 0
 
--- the tables before item s.next are laid
 pub record Surveyed (d img : List ℕ) (q : Asked) (s : Survey) : Type 0 where
   pub seats : List Seat
   pub elements : List Placed
   pub slots : Slots
-  pub numbered : Numbered slots (numbersIn (s .numbers))
-  pub whole : layOut d img ≡ beforeAll seats elements (layTables (tablesOf d (itemCount d - s .next) 0 (s .next)) img slots (s .start .0))
-  pub fit : FitTables (tablesOf d (itemCount d - s .next) 0 (s .next))
-  pub ordered : s .next ≤ itemCount d
+  pub known : Known
+  pub row : def.Row
+  pub numbers : numbersOf slots ≡ numbersIn (s .numbers)
+  pub room : length (s .numbers) ≡ 64
+  pub matches : Matches slots known
+  pub whole : layOut d img ≡ beforeAll seats elements (layTables (tablesOf d (itemCount d - s .next .at) 0 (s .next .at)) img slots (s .start .0))
+  pub rows : rowOf d img (q .item) ≡ firstRow row (walkTables (tablesOf d (itemCount d - s .next .at) 0 (s .next .at)) img slots (s .start .0) (q .item))
+  pub sound : SoundTables known (tablesOf d (itemCount d - s .next .at) 0 (s .next .at))
+  pub ordered : s .next .at ≤ itemCount d
   pub inside : s .start .0 ≤ length img
-  pub table : s .table ≡ tableFound (tableNamed (q .manufacturer) (q .number) seats)
-  pub element : s .element ≡ placeAt noElement (seen (q .name .item) (leftOf (q .name) 0) elements)
-  pub held : s .held ≡ anyDimension elements (q .from .0) (q .octets)
+  pub seats-end : Every (λ t. t .start + t .size ≤ s .start .0) seats
+  pub elements-end : Every (λ e. e .start + e .size ≤ s .start .0) elements
+  pub first : s .first ≡ tableFound (tableNamed (q .first .manufacturer) (q .first .number) seats)
+  pub second : s .second ≡ tableFound (tableNamed (q .second .manufacturer) (q .second .number) seats)
+  pub element : StandsAs (s .element) row
+  pub held : s .held ≡ heldIn (q .from .0) (q .octets) (tableNamed (q .first .manufacturer) (q .first .number) seats) elements
 
 pub record TableReady (d img : List ℕ) (q : Asked) (s : Survey) : Type 0 where
-  pub ready : SurveyReady d img q
+  pub ready : SurveyReady d img
   pub surveyed : Surveyed d img q s
-  pub more : s .next < itemCount d
-
--- whether the walk over the table at p came to its end
-unfoldable pub verdictOf : (p : ℕ) → Walk → Verdict
-verdictOf p w =
-    if w .short then Verdict.Refused (imageShort (w .next) (min (p + w .octets) 18446744073709551615))
-    else Verdict.Passed
+  pub more : s .next .at < itemCount d
 
 -- one table more, or the refusal that laying out comes to
 pub record TableAs (d img : List ℕ) (q : Asked) (s : Survey) (r : Survey) : Type 0 where
-  pub passed : r .verdict ≡ Verdict.Passed → Surveyed d img q r × (s .next < r .next)
+  pub passed : r .verdict ≡ Verdict.Passed → Surveyed d img q r × (s .next .at < r .next .at)
   pub stopped : (x : Refusal) → r .verdict ≡ Verdict.Refused x → openLaid (layOut d img) ≡ refused x
 
 -- THE ANSWER
--- the verdict's refusal, or else the place given
-unfoldable pub refusalOr : Verdict → Place → Place
-refusalOr Verdict.Passed p = p
-refusalOr (Verdict.Refused r) p = Place.Refused r
+pub record Answers (d img : List ℕ) (q : Asked) (a : Answer) (ts : List Seat) (es : List Placed) (n : ℕ) : Type 0 where
+  pub passed : a .verdict ≡ Verdict.Passed
+  pub total : a .total ≡ n
+  pub first : a .first ≡ tableFound (tableNamed (q .first .manufacturer) (q .first .number) ts)
+  pub second : a .second ≡ tableFound (tableNamed (q .second .manufacturer) (q .second .number) ts)
+  pub element : StandsAs (a .element) (rowOf d img (q .item))
+  pub held : a .held ≡ heldIn (q .from .0) (q .octets) (tableNamed (q .first .manufacturer) (q .first .number) ts) es
 
--- the same answer to one who asks for an element that can't be named
-unfoldable pub unnamedOf : Answer → Answer
-unnamedOf r = record { verdict = r .verdict; total = r .total; table = r .table; element = refusalOr (r .verdict) (Place.Refused noElement); held = r .held }
+abbrev pub refusedBy : Refusal → Answer
+refusedBy r = record {
+  verdict = Verdict.Refused r;
+  total = 0;
+  first = No;
+  second = No;
+  element = record { start = record { 0 = 0 }; row = alone Nowhere };
+  held = false;
+}
 
--- where the table found is, or none
-unfoldable pub foundPlace : TableFound → Place
-foundPlace No = Place.Refused noTable
-foundPlace (Yes i s n) = Place.At (record { 0 = s .0 }) n
+-- of an image opened, or refused
+abbrev pub AnswerAs : (description image : List ℕ) → Asked → Answer → Opened → Type 0
+AnswerAs d img q a (opened ts es s n) = Answers d img q a ts es n
+AnswerAs d img q a (refused r) = a ≡ refusedBy r

@@ -8,7 +8,7 @@ use lib.Seq.{length-take-le}
 use native.Mathlib.Omega.{arith}
 use borrow.Author.Tests.{lt-ltb, le-ltb}
 use Rattle.meaning.specs.Basics.{_=?_, _≤?_, part, numberIn}
-use Rattle.meaning.specs.Calendar.{tripleAt, triples, entryIf, orLater, latest, realTime, yearOf, recordReal, recordDay, action, seasonEntry, specialEntry, counts, switchMinute, switchEntry}
+use Rattle.meaning.specs.Calendar.{tripleAt, triples, entryIf, orLater, latest, realTime, yearOf, recordReal, recordDay, action, counts, switchMinute, switchEntry}
 use Rattle.meaning.specs.declared.Chosen.{Chosen}
 use Rattle.meaning.specs.declared.Chosen.the-variants.{Nothing}
 use Rattle.meaning.specs.declared.Quantity.{Quantity}
@@ -21,7 +21,7 @@ use Rattle.dates.specs.declared.Day.{Day}
 use Rattle.dates.specs.Days.{dayOf}
 use Rattle.dates.proofs.Laws.{told}
 use Rattle.records.specs.declared.Wanted.{Wanted}
-use Rattle.records.specs.Records.{recordDate, broughtTo, latestIn, Searching}
+use Rattle.records.specs.Records.{recordDate, dueOn, dateEntry, broughtTo, latestIn, Searching}
 
 -- A RECORD
 -- the two octets of its number, cut out
@@ -61,25 +61,18 @@ pub date-is : (r : Triple) (y : ℕ) (d : Day) → y ≡ yearOf (r .word % 128) 
 unfolding recordDate
 date-is r y d e h = h ∙ rw (e, from-bit-0 (r .word) 128)
 
--- what a record brings by its date: nothing without a real one
-module _ (today : ℕ) (r : Triple) (date : Day) (is : date ≡ recordDate r) where
-  pub season-none : date ≡ Day.NotReal → Nothing ≡ seasonEntry today r
-  unfolding recordDate seasonEntry recordReal
-  season-none e = rw (told _ _ _ Day.NotReal (sym is ∙ e))
+-- what it brings on a day, where its action is one of some: nothing without a real date
+module _ (once : Bool) (low high today : ℕ) (r : Triple) (date : Day) (is : date ≡ recordDate r) where
+  pub date-none : date ≡ Day.NotReal → Nothing ≡ dateEntry once low high today r
+  unfolding recordDate dateEntry recordReal
+  date-none e = rw (told _ _ _ Day.NotReal (sym is ∙ e))
 
-  pub special-none : date ≡ Day.NotReal → Nothing ≡ specialEntry today r
-  unfolding recordDate specialEntry recordReal
-  special-none e = rw (told _ _ _ Day.NotReal (sym is ∙ e))
-
-  -- else by its action
-  module _ (n : ℕ) (e : date ≡ Day.Number n) (a b : Bool) (k : ℕ) (x : Chosen) (x-is : x ≡ entryIf b n k) where
-    pub season-some : a ≡ (n ≤? today && 3 ≤? r .octet % 32) → b ≡ (a && r .octet % 32 ≤? 18) → k ≡ r .octet % 32 - 3 → x ≡ seasonEntry today r
-    unfolding recordDate seasonEntry recordReal recordDay
-    season-some f g h = let t = told _ _ _ (Day.Number n) (sym is ∙ e) in x-is ∙ rw (g, f, h, t .0, t .1, action-is r)
-
-    pub special-some : a ≡ (n =? today && 19 ≤? r .octet % 32) → b ≡ (a && r .octet % 32 ≤? 30) → k ≡ r .octet % 32 - 19 → x ≡ specialEntry today r
-    unfolding recordDate specialEntry recordReal recordDay
-    special-some f g h = let t = told _ _ _ (Day.Number n) (sym is ∙ e) in x-is ∙ rw (g, f, h, t .0, t .1, action-is r)
+  -- else by its day and its action
+  pub date-some : (n : ℕ) (due a b : Bool) (k : ℕ) (x : Chosen) → date ≡ Day.Number n → due ≡ dueOn once n today → a ≡ (due && low ≤? r .octet % 32)
+      → b ≡ (a && r .octet % 32 ≤? high) → k ≡ r .octet % 32 - low → x ≡ entryIf b n k → x ≡ dateEntry once low high today r
+  unfolding recordDate dateEntry recordReal recordDay
+  date-some n due a b k x e d-is a-is b-is k-is x-is =
+      let t = told _ _ _ (Day.Number n) (sym is ∙ e) in x-is ∙ rw (b-is, a-is, d-is, k-is, t .0, t .1, action-is r)
 
 -- A SWITCH, by its number, its time and its flags
 pub switch-is : (separate : Bool) (q : Quantity) (n m : ℕ) (r : Triple) (time a b c k : Bool) (x : Chosen) → time ≡ realTime (r .word / 2048 % 32) (r .word / 32 % 64)

@@ -13,8 +13,8 @@ use meaning::Triple;
 ghost use mathlib.Core.Path.{_≡_};
 ghost use Prim.Native.Nat.{_+_, _-_, _≤_};
 ghost use lib.ListN.{length};
-ghost use Rattle.meaning.specs.Calendar.{tripleAt, entryIf, orLater, yearOf, seasonEntry, specialEntry, flaggedFor, counts, switchEntry};
-ghost use Rattle.records.specs.Records.{recordDate, broughtTo, latestIn};
+ghost use Rattle.meaning.specs.Calendar.{tripleAt, entryIf, orLater, yearOf, flaggedFor, counts, switchEntry};
+ghost use Rattle.records.specs.Records.{recordDate, dueOn, dateEntry, broughtTo, latestIn};
 
 // What is wanted of some records.
 pub enum Wanted {
@@ -85,32 +85,31 @@ fn record_date(triple: Triple) -> Day
     dates::day_of(year, triple.word / 128 % 16, triple.word / 2048 % 32)
 }
 
-fn season_entry(today: u32, triple: Triple) -> Chosen
-    ensures { λ r. ⌜ r ≡ seasonEntry today triple ⌝ }
+// A season holds from its day on, a special schedule on that day alone: `once`.
+fn is_due(once: bool, when: u32, today: u32) -> bool
+    ensures { λ r. ⌜ r ≡ dueOn once when today ⌝ }
 {
-    let date = record_date(triple);
-    let action = triple.octet % 32;
-    match date {
-        Day::NotReal => Chosen::Nothing,
-        Day::Number(when) => entry_if(
-            both(both(when <= today, 3 <= action), action <= 18),
-            when,
-            above(action, 3),
-        ),
+    if once {
+        return when == today;
     }
+    when <= today
 }
 
-fn special_entry(today: u32, triple: Triple) -> Chosen
-    ensures { λ r. ⌜ r ≡ specialEntry today triple ⌝ }
+// What a date brings on a day, where its action is one of `low` to `high`.
+fn date_entry(once: bool, low: u32, high: u32, today: u32, triple: Triple) -> Chosen
+    ensures { λ r. ⌜ r ≡ dateEntry once low high today triple ⌝ }
 {
     let date = record_date(triple);
     let action = triple.octet % 32;
     match date {
         Day::NotReal => Chosen::Nothing,
         Day::Number(when) => entry_if(
-            both(both(when == today, 19 <= action), action <= 30),
+            both(
+                both(is_due(once, when, today), low <= action),
+                action <= high,
+            ),
             when,
-            above(action, 19),
+            above(action, low),
         ),
     }
 }
@@ -158,8 +157,8 @@ fn brought_to(wanted: Wanted, triple: Triple) -> Chosen
     ensures { λ r. ⌜ r ≡ broughtTo wanted triple ⌝ }
 {
     match wanted {
-        Wanted::Season { today } => season_entry(today, triple),
-        Wanted::Special { today } => special_entry(today, triple),
+        Wanted::Season { today } => date_entry(false, 3, 18, today, triple),
+        Wanted::Special { today } => date_entry(true, 19, 30, today, triple),
         Wanted::Switch {
             separate,
             quantity,

@@ -11,15 +11,16 @@ use borrow.Author.Count.{below-more}
 use borrow.Author.Tests.{ltb-true, eqb-true, eqb-false, ne-eqb}
 use Rattle.meaning.specs.declared.Fields.{Fields}
 use Rattle.meaning.specs.declared.Round.{Round}
-use Rattle.meaning.specs.Description.{itemCount, itemAt, fieldsAt, isTable, nests, inside, round, slotOctets, lowestBroken, ruleBroken, breaks1}
+use Rattle.meaning.specs.Description.{itemCount, fieldsAt, isTable, nests, inside, round, slotOctets, lowestBroken, ruleBroken, breaks1}
 use Rattle.meaning.specs.Passed.{Keeps}
 use Rattle.meaning.proofs.Rules.{slot-none, slot-step, round-none, beyond, in-first, in-second, keeps, bodies, length-allowed}
+use Rattle.meaning.proofs.Ranges.{fields-range}
 use Rattle.meaning.proofs.Nesting.{one-more}
 use Rattle.items.specs.declared.Read.{Read}
 use Rattle.items.specs.Read.{readAt}
 use Rattle.items.proofs.ReadLaws.{range-read, fields-read, next-read}
 use Rattle.sound.specs.declared.Judged.{Judged}
-use Rattle.sound.specs.Walk.{Known, noted, JudgedAs, LevelsLeft, Fine, Quiet, Before, Entered, Clear, Broken, Going}
+use Rattle.sound.specs.Walk.{Known, noted, JudgedAs, LevelsLeft, Fine, Quiet, Before, Entered, Clear, Broken, Going, Turn}
 
 -- THE SLOTS
 -- a test on the octets of a slot that an item names
@@ -63,92 +64,89 @@ module _ (d : List ℕ) (at : ℕ) (slots : List ℕ) (k : Known d at slots) (sm
           }
 
 -- ONE ITEM READ AND JUDGED
-pub judged-as : (d : List ℕ) (at : ℕ) (slots : List ℕ) (r : Round) → Known d at slots → at < itemCount d
-    → {read : Read} {rule : ℕ} {later : List ℕ} → read ≡ readAt d at → rule ≡ lowestBroken d (read .fields) at r → later ≡ noted slots (read .fields)
-    → JudgedAs d at r slots (record { rule = rule; fields = read .fields; next = read .next; slots = later })
-judged-as d at slots r k h er e en =
+pub judged-as : (d : List ℕ) (at : ℕ) (r : Round) → at < itemCount d → {read : Read} {rule : ℕ} → read ≡ readAt d at → rule ≡ lowestBroken d (read .fields) at r
+    → JudgedAs d at r (record { rule = rule; fields = read .fields; next = read .next })
+judged-as d at r h er e =
     let is = fields-read d at h er in
-    let range = range-read d at er in
-    record {
-      fields = is;
-      range = range;
-      rule = e ∙ ap (λ (x : Fields). lowestBroken d x at r) is;
-      next = next-read d at h er;
-      known =
-          subst (λ (l : List ℕ). Known d (at + 1) l) (sym (en ∙ ap (noted slots) is))
-          (known-step d at slots k (subst (λ (x : Fields). x .sets < 64) is (range .sets)));
-    }
+    record { fields = is; range = range-read d at er; rule = e ∙ ap (λ (x : Fields). lowestBroken d x at r) is; next = next-read d at h er }
 
 -- ONE LEVEL DOWN: in the bodies of an item that breaks no rule one level fewer is left
 deeper : (d : List ℕ) (at : ℕ) (r : Round) (levels : ℕ) → LevelsLeft r levels → Keeps d (fieldsAt d at) at r → (fieldsAt d at .first + fieldsAt d at .second ≡ 0 → ⊥)
     → (0 < levels) × ((e : ℕ) → LevelsLeft (inside (fieldsAt d at) e r) (levels - 1))
 unfolding inside
 deeper d at r levels l k some =
-    let one = bodies (itemAt d at) some in
+    let one = bodies (fieldsAt d at) (fields-range d at) some in
     let more = one-more (isTable (fieldsAt d at)) (nests (fieldsAt d at)) _ _ one (k .top) (k .within) (k .shallow) (l .round .one) (l .round .four) in
     (omega arith, λ e. record { left = omega arith; round = record { one = more .0; four = more .1 } })
 
 -- ONE TURN: item `at` of a body, with r round it, judged
-module _ (d : List ℕ) (at : ℕ) (slots : List ℕ) (r : Round) (levels : ℕ) (b : Before d at slots r levels) (lt : at < r .limit) (j : Judged) (judged : JudgedAs d at r slots j) where
+module _ {d : List ℕ} {at : ℕ} {slots : List ℕ} {r : Round} {levels : ℕ} {j : Judged} (b : Before d at slots r levels) (more : at < r .limit) (judged : JudgedAs d at r j) where
   turn-is : ruleBroken d at ≡ j .rule
   unfolding ruleBroken
-  turn-is = rw (b .held at (omega arith) lt) (sym (judged .rule))
+  turn-is = rw (b .held at (omega arith) more) (sym (judged .rule))
 
   pub broke : Broken d at (j .rule)
   broke = record { fine = b .fine; breaks = turn-is; there = omega (arith, b .there .whole) }
 
-  module _ (z : j .rule ≡ 0) where
-    on : Keeps d (fieldsAt d at) at r
-    on = keeps d (fieldsAt d at) at r (sym (judged .rule) ∙ z)
+-- and it breaks no rule
+module _ {d : List ℕ} {from at : ℕ} {slots : List ℕ} {r : Round} {levels : ℕ} {j : Judged} {later : List ℕ} (turn : Turn d from at slots r levels j later) where
+  before : Before d at slots r levels
+  before = turn .going .now
 
-    enter-at : Entered d (fieldsAt d at) (at + 1) (j .slots) r levels
-    unfolding inside
-    enter-at =
+  on : Keeps d (fieldsAt d at) at r
+  on = keeps d (fieldsAt d at) at r (sym (turn .judged .rule) ∙ turn .passed)
+
+  known : Known d (at + 1) later
+  known = rw (turn .set, turn .judged .fields) (known-step d at slots (before .known) (fields-range d at .sets))
+
+  enter-at : Entered d (fieldsAt d at) (at + 1) later r levels
+  unfolding inside
+  enter-at =
+      record {
+        there = record { few = omega (arith, on .fits, before .there .few); whole = omega (arith, on .fits, before .there .whole) };
+        deeper = λ some. deeper d at r levels (before .levels-left) on some;
+        fine = below-more (λ (i : ℕ). ruleBroken d i ≡ 0) at (before .fine) (turn-is before (turn .more) (turn .judged) ∙ turn .passed);
+        known = known;
+        held-first = λ i p q. in-first d at i q ∙ ap (inside (fieldsAt d at) _) (before .held i (omega arith) (omega (arith, on .fits)));
+        held-second = λ i p q. in-second d at i p q ∙ ap (inside (fieldsAt d at) _) (before .held i (omega arith) (omega (arith, on .fits)));
+      }
+
+  -- the item's bodies may be gone into
+  pub enter : Entered d (j .fields) (j .next .at) later r levels
+  enter = subst₂ (λ (f : Fields) (n : ℕ). Entered d f n later r levels) (sym (turn .judged .fields)) (sym (turn .judged .next)) enter-at
+
+  -- and once they are clear, the check goes on after them
+  module _ {p : ℕ} {m : List ℕ} (c : Clear d (j .next .at) (j .next .at + j .fields .first + j .fields .second) p m) where
+    past : Clear d (at + 1) (at + 1 + fieldsAt d at .first + fieldsAt d at .second) p m
+    past = subst₂ (λ (f : Fields) (n : ℕ). Clear d n (n + f .first + f .second) p m) (turn .judged .fields) (turn .judged .next) c
+
+    pub further : (at < p) × (p ≤ r .limit)
+    further = (omega (arith, past .ends), omega (arith, past .ends, on .fits))
+
+    same : (i : ℕ) → p ≤ i → round d p i ≡ round d at i
+    same i h =
+        let e = past .ends in
+        let g : at + 1 + fieldsAt d at .first + fieldsAt d at .second ≤ i = omega arith in
+        ap (λ (x : ℕ). round d x i) e ∙ past .quiet i g ∙ beyond d at i g
+
+    pub leave : Going d from p m r levels
+    leave =
         record {
-          there = record { few = omega (arith, on .fits, b .there .few); whole = omega (arith, on .fits, b .there .whole) };
-          deeper = λ some. deeper d at r levels (b .levels-left) on some;
-          fine = below-more (λ (i : ℕ). ruleBroken d i ≡ 0) at (b .fine) (turn-is ∙ z);
-          known = judged .known;
-          held-first = λ i p q. in-first d at i q ∙ ap (inside (fieldsAt d at) _) (b .held i (omega arith) (omega (arith, on .fits)));
-          held-second = λ i p q. in-second d at i p q ∙ ap (inside (fieldsAt d at) _) (b .held i (omega arith) (omega (arith, on .fits)));
+          now =
+              record {
+                there = before .there;
+                ordered = further .1;
+                levels-left = before .levels-left;
+                fine = subst (λ (x : ℕ). Fine d x) (sym (past .ends)) (past .fine);
+                known = subst (λ (x : ℕ). Known d x m) (sym (past .ends)) (past .known);
+                held = λ i g h. same i g ∙ before .held i (omega (arith, further .0)) h;
+              };
+          quiet = λ i g. same i g ∙ turn .going .quiet i (omega (arith, further .0));
         }
 
-    -- the item's bodies may be gone into
-    pub enter : Entered d (j .fields) (j .next .at) (j .slots) r levels
-    enter = subst₂ (λ (f : Fields) (n : ℕ). Entered d f n (j .slots) r levels) (sym (judged .fields)) (sym (judged .next)) enter-at
-
-    -- and once they are clear, the check goes on after them
-    module _ (from : ℕ) (quiet : Quiet d from at) (p : ℕ) (m : List ℕ) (c : Clear d (j .next .at) (j .next .at + j .fields .first + j .fields .second) p m) where
-      past : Clear d (at + 1) (at + 1 + fieldsAt d at .first + fieldsAt d at .second) p m
-      past = subst₂ (λ (f : Fields) (n : ℕ). Clear d n (n + f .first + f .second) p m) (judged .fields) (judged .next) c
-
-      pub further : (at < p) × (p ≤ r .limit)
-      further = (omega (arith, past .ends), omega (arith, past .ends, on .fits))
-
-      same : (i : ℕ) → p ≤ i → round d p i ≡ round d at i
-      same i h =
-          let e = past .ends in
-          let g : at + 1 + fieldsAt d at .first + fieldsAt d at .second ≤ i = omega arith in
-          ap (λ (x : ℕ). round d x i) e ∙ past .quiet i g ∙ beyond d at i g
-
-      pub leave : Going d from p m r levels
-      leave =
-          record {
-            now =
-                record {
-                  there = b .there;
-                  ordered = further .1;
-                  levels-left = b .levels-left;
-                  fine = subst (λ (x : ℕ). Fine d x) (sym (past .ends)) (past .fine);
-                  known = subst (λ (x : ℕ). Known d x m) (sym (past .ends)) (past .known);
-                  held = λ i g h. same i g ∙ b .held i (omega (arith, further .0)) h;
-                };
-            quiet = λ i g. same i g ∙ quiet i (omega (arith, further .0));
-          }
-
 -- the end of a body
-pub ended : (d : List ℕ) (from at : ℕ) (slots : List ℕ) (r : Round) (levels : ℕ) → Going d from at slots r levels → r .limit ≤ at → Clear d from (r .limit) at slots
-ended d from at slots r levels g h =
+pub ended : {d : List ℕ} {from at : ℕ} {slots : List ℕ} {r : Round} {levels : ℕ} → Going d from at slots r levels → r .limit ≤ at → Clear d from (r .limit) at slots
+ended {d} {from} {at} {slots} {r} g h =
     let e : at ≡ r .limit = omega (arith, g .now .ordered) in
     record {
       ends = e;
@@ -158,7 +156,7 @@ ended d from at slots r levels g h =
     }
 
 -- THE BODIES OF ONE ITEM
-module _ (d : List ℕ) (f : Fields) (at : ℕ) (slots : List ℕ) (r : Round) (levels : ℕ) (b : Entered d f at slots r levels) where
+module _ {d : List ℕ} {f : Fields} {at : ℕ} {slots : List ℕ} {r : Round} {levels : ℕ} (b : Entered d f at slots r levels) where
   -- none
   pub entered-none : f .first + f .second ≡ 0 → Clear d at (at + f .first + f .second) at slots
   entered-none z =
@@ -170,9 +168,9 @@ module _ (d : List ℕ) (f : Fields) (at : ℕ) (slots : List ℕ) (r : Round) (
         quiet = λ i h. ap (λ (x : ℕ). round d x i) (sym e);
       }
 
-  pub first-before : (s : Round) → (f .first + f .second ≡ 0 → ⊥) → s ≡ inside f (at + f .first) r → Before d at slots s (levels - 1)
+  pub first-before : {s : Round} → (f .first + f .second ≡ 0 → ⊥) → s ≡ inside f (at + f .first) r → Before d at slots s (levels - 1)
   unfolding inside
-  first-before s some e =
+  first-before some e =
       subst (λ (x : Round). Before d at slots x (levels - 1)) (sym e)
       (record {
         there = record { few = omega (arith, b .there .few); whole = omega (arith, b .there .whole) };
@@ -183,14 +181,14 @@ module _ (d : List ℕ) (f : Fields) (at : ℕ) (slots : List ℕ) (r : Round) (
         held = b .held-first;
       })
 
-  module _ (s : Round) (es : s ≡ inside f (at + f .first) r) (p : ℕ) (m : List ℕ) (c : Clear d at (s .limit) p m) where
+  module _ {s : Round} (es : s ≡ inside f (at + f .first) r) {p : ℕ} {m : List ℕ} (c : Clear d at (s .limit) p m) where
     first-clear : Clear d at (at + f .first) p m
     unfolding inside
     first-clear = subst (λ (x : Round). Clear d at (x .limit) p m) es c
 
-    pub second-before : (u : Round) → (f .first + f .second ≡ 0 → ⊥) → u ≡ inside f (at + f .first + f .second) r → Before d p m u (levels - 1)
+    pub second-before : {u : Round} → (f .first + f .second ≡ 0 → ⊥) → u ≡ inside f (at + f .first + f .second) r → Before d p m u (levels - 1)
     unfolding inside
-    second-before u some e =
+    second-before some e =
         subst (λ (x : Round). Before d p m x (levels - 1)) (sym e)
         (subst (λ (y : ℕ). Before d y m (inside f (at + f .first + f .second) r) (levels - 1)) (sym (first-clear .ends))
         (record {
@@ -203,9 +201,9 @@ module _ (d : List ℕ) (f : Fields) (at : ℕ) (slots : List ℕ) (r : Round) (
         }))
 
     -- the two bodies are one stretch
-    pub joined : (u : Round) → u ≡ inside f (at + f .first + f .second) r → (q : ℕ) (o : List ℕ) → Clear d p (u .limit) q o → Clear d at (at + f .first + f .second) q o
+    pub joined : {u : Round} → u ≡ inside f (at + f .first + f .second) r → {q : ℕ} {o : List ℕ} → Clear d p (u .limit) q o → Clear d at (at + f .first + f .second) q o
     unfolding inside
-    joined u e q o k =
+    joined e {q} {o} k =
         let g : Clear d p (at + f .first + f .second) q o = subst (λ (x : Round). Clear d p (x .limit) q o) e k in
         let n : Clear d (at + f .first) (at + f .first + f .second) q o = subst (λ (y : ℕ). Clear d y (at + f .first + f .second) q o) (first-clear .ends) g in
         record { ends = n .ends; fine = n .fine; known = n .known; quiet = λ i g. n .quiet i g ∙ first-clear .quiet i (omega arith) }

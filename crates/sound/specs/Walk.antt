@@ -27,12 +27,11 @@ pub record Known (d : List ℕ) (k : ℕ) (slots : List ℕ) : Type 0 where
   pub octets : (s : ℕ) → 0 < s → s < 64 → getD slots s 0 ≡ slotOctets d k s
 
 -- item `at`, with r round it, was judged
-pub record JudgedAs (d : List ℕ) (at : ℕ) (r : Round) (slots : List ℕ) (j : Judged) : Type 0 where
+pub record JudgedAs (d : List ℕ) (at : ℕ) (r : Round) (j : Judged) : Type 0 where
   pub fields : j .fields ≡ fieldsAt d at
   pub range : FieldsRange (j .fields)
   pub rule : j .rule ≡ lowestBroken d (fieldsAt d at) at r
   pub next : j .next .at ≡ at + 1
-  pub known : Known d (at + 1) (j .slots)
 
 -- the levels that may still stand inside: 5 at the top, 4 in a TABLE's body, 0 inside four ARRAYs or IFs
 pub record LevelsLeft (r : Round) (levels : ℕ) : Type 0 where
@@ -91,3 +90,11 @@ pub record CheckedAs (d : List ℕ) (from end : ℕ) (x : Checked) : Type 0 wher
 pub record Going (d : List ℕ) (from at : ℕ) (slots : List ℕ) (r : Round) (levels : ℕ) : Type 0 where
   pub now : Before d at slots r levels
   pub quiet : Quiet d from at
+
+-- one turn: item `at` is judged and breaks no rule, and the slot that it sets is noted
+pub record Turn (d : List ℕ) (from at : ℕ) (slots : List ℕ) (r : Round) (levels : ℕ) (j : Judged) (later : List ℕ) : Type 0 where
+  pub going : Going d from at slots r levels
+  pub more : at < r .limit
+  pub judged : JudgedAs d at r j
+  pub passed : j .rule ≡ 0
+  pub set : later ≡ noted slots (j .fields)

@@ -57,9 +57,9 @@ fn is_table_named(f: Fields, manufacturer: u32, number: u32) -> bool
 
 // WHAT EARLIER ITEMS GAVE
 // The slots are kept as their octets, 0 for a slot that isn't set: the octets of slot s.
-fn octets_of_slot(slots: [u8; 64], s: usize) -> u32
-    requires { ⌜ (s < 64) × (length slots ≡ 64) ⌝ }
-    ensures { λ r. ⌜ (r ≡ getD slots s 0) × (r < 256) ⌝ }
+fn octets_of_slot(slots: &[u8; 64], s: usize) -> u32
+    requires { ⌜ s < 64 ⌝ }
+    ensures { λ r. ⌜ (r ≡ getD (now (slots .entry)) s 0) × (r < 256) ⌝ }
 {
     wide(slots[s])
 }
@@ -84,8 +84,8 @@ fn table_given(d: &[u8], end: usize, manufacturer: u32, number: u32) -> bool
     ensures { λ r. ⌜ r ≡ tableGiven (now (d .entry)) end manufacturer number ⌝ }
 {
     let mut found = false;
-    let mut place = Cursor { at: 0 };
-    while place.at < end {
+    let mut place = Cursor::first();
+    while place.item() < end {
         let read = place.read(d);
         found = either(is_table_named(read.fields, manufacturer, number), found);
         place = read.next;
@@ -163,8 +163,8 @@ fn table_twice(d: &[u8], f: Fields, i: usize) -> bool
     false
 }
 
-fn breaks6(d: &[u8], f: Fields, i: usize, slots: [u8; 64]) -> bool
-    requires { ⌜ There (now d) i × FieldsRange f × Known (now d) i slots ⌝ }
+fn breaks6(d: &[u8], f: Fields, i: usize, slots: &[u8; 64]) -> bool
+    requires { ⌜ There (now d) i × FieldsRange f × Known (now d) i (now slots) ⌝ }
     ensures { λ x. ⌜ x ≡ breaks6 (now (d .entry)) f i ⌝ }
 {
     let sets = f.sets;
@@ -172,12 +172,12 @@ fn breaks6(d: &[u8], f: Fields, i: usize, slots: [u8; 64]) -> bool
     either(table_twice(d, f, i), slot_twice)
 }
 
-fn breaks7(d: &[u8], f: Fields, i: usize, slots: [u8; 64]) -> bool
-    requires { ⌜ FieldsRange f × Known (now d) i slots ⌝ }
+fn breaks7(d: &[u8], f: Fields, i: usize, slots: &[u8; 64]) -> bool
+    requires { ⌜ FieldsRange f × Known (now d) i (now slots) ⌝ }
     ensures { λ x. ⌜ x ≡ breaks7 (now (d .entry)) f i ⌝ }
 {
     let slot = f.slot;
-    both(0 < slot, 8 * octets_of_slot(slots, slot) < f.bits)
+    both(0 < slot, 8 * octets_of_slot(slots, slot) < f.low + f.width)
 }
 
 // Of the rules 2 to 7, each broken or not, the lowest that is broken; 0 for none.
@@ -206,8 +206,8 @@ fn lowest(two: bool, three: bool, four: bool, five: bool, six: bool, seven: bool
 }
 
 // The lowest number of the rules that item i breaks, 0 for none.
-fn lowest_broken(d: &[u8], f: Fields, i: usize, r: Round, slots: [u8; 64]) -> u32
-    requires { ⌜ There (now d) i × FieldsRange f × Known (now d) i slots ⌝ }
+fn lowest_broken(d: &[u8], f: Fields, i: usize, r: Round, slots: &[u8; 64]) -> u32
+    requires { ⌜ There (now d) i × FieldsRange f × Known (now d) i (now slots) ⌝ }
     ensures { λ x. ⌜ x ≡ lowestBroken (now (d .entry)) f i r ⌝ }
 {
     lowest(
@@ -221,20 +221,18 @@ fn lowest_broken(d: &[u8], f: Fields, i: usize, r: Round, slots: [u8; 64]) -> u3
 }
 
 // THE CHECK
-// One item judged: the rule that it breaks (0: none), its fields, the next place, and the slots with
-// the one that it sets.
+// One item judged: the rule that it breaks (0: none), its fields, and the next place.
 struct Judged {
     rule: u32,
     fields: Fields,
     next: Cursor,
-    slots: [u8; 64],
 }
 
-fn judge(d: &[u8], place: Cursor, r: Round, slots: [u8; 64]) -> Judged
-    requires { ⌜ There (now d) (place .at + 1) × Known (now d) (place .at) slots ⌝ }
-    ensures { λ x. ⌜ JudgedAs (now (d .entry)) (place .at) r slots x ⌝ }
+fn judge(d: &[u8], place: Cursor, r: Round, slots: &[u8; 64]) -> Judged
+    requires { ⌜ There (now d) (place .at + 1) × Known (now d) (place .at) (now slots) ⌝ }
+    ensures { λ x. ⌜ JudgedAs (now (d .entry)) (place .at) r x ⌝ }
 {
-    let at = place.at;
+    let at = place.item();
     let read = place.read(d);
     let fields = read.fields;
     let next = read.next;
@@ -242,7 +240,6 @@ fn judge(d: &[u8], place: Cursor, r: Round, slots: [u8; 64]) -> Judged
         rule: lowest_broken(d, fields, at, r, slots),
         fields,
         next,
-        slots: noted(slots, fields),
     }
 }
 
@@ -275,8 +272,8 @@ fn check_body(d: &[u8], from: Cursor, slots: [u8; 64], r: Round, levels: usize) 
 {
     let mut place = from;
     let mut set = slots;
-    while place.at < r.limit {
-        let judged = judge(d, place, r, set);
+    while place.item() < r.limit {
+        let judged = judge(d, place, r, &set);
         let rule = judged.rule;
         if rule != 0 {
             return Checked {
@@ -287,13 +284,13 @@ fn check_body(d: &[u8], from: Cursor, slots: [u8; 64], r: Round, levels: usize) 
         }
         let f = judged.fields;
         let next = judged.next;
-        let known = judged.slots;
+        let known = noted(set, f);
         if f.first + f.second == 0 {
             place = next;
             set = known;
             continue;
         }
-        let middle = next.at + f.first;
+        let middle = next.item() + f.first;
         let first = check_body(d, next, known, inside(f, middle, r), levels - 1);
         if first.rule != 0 {
             return first;
@@ -333,7 +330,7 @@ pub fn check(description: &[u8]) -> Verdict
         tables: 0,
         nests: 0,
     };
-    let checked = check_body(description, Cursor { at: 0 }, [0u8; 64], top, 5);
+    let checked = check_body(description, Cursor::first(), [0u8; 64], top, 5);
     let rule = checked.rule;
     if rule == 0 {
         return Verdict::Passed;
@@ -341,7 +338,7 @@ pub fn check(description: &[u8]) -> Verdict
     let place = checked.place;
     Verdict::Refused(Refusal {
         number: rule as u64,
-        item: place.at as u64,
+        item: place.item() as u64,
         octet: 0,
     })
 }

@@ -1,4 +1,4 @@
--- `items::if_of`: the two tests choose as the definition does. Assumes nothing.
+-- `items::if_of`: the tests and the fields are those of the definition. Assumes nothing.
 use borrow.Author.Needs.{needs}
 use Rattle.meaning.specs.Description.{ifOf}
 use Rattle.items.proofs.if_of.Statement.{statement}
@@ -6,11 +6,7 @@ use Rattle.items.proofs.if_of.Tie as tie
 
 returns : tie.Need-returns
 unfolding ifOf
-returns c = rw (← c .before .before .before .before .names-slot .ensures, ← c .before .before .before .before .before .bits .ensures, ← c .before .before .before .both .ensures, c .before .before .if1 .taken, c .before .reference-of .ensures, c .bits2 .ensures)
-
-returns-2 : tie.Need-returns-2
-unfolding ifOf
-returns-2 c = rw (← c .before .before .names-slot .ensures, ← c .before .before .before .bits .ensures, ← c .before .both .ensures, c .if1 .left)
+returns c = cc
 
 pub if-of-spec : {M : Type 1} → statement M
 if-of-spec =
@@ -20,8 +16,6 @@ if-of-spec =
     (λ c κs. search needs)
     (λ c κs. search needs)
     (λ c κs. search needs)
-    (λ c. search needs)
     (λ c κs. search needs)
-    (λ c. search needs)
-    returns
-    returns-2)
+    (λ c κs. search needs)
+    returns)

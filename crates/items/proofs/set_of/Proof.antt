@@ -1,4 +1,4 @@
--- `items::set_of`: the two tests choose as the definition does. Assumes nothing.
+-- `items::set_of`: the tests and the fields are those of the definition. Assumes nothing.
 use borrow.Author.Needs.{needs}
 use Rattle.meaning.specs.Description.{setOf}
 use Rattle.items.proofs.set_of.Statement.{statement}
@@ -6,11 +6,7 @@ use Rattle.items.proofs.set_of.Tie as tie
 
 returns : tie.Need-returns
 unfolding setOf
-returns c = rw (← c .before .before .before .before .before .names-slot .ensures, ← c .before .before .before .before .bits .ensures, ← c .before .before .before .both .ensures, c .before .before .if1 .taken, c .before .reference-of .ensures, c .bits2 .ensures)
-
-returns-2 : tie.Need-returns-2
-unfolding setOf
-returns-2 c = rw (← c .before .before .before .names-slot .ensures, ← c .before .before .bits .ensures, ← c .before .both .ensures, c .if1 .left)
+returns c = cc
 
 pub set-of-spec : {M : Type 1} → statement M
 set-of-spec =
@@ -21,5 +17,5 @@ set-of-spec =
     (λ c κs. search needs)
     (λ c κs. search needs)
     (λ c κs. search needs)
-    returns
-    returns-2)
+    (λ c κs. search needs)
+    returns)

@@ -1,4 +1,4 @@
--- `items::uint_of`: the two tests choose as the definition does. Assumes nothing.
+-- `items::uint_of`: the tests and the fields are those of the definition. Assumes nothing.
 use borrow.Author.Needs.{needs}
 use Rattle.meaning.specs.Description.{uintOf}
 use Rattle.items.proofs.uint_of.Statement.{statement}
@@ -6,11 +6,7 @@ use Rattle.items.proofs.uint_of.Tie as tie
 
 returns : tie.Need-returns
 unfolding uintOf
-returns c = rw (← c .before .before .before .before .before .bits .ensures, ← c .before .before .before .before .bits2 .ensures, ← c .before .before .before .both .ensures, c .before .before .if1 .taken, c .before .octets-of-code .ensures, c .bits3 .ensures)
-
-returns-2 : tie.Need-returns-2
-unfolding uintOf
-returns-2 c = rw (← c .before .before .before .bits .ensures, ← c .before .before .bits2 .ensures, ← c .before .both .ensures, c .if1 .left)
+returns c = cc
 
 pub uint-of-spec : {M : Type 1} → statement M
 uint-of-spec =
@@ -20,7 +16,8 @@ uint-of-spec =
     (λ c κs. search needs)
     (λ c κs. search needs)
     (λ c κs. search needs)
-    (λ c κs. search needs)
     (λ c. search needs)
-    returns
-    returns-2)
+    (λ c κs. search needs)
+    (λ c κs. search needs)
+    (λ c κs. search needs)
+    returns)

@@ -1,7 +1,7 @@
 -- `places::place_of_table`: as defined; the table's start makes its octet 0 one in the image. Assumes nothing.
 use mathlib.Core.Path.{_≡_}
 use native.Mathlib.Omega.{arith}
-use Rattle.places.specs.Surveying.{foundPlace}
+use Rattle.places.specs.Opening.{foundPlace}
 use borrow.Author.Needs.{needs}
 use Rattle.places.proofs.place_of_table.Statement.{statement}
 use Rattle.places.proofs.place_of_table.Tie as tie

@@ -1,5 +1,5 @@
 -- `places::refusal_or`: as defined. Assumes nothing.
-use Rattle.places.specs.Surveying.{refusalOr}
+use Rattle.places.specs.Opening.{refusalOr}
 use borrow.Author.Needs.{needs}
 use Rattle.places.proofs.refusal_or.Statement.{statement}
 use Rattle.places.proofs.refusal_or.Tie as tie

@@ -1,17 +1,18 @@
 -- `records::brought_to`: one case for each thing wanted. Assumes nothing.
-use Rattle.records.specs.Records.{broughtTo}
+use Rattle.records.specs.Records.{dueOn, dateEntry, broughtTo}
+use Rattle.meaning.specs.Calendar.{seasonEntry, specialEntry}
 use mathlib.Core.Path.{_∙_}
 use borrow.Author.Needs.{needs}
 use Rattle.records.proofs.brought_to.Statement.{statement}
 use Rattle.records.proofs.brought_to.Tie as tie
 
 returns : tie.Need-returns
-unfolding broughtTo
-returns c = c .season-entry .ensures ∙ rw (c .before .before .wanted .given .1)
+unfolding broughtTo seasonEntry dateEntry dueOn
+returns c = c .date-entry .ensures ∙ rw (c .before .before .wanted .given .1)
 
 returns-2 : tie.Need-returns-2
-unfolding broughtTo
-returns-2 c = c .special-entry .ensures ∙ rw (c .before .before .wanted2 .given .1)
+unfolding broughtTo specialEntry dateEntry dueOn
+returns-2 c = c .date-entry2 .ensures ∙ rw (c .before .before .wanted2 .given .1)
 
 returns-3 : tie.Need-returns-3
 unfolding broughtTo

@@ -1,4 +1,5 @@
--- `sound::noted`: a UINT that sets no slot changes nothing; another sets one. Assumes nothing.
+-- `sound::noted`: a UINT that sets no slot changes nothing; another sets one, of few octets. Assumes nothing.
+use native.Mathlib.Omega.{arith}
 use borrow.Author.Tests.{eq-eqb, ne-eqb}
 use borrow.Author.Needs.{needs}
 use Rattle.sound.specs.Walk.{noted}
@@ -9,9 +10,12 @@ returns : tie.Need-returns
 unfolding noted
 returns c = rw (eq-eqb _ _ (c .if1 .taken))
 
+cast-later : tie.Need-cast-later
+cast-later c = let h = c .before .before .before .pre .0 .few-octets (omega arith) in omega arith
+
 returns-2 : tie.Need-returns-2
 unfolding noted
 returns-2 c = rw (ne-eqb _ _ (c .before .if1 .left))
 
 pub noted-spec : {M : Type 1} → statement M
-noted-spec = tie.close (tie.spec returns (λ c. search needs) (λ c. search needs) returns-2)
+noted-spec = tie.close (tie.spec returns cast-later (λ c. search needs) returns-2)

@@ -1,19 +1,13 @@
 -- `items::Cursor::read`: among the items, the item there and the next place; else none. Assumes nothing.
 use borrow.Author.Tests.{lt-ltb, le-ltb}
-use mathlib.Core.Path.{subst, sym}
-use Rattle.meaning.specs.Ranges.{Ranged}
-use Rattle.meaning.proofs.Ranges.{item-ranged}
-use Rattle.items.specs.Read.{readAt}
 use borrow.Author.Needs.{needs}
+use Rattle.items.specs.Read.{readAt}
 use Rattle.items.proofs.Cursor.read.Statement.{statement}
 use Rattle.items.proofs.Cursor.read.Tie as tie
 
-fields-of-requires : tie.Need-fields-of-requires
-fields-of-requires c κs = subst Ranged (sym (c .item-of .ensures)) (item-ranged _)
-
 returns : tie.Need-returns
 unfolding readAt
-returns c = rw (lt-ltb _ _ (c .before .before .before .if1 .taken)) (cc)
+returns c = rw (lt-ltb _ _ (c .before .before .if1 .taken)) (cc)
 
 returns-2 : tie.Need-returns-2
 unfolding readAt
@@ -22,11 +16,4 @@ returns-2 c = rw (le-ltb _ _ (c .before .if1 .left)) (cc)
 pub read-spec : {M : Type 1} → statement M
 read-spec =
     tie.close
-    (tie.spec
-    (λ c κs. search needs)
-    (λ c κs. search needs)
-    fields-of-requires
-    (λ c. search needs)
-    returns
-    (λ c κs. search needs)
-    returns-2)
+    (tie.spec (λ c κs. search needs) (λ c κs. search needs) (λ c. search needs) returns (λ c κs. search needs) returns-2)

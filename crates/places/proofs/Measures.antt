@@ -1,0 +1,325 @@
+-- A body measured item by item: what is measured and what is left come to the whole, at the start, after each item and at the end; and an item is measured by
+-- what it comes to. Assumes nothing.
+use Prim.Native.Nat.{ℕ, zero, suc, _+_, _-_, _*_, _<_, _≤_}
+use mathlib.Core.Path.{_≡_, refl, _∙_, ap, ap₂, sym, subst}
+use mathlib.Core.Logic.{inl}
+use mathlib.Core.Bool.{Bool, true, false, false≢true}
+use mathlib.Core.List.{List, []}
+use borrow.Author.Tests.{eq-eqb, ne-eqb, eqb-false, le-ltb, lt-ltb}
+use native.Mathlib.Omega.{arith}
+use Rattle.meaning.specs.Basics.{if_then_else_, _=?_, _<?_}
+use Rattle.meaning.specs.declared.Fields.{Fields}
+use Rattle.meaning.specs.Description.{fieldsAt, nests, isArray, isChoice, nested}
+use Rattle.meaning.specs.Layout.{Body, done, more, armsOf, nodeOf, leafOctets, bodyAt}
+use Rattle.meaning.proofs.Rules.{either-false}
+use Rattle.laying.specs.Rows.{row, notChosen, noRow, firstRow, onward, inArray, unchosen, bodyRow, itemRow, armsRow, passedOver}
+use Rattle.laying.specs.Rows as def
+use Rattle.laying.specs.Sizes.{Numbers, value, bodySize, itemSize, armsSize}
+use Rattle.laying.specs.Sound.{FitBody, FitNode, FitArms}
+use Rattle.laying.specs.Tree.{innerAt, nodeAt}
+use Rattle.laying.proofs.Nodes.{node-cases}
+use Rattle.laying.proofs.Steps.{body-none, body-step}
+use Rattle.laying.proofs.Unchosen.{left-other, left-body, first-none-right}
+use Rattle.places.specs.declared.measure.Inner.{Inner}
+use Rattle.places.specs.declared.measure.Sized.{Sized}
+use Rattle.places.specs.declared.measure.Span.{Span}
+use Rattle.places.specs.declared.rows.Row.{Row}
+use Rattle.places.specs.declared.rows.Stands.the-variants.{Nowhere, There}
+use Rattle.places.specs.Measuring.{numbersIn, chosenOf, innerOf, OverReady, leafSpan, joined, arraySpan, choiceSpan, nodeIn, SpanAs, BodyReady, ItemReady, BodyAs, ItemAs, Going}
+use Rattle.places.specs.Rows.{cut, levels, saying, cutArrays, cutRow, RowAs, alone}
+use Rattle.places.proofs.Numbers.{cut-mul}
+use Rattle.places.proofs.Taken.{overRow, taken-row, none-back, over-as}
+use Rattle.places.proofs.RowLaws.{as-none, as-wider, as-first, as-onward, as-array}
+
+-- ONE AFTER ANOTHER
+pub joined-as : (k : ℕ) (a b : Span) (s t : ℕ) (r q : def.Row) → SpanAs k a s r → SpanAs k b t q → SpanAs k (joined a b) (s + t) (firstRow r (onward s q))
+joined-as k a b s t r q h g =
+    record {
+      size-is = omega (arith, h .size-is, g .size-is);
+      row-as = as-first k (a .row) _ r (onward s q) (h .row-as) (rw (h .size-is) (as-onward k s (b .row) q (g .row-as)));
+    }
+
+-- the first of three, and further on twice
+rows-step : (s t : ℕ) (r q p : def.Row) → firstRow (firstRow r (onward s q)) (onward (s + t) p) ≡ firstRow r (onward s (firstRow q (onward t p)))
+unfolding firstRow onward
+rows-step s t (row a n rest) q p = refl
+rows-step s t (notChosen rest) q p = refl
+rows-step s t noRow (row a n rest) p = refl
+rows-step s t noRow (notChosen rest) p = refl
+rows-step s t noRow noRow (row a n rest) = let e : s + t + a ≡ s + (t + a) = omega arith in rw e
+rows-step s t noRow noRow (notChosen rest) = refl
+rows-step s t noRow noRow noRow = refl
+
+onward-none-first : (r : def.Row) → firstRow noRow (onward 0 r) ≡ r
+unfolding firstRow onward
+onward-none-first (row a n rest) = let e : 0 + a ≡ a = omega arith in rw e
+onward-none-first (notChosen rest) = refl
+onward-none-first noRow = refl
+
+-- an item with nothing stray in it takes no more items than follow it, and is the same however many do
+pub node-within : (d : List ℕ) (k at n : ℕ) → FitNode (nodeAt k d at n) → nested (fieldsAt d at) ≤ n
+unfolding FitNode
+node-within d k at n =
+    node-cases (λ t. FitNode t → nested (fieldsAt d at) ≤ n) (innerAt k d) (fieldsAt d at) at n (λ lost h. absurd h) (λ l two four h. l) (λ l five h. l) (λ l six h. l)
+
+pub node-same : (d : List ℕ) (k at n : ℕ) → FitNode (nodeAt k d at n) → nodeAt k d at n ≡ nodeIn k d at
+unfolding nodeOf
+node-same d k at n h =
+    let u = nested (fieldsAt d at) in
+    let l : u ≤ u = omega arith in
+    rw (le-ltb n u (node-within d k at n h), le-ltb u u l)
+
+-- a body with items and nothing stray in it is its first item, and what follows what stands inside that
+pub record FirstOf (d : List ℕ) (k at n : ℕ) : Type 0 where
+  pub within : at + 1 + nested (fieldsAt d at) ≤ at + n
+  pub is : bodyAt k d at n ≡ more (nodeIn k d at) (bodyAt k d (at + 1 + nested (fieldsAt d at)) (at + n - (at + 1 + nested (fieldsAt d at))))
+  pub item-fit : FitNode (nodeIn k d at)
+  pub rest-fit : FitBody (bodyAt k d (at + 1 + nested (fieldsAt d at)) (at + n - (at + 1 + nested (fieldsAt d at))))
+
+pub first-of : (d : List ℕ) (k at n : ℕ) → 0 < n → FitBody (bodyAt k d at n) → FirstOf d k at n
+unfolding FitBody
+first-of d k at n some fit =
+    let u = nested (fieldsAt d at) in
+    let e : n ≡ suc (n - 1) = omega arith in
+    let stepped : bodyAt k d at n ≡ more (nodeAt k d at (n - 1)) (bodyAt k d (at + 1 + u) (n - 1 - u)) = ap (bodyAt k d at) e ∙ body-step k d at (n - 1) in
+    let fits = subst FitBody stepped fit in
+    let within = node-within d k at (n - 1) (fits .0) in
+    let left : n - 1 - u ≡ at + n - (at + 1 + u) = omega arith in
+    let same = node-same d k at (n - 1) (fits .0) in
+    record {
+      within = omega arith;
+      is = stepped ∙ ap₂ more same (ap (bodyAt k d (at + 1 + u)) left);
+      item-fit = subst FitNode same (fits .0);
+      rest-fit = subst (λ (m : ℕ). FitBody (bodyAt k d (at + 1 + u) m)) left (fits .1);
+    }
+
+module _ (d numbers : List ℕ) (at n k i : ℕ) where
+  abbrev v : Numbers
+  v = numbersIn numbers
+
+  abbrev left : (next : ℕ) → Body
+  left next = bodyAt k d next (at + n - next)
+
+  -- at the start nothing is measured
+  pub started : BodyReady d numbers at n k → Going d numbers at n k i (record { size = 0; row = alone Nowhere }) at
+  started r =
+      let e : at + n - at ≡ n = omega arith in
+      record {
+        size = 0;
+        row = noRow;
+        ordered = omega arith;
+        rest = rw e r;
+        measured = record { size-is = omega arith; row-as = as-none k };
+        sizes = rw e (omega arith);
+        rows = rw e (onward-none-first _);
+      }
+
+  module _ (s : Span) (next : ℕ) (g : Going d numbers at n k i s next) where
+    -- at the end all is
+    pub ended : at + n ≤ next → BodyAs d numbers at n k i s
+    unfolding bodySize bodyRow onward
+    ended h =
+        let z : at + n - next ≡ 0 = omega arith in
+        let b : left next ≡ done = rw z (body-none k d next) in
+        let size : g .size ≡ bodySize (bodyAt k d at n) v = sym (omega arith) ∙ ap (λ (x : Body). g .size + bodySize x v) (sym b) ∙ g .sizes in
+        let row : g .row ≡ bodyRow (bodyAt k d at n) v i =
+        sym (first-none-right (g .row)) ∙ ap (λ (x : Body). firstRow (g .row) (onward (g .size) (bodyRow x v i))) (sym b) ∙ g .rows in
+        rw (← size, ← row) (g .measured)
+
+    module _ (some : next < at + n) where
+      abbrev u : ℕ
+      u = nested (fieldsAt d next)
+
+      opened : FirstOf d k next (at + n - next)
+      opened = first-of d k next (at + n - next) (omega arith) (g .rest .fit)
+
+      pub next-ready : ItemReady d numbers next k
+      next-ready =
+          record { few = g .rest .few; there = omega (arith, g .rest .there, opened .within); fit = opened .item-fit; deep = g .rest .deep; slots = g .rest .slots }
+
+      module _ (one : Sized) (h : ItemAs d numbers next k i one) where
+        pub less : at + n - one .next .at < at + n - next
+        less = omega (arith, h .next)
+
+        pub counted : (s .size ≤ 65536) × (one .span .size ≤ 65536)
+        counted = (omega (arith, g .measured .size-is), omega (arith, h .span .size-is))
+
+        pub stepped-on : Going d numbers at n k i (joined s (one .span)) (one .next .at)
+        unfolding FitBody bodySize bodyRow
+        stepped-on =
+            let z = itemSize (nodeIn k d next) v in
+            let few = opened .within in
+            let end : next + (at + n - next) - (next + 1 + u) ≡ at + n - (next + 1 + u) = omega arith in
+            let whole : left next ≡ more (nodeIn k d next) (left (next + 1 + u)) = opened .is ∙ ap (λ (m : ℕ). more (nodeIn k d next) (bodyAt k d (next + 1 + u) m)) end in
+            rw (h .next)
+            (record {
+              size = g .size + z;
+              row = firstRow (g .row) (onward (g .size) (itemRow (nodeIn k d next) v i));
+              ordered = omega (arith, few);
+              rest = record {
+                few = g .rest .few;
+                there = omega (arith, g .rest .there, few);
+                fit = subst (λ (m : ℕ). FitBody (bodyAt k d (next + 1 + u) m)) end (opened .rest-fit);
+                deep = g .rest .deep;
+                slots = g .rest .slots;
+              };
+              measured = joined-as k s (one .span) (g .size) z (g .row) _ (g .measured) (h .span);
+              sizes = omega (arith, ap (λ (b : Body). bodySize b v) whole, g .sizes);
+              rows = rows-step (g .size) z (g .row) _ _ ∙ ap (λ (b : Body). firstRow (g .row) (onward (g .size) (bodyRow b v i))) (sym whole) ∙ g .rows;
+            })
+
+-- AN ITEM
+-- the bodies one level down of something with nothing stray in it: a level is left for them
+pub inner-fit : (d : List ℕ) (k a m : ℕ) → FitBody (innerAt k d a m) → (0 < k) × (innerAt k d a m ≡ bodyAt (k - 1) d a m)
+unfolding innerAt FitBody
+inner-fit d zero a m h = absurd (h .0)
+inner-fit d (suc k) a m h = let e : suc k - 1 ≡ k = omega arith in (omega arith, rw e)
+
+module _ (d numbers : List ℕ) (at k i : ℕ) (ready : ItemReady d numbers at k) where
+  abbrev w : Numbers
+  w = numbersIn numbers
+
+  abbrev f : Fields
+  f = fieldsAt d at
+
+  abbrev x : ℕ
+  x = value w f
+
+  -- a UINT, BLOCK or SET
+  pub leaf-measured : nests f ≡ false → SpanAs k (leafSpan f x at i) (itemSize (nodeIn k d at) w) (itemRow (nodeIn k d at) w i)
+  unfolding FitNode itemSize itemRow leafSpan saying cutRow cutArrays levels
+  leaf-measured other =
+      node-cases (λ t. FitNode t → SpanAs k (leafSpan f x at i) (itemSize t w) (itemRow t w i)) (innerAt k d) f at (nested f)
+      (λ lost h. absurd h)
+      (λ l two four h. record { size-is = refl; row-as = go (at =? i) })
+      (λ l five h. absurd (eqb-false (f .kind) 5 (either-false (isArray f) (isChoice f) other .0) five))
+      (λ l six h. absurd (eqb-false (f .kind) 6 (either-false (isArray f) (isChoice f) other .1) six))
+      (ready .fit)
+    where
+      go : (b : Bool) → RowAs k (alone (if b then There 0 (leafOctets f x) else Nowhere)) (if b then row 0 (leafOctets f x) [] else noRow)
+      go true = record { says = refl; few = as-none k .few }
+      go false = as-none k
+
+  -- what holds of an ARRAY or a choice
+  module _ (some : nests f ≡ true) where
+    not-leaf : 2 ≤ f .kind → f .kind ≤ 4 → ⊥
+    not-leaf two four = false≢true (sym (rw (ne-eqb (f .kind) 5 (λ e. omega arith), ne-eqb (f .kind) 6 (λ e. omega arith))) ∙ some)
+
+    record Inside (c : Inner) : Type 0 where
+      deeper : 0 < k
+      fit : FitBody (bodyAt (k - 1) d (at + 1 + c .skip) (c .items))
+      within : c .skip + c .items ≤ nested f
+
+    inside : Inside (innerOf f x)
+    unfolding FitNode FitArms armsOf innerOf chosenOf
+    inside =
+        node-cases (λ t. FitNode t → Inside (innerOf f x)) (innerAt k d) f at (nested f)
+        (λ lost h. absurd h)
+        (λ l two four h. absurd (not-leaf two four))
+        (λ l five h.
+        let e : at + 1 + 0 ≡ at + 1 = omega arith in
+        let g = inner-fit d k (at + 1) (f .first) h in
+        rw (eq-eqb (f .kind) 5 five) (record { deeper = g .0; fit = rw e (subst FitBody (g .1) h); within = omega arith }))
+        (λ l six h. rw (ne-eqb (f .kind) 5 (λ five. omega arith)) (go (x =? 0) (h .0) (h .1 .0)))
+        (ready .fit)
+      where
+        go : (b : Bool) → FitBody (innerAt k d (at + 1) (f .first)) → FitBody (innerAt k d (at + 1 + f .first) (f .second))
+            → Inside (if b then record { skip = f .first; items = f .second } else record { skip = 0; items = f .first })
+        go true y n = let g = inner-fit d k (at + 1 + f .first) (f .second) n in record { deeper = g .0; fit = subst FitBody (g .1) n; within = omega arith }
+        go false y n =
+            let e : at + 1 + 0 ≡ at + 1 = omega arith in
+            let g = inner-fit d k (at + 1) (f .first) y in record { deeper = g .0; fit = rw e (subst FitBody (g .1) y); within = omega arith }
+
+    pub deeper : 0 < k
+    deeper = inside .deeper
+
+    -- the body that it takes can be measured
+    pub inner-ready : BodyReady d numbers (at + 1 + innerOf f x .skip) (innerOf f x .items) (k - 1)
+    inner-ready =
+        record {
+          few = ready .few;
+          there = omega (arith, ready .there, inside .within);
+          fit = inside .fit;
+          deep = omega (arith, ready .deep);
+          slots = ready .slots;
+        }
+
+    pub over-ready : OverReady d (at + 1) (nested f) (innerOf f x)
+    over-ready = record { few = ready .few; there = ready .there; within = inside .within }
+
+    module _ (b : Span) (h : BodyAs d numbers (at + 1 + innerOf f x .skip) (innerOf f x .items) (k - 1) i b) where
+      -- an array takes count times its element's size
+      pub array-measured : f .kind ≡ 5 → SpanAs k (arraySpan x b) (itemSize (nodeIn k d at) w) (itemRow (nodeIn k d at) w i)
+      unfolding FitNode itemSize itemRow innerOf
+      array-measured five =
+          node-cases (λ t. FitNode t → SpanAs k (arraySpan x b) (itemSize t w) (itemRow t w i)) (innerAt k d) f at (nested f)
+          (λ lost g. absurd g)
+          (λ l two four g. absurd (not-leaf two four))
+          (λ l five g. go (let m = rw (eq-eqb (f .kind) 5 five) at h in m) (inner-fit d k (at + 1) (f .first) g))
+          (λ l six g. absurd (omega (arith, five)))
+          (ready .fit)
+        where
+          go : BodyAs d numbers (at + 1 + 0) (f .first) (k - 1) i b → (0 < k) × (innerAt k d (at + 1) (f .first) ≡ bodyAt (k - 1) d (at + 1) (f .first))
+              → SpanAs k (arraySpan x b) (x * bodySize (innerAt k d (at + 1) (f .first)) w)
+              (inArray x (bodySize (innerAt k d (at + 1) (f .first)) w) (bodyRow (innerAt k d (at + 1) (f .first)) w i))
+          go m g =
+              let e : at + 1 + 0 ≡ at + 1 = omega arith in
+              let m : BodyAs d numbers (at + 1) (f .first) (k - 1) i b = rw e at m in
+              let body = bodyAt (k - 1) d (at + 1) (f .first) in
+              rw (g .1)
+              (record {
+                size-is = ap (λ (s : ℕ). cut (x * s)) (m .size-is) ∙ cut-mul x (bodySize body w);
+                row-as = rw (m .size-is) (as-array (k - 1) k x (bodySize body w) (b .row) (bodyRow body w i) (omega (arith, g .0)) (ready .deep) (m .row-as));
+              })
+
+      -- a choice only the chosen body
+      chosen-measured : (y : ℕ) → BodyAs d numbers (at + 1 + chosenOf f y .skip) (chosenOf f y .items) (k - 1) i b
+          → FitBody (innerAt k d (at + 1) (f .first)) → FitBody (innerAt k d (at + 1 + f .first) (f .second))
+          → SpanAs k (choiceSpan d (at + 1) (nested f) (chosenOf f y) i b)
+          (if 0 <? y then bodySize (innerAt k d (at + 1) (f .first)) w else bodySize (innerAt k d (at + 1 + f .first) (f .second)) w)
+          (if 0 <? y then firstRow (bodyRow (innerAt k d (at + 1) (f .first)) w i) (firstRow (unchosen (bodyRow (innerAt k d (at + 1 + f .first) (f .second)) w i)) noRow)
+          else firstRow (unchosen (bodyRow (innerAt k d (at + 1) (f .first)) w i)) (firstRow (bodyRow (innerAt k d (at + 1 + f .first) (f .second)) w i) noRow))
+      unfolding chosenOf
+      chosen-measured y m g h =
+          let p = inner-fit d k (at + 1) (f .first) g in
+          let q = inner-fit d k (at + 1 + f .first) (f .second) h in
+          let first = bodyAt (k - 1) d (at + 1) (f .first) in
+          let second = bodyAt (k - 1) d (at + 1 + f .first) (f .second) in
+          let out = left-body d i w (k - 1) (at + 1 + f .first) (f .second) (subst FitBody (q .1) h) in
+          rw (
+            p .1,
+            q .1,
+            taken-row d i f at y (bodyRow first w i) (bodyRow second w i) (bodyRow first w i) (bodyRow second w i)
+                (left-body d i w (k - 1) (at + 1) (f .first) (subst FitBody (p .1) g)) out
+                (λ l. none-back d i _ (out ∙ left-other d i (at + 1 + f .first) (f .second) (inl l))),
+          )
+          (by-value y m)
+        where
+          -- the body taken, and what is passed over
+          together : (c : Inner) (t : ℕ) (r : def.Row) → SpanAs (k - 1) b t r
+              → SpanAs k (choiceSpan d (at + 1) (nested f) c i b) t (firstRow r (overRow d i (at + 1) (nested f) c))
+          together c t r m =
+              record {
+                size-is = m .size-is;
+                row-as = as-first k (b .row) _ r _ (as-wider (k - 1) k (b .row) r (omega arith) (m .row-as)) (over-as d i k (at + 1) (nested f) c);
+              }
+
+          by-value : (y : ℕ) → BodyAs d numbers (at + 1 + chosenOf f y .skip) (chosenOf f y .items) (k - 1) i b
+              → SpanAs k (choiceSpan d (at + 1) (nested f) (chosenOf f y) i b)
+              (if 0 <? y then bodySize (bodyAt (k - 1) d (at + 1) (f .first)) w else bodySize (bodyAt (k - 1) d (at + 1 + f .first) (f .second)) w)
+              (firstRow (if y =? 0 then bodyRow (bodyAt (k - 1) d (at + 1 + f .first) (f .second)) w i else bodyRow (bodyAt (k - 1) d (at + 1) (f .first)) w i)
+              (overRow d i (at + 1) (nested f) (chosenOf f y)))
+          by-value zero m = together _ _ _ m
+          by-value (suc y) m =
+              let e : at + 1 + 0 ≡ at + 1 = omega arith in
+              rw (lt-ltb 0 (suc y) (omega arith), ne-eqb (suc y) 0 (λ e. omega arith)) (together _ _ _ (let m = rw (ne-eqb (suc y) 0 (λ z. omega arith), e) at m in m))
+
+      pub choice-measured : (f .kind ≡ 5 → ⊥) → SpanAs k (choiceSpan d (at + 1) (nested f) (innerOf f x) i b) (itemSize (nodeIn k d at) w) (itemRow (nodeIn k d at) w i)
+      unfolding FitNode FitArms itemSize armsSize itemRow armsRow passedOver armsOf innerOf
+      choice-measured other =
+          node-cases (λ t. FitNode t → SpanAs k (choiceSpan d (at + 1) (nested f) (innerOf f x) i b) (itemSize t w) (itemRow t w i)) (innerAt k d) f at (nested f)
+          (λ lost g. absurd g)
+          (λ l two four g. absurd (not-leaf two four))
+          (λ l five g. absurd (other five))
+          (λ l six g. rw (ne-eqb (f .kind) 5 other) (chosen-measured (value w f) (let m = rw (ne-eqb (f .kind) 5 other) at h in m) (g .0) (g .1 .0)))
+          (ready .fit)

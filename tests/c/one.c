@@ -1,0 +1,94 @@
+/*
+ * one QUESTION ITEMS: a single call of the C interface, for tests/instructions to count. Fails where it isn't answered, or otherwise than meant.
+ *
+ * The description has ITEMS items. Table 00, marked writable, holds UINTs of an octet: a dimension in each slot, as far as there are UINTs for it, but the last UINT is none;
+ * that is the element asked for and written. For tier_at and matrix the last four items are tables 51 and 54, of a BLOCK each.
+ */
+#include "bilashonge.h"
+
+#include <stdbool.h>
+#include <stdio.h>
+#include <stdlib.h>
+#include <string.h>
+
+enum { MOST = 512, WRITTEN = 0x5a };
+
+/* Tables 51 and 54, and their octets, the most significant first: season 0 begins on 1 January 2024; each day of it has schedule 1, which switches at 00:00 to tier 0 and at
+ * 07:30 to tier 2. */
+static const uint32_t calendar[] = {0x10330001, 0x30090000, 0x10360001, 0x300c0000};
+static const uint8_t calendar_octets[] = {
+    0x00, 0x00, 0x01, 0x01, 0x00, 0x00, 0x02, 0x00, 0x00,                   /* Table 51 */
+    0x08, 0x98, 0x03, 0x00, 0x00, 0x01, 0x3b, 0xc2, 0x01, 0x01, 0x01, 0x01, /* Table 54 */
+};
+
+static uint8_t description[4 * MOST], image[MOST + sizeof calendar_octets];
+
+static void set_item(size_t i, uint32_t word)
+{
+    for (int k = 0; k < 4; k++)
+        description[4 * i + k] = (uint8_t)(word >> (24 - 8 * k));
+}
+
+int main(int arguments, char **argument)
+{
+    const char *question = arguments == 3 ? argument[1] : "";
+    size_t items = arguments == 3 ? strtoul(argument[2], NULL, 10) : 0;
+    bool dated = strcmp(question, "tier_at") == 0 || strcmp(question, "matrix") == 0;
+    if (items < 8 || items > MOST)
+        return 2;
+
+    /* Item `last` is the last of table 00, octet `last - 1` of the image. Octet 0, DATA_ORDER, is 1: the most significant octet first. */
+    size_t last = items - 1 - (dated ? 4 : 0);
+    set_item(0, 0x10008000 + (uint32_t)last);
+    for (size_t i = 1; i <= last; i++)
+        set_item(i, 0x20000000 + (i < 64 && i < last ? (uint32_t)i << 20 : 0));
+    image[0] = 1;
+    size_t used = last;
+    if (dated) {
+        for (size_t k = 0; k < 4; k++)
+            set_item(last + 1 + k, calendar[k]);
+        memcpy(image + last, calendar_octets, sizeof calendar_octets);
+        used += sizeof calendar_octets;
+    }
+    size_t length = 4 * items;
+
+    struct bilashonge_refusal refusal;
+    bool meant;
+    const uint8_t data[] = {WRITTEN};
+    if (strcmp(question, "check") == 0) {
+        refusal = bilashonge_check(description, length);
+        meant = true;
+    } else if (strcmp(question, "layout") == 0) {
+        struct bilashonge_total reply = bilashonge_layout(description, length, image, used);
+        refusal = reply.refusal;
+        meant = reply.total == used;
+    } else if (strcmp(question, "element_place") == 0) {
+        struct bilashonge_place reply = bilashonge_element_place(description, length, image, used, last, NULL, 0);
+        refusal = reply.refusal;
+        meant = reply.start == last - 1 && reply.length == 1;
+    } else if (strcmp(question, "write_range") == 0) {
+        refusal = bilashonge_write_range(description, length, image, used, 0, 0, last - 1, data, sizeof data);
+        meant = image[last - 1] == WRITTEN;
+    } else if (strcmp(question, "write_octets") == 0) {
+        refusal = bilashonge_write_octets(description, length, image, used, last, NULL, 0, data, sizeof data);
+        meant = image[last - 1] == WRITTEN;
+    } else if (strcmp(question, "write_number") == 0) {
+        refusal = bilashonge_write_number(description, length, image, used, last, NULL, 0, WRITTEN);
+        meant = image[last - 1] == WRITTEN;
+    } else if (strcmp(question, "tier_at") == 0) {
+        struct bilashonge_tier reply = bilashonge_tier_at(description, length, image, used, 2024, 3, 5, 7, 30, BILASHONGE_SUMMATIONS);
+        refusal = reply.refusal;
+        meant = reply.none == 0 && reply.tier == 2;
+    } else if (strcmp(question, "matrix") == 0) {
+        uint8_t cells[BILASHONGE_MATRIX_ROWS][BILASHONGE_MATRIX_COLUMNS];
+        memset(cells, WRITTEN, sizeof cells);
+        refusal = bilashonge_matrix(description, length, image, used, cells);
+        meant = cells[0][0] == 1 && cells[0][2] == 1 && cells[0][3] == 0 && cells[14][21] == 0;
+    } else
+        return 2;
+    if (refusal.number != BILASHONGE_ANSWERED || !meant) {
+        fprintf(stderr, "%s, %zu items: not answered as meant; refusal %d\n", question, items, (int)refusal.number);
+        return 1;
+    }
+    return 0;
+}
