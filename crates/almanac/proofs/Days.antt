@@ -1,8 +1,8 @@
 -- The calendar's definitions case by case: leap years, months, what makes a date real, the days counted. Assumes nothing.
 use Prim.Native.Nat.{ℕ, zero, suc, _+_, _*_, _<_, _≤_}
-use mathlib.Core.Path.{_≡_, refl, ap, _∙_}
+use mathlib.Core.Path.{_≡_, refl, ap}
 use mathlib.Core.Logic.{⊎-elim}
-use mathlib.Core.Bool.{Bool, true, false, cond, _&&_}
+use mathlib.Core.Bool.{Bool, true, cond, _&&_}
 use mathlib.Core.List.{List, [], _∷_}
 use native.Mathlib.Nat.{le-of-suc-le-suc, not-suc-le-zero}
 use native.Mathlib.Numerals.{add-one}
@@ -12,7 +12,7 @@ use lib.Dec.{leb, ltb}
 use lib.ListN.{length, getD, List·getD-eq-default}
 use Rattle.meaning.specs.Calendar.{leap, monthLength, realDate, yearDays, monthDays}
 use Rattle.almanac.specs.Days.{Real}
-use Rattle.almanac.proofs.Tests.{lt-or-ge, both-true}
+use Rattle.almanac.proofs.Tests.{lt-or-ge, both-true, all-four, cond-meets, cond-most}
 
 -- MONTHS
 pub february : (y m : ℕ) (b : Bool) → m ≡ 2 → leap y ≡ b → cond b 29 28 ≡ monthLength y m
@@ -38,14 +38,6 @@ pub no-month : (y m : ℕ) → 12 < m → monthLength y m ≡ 0
 unfolding monthLength
 no-month y m h = List·getD-eq-default (months (cond (leap y) 29 28)) 0 h
 
-month-zero : (y : ℕ) → monthLength y 0 ≡ 0
-unfolding monthLength
-month-zero y = refl
-
-pub december : (y : ℕ) → monthLength y 12 ≡ 31
-unfolding monthLength
-december y = refl
-
 -- a test that holds of every number of a list
 abbrev every : (ℕ → Bool) → List ℕ → Bool
 every p [] = true
@@ -56,43 +48,34 @@ every-at p [] e k h = absurd (not-suc-le-zero h)
 every-at p (x ∷ xs) e zero h = both-true (p x) (every p xs) e .0
 every-at p (x ∷ xs) e (suc k) h = every-at p xs (both-true (p x) (every p xs) e .1) k (le-of-suc-le-suc h)
 
+abbrev aMonth : (days : ℕ) → Bool
+aMonth n = leb 28 n && leb n 31
+
+month-days : (y k : ℕ) → k < 12 → (28 ≤ monthLength y (suc k)) × (monthLength y (suc k) ≤ 31)
+unfolding monthLength
+month-days y k h =
+    let each = cond-meets (λ n. every aMonth (fromJanuary n) ≡ true) (leap y) {x = 29} {y = 28} (λ t. refl) (λ t. refl) in
+    let e = both-true _ _ (every-at aMonth (fromJanuary (cond (leap y) 29 28)) each k h) in (leb-true _ _ (e .0), leb-true _ _ (e .1))
+
 pub month-most : (y m : ℕ) → monthLength y m ≤ 31
 unfolding monthLength
-month-most y m = ⊎-elim (λ l. leb-true _ 31 (go (leap y) l)) (λ l. omega (arith, no-month y m l)) (lt-or-ge m 13)
-  where
-    go : (b : Bool) → m < 13 → leb (getD (months (cond b 29 28)) m 0) 31 ≡ true
-    go true = every-at (λ x. leb x 31) (months 29) refl m
-    go false = every-at (λ x. leb x 31) (months 28) refl m
+month-most y zero = omega arith
+month-most y (suc k) = ⊎-elim (λ l. month-days y k l .1) (λ l. omega (arith, no-month y (suc k) (omega arith))) (lt-or-ge k 12)
 
 pub month-least : (y m : ℕ) → 1 ≤ m → m ≤ 12 → 28 ≤ monthLength y m
-unfolding monthLength
 month-least y zero f l = omega arith
-month-least y (suc k) f l = leb-true 28 _ (go (leap y))
-  where
-    go : (b : Bool) → leb 28 (getD (fromJanuary (cond b 29 28)) k 0) ≡ true
-    go true = every-at (λ x. leb 28 x) (fromJanuary 29) refl k l
-    go false = every-at (λ x. leb 28 x) (fromJanuary 28) refl k l
+month-least y (suc k) f l = month-days y k l .0
 
 -- A REAL DATE, and only such
 pub real : (y m d : ℕ) → realDate y m d ≡ true → Real y m d
-unfolding realDate
+unfolding realDate monthLength
 real y m d e =
-    let p = both-true (leb 1990 y && leb y 2089 && ltb 0 d) (leb d (monthLength y m)) e in
-    let q = both-true (leb 1990 y && leb y 2089) (ltb 0 d) (p .0) in
-    let s = both-true (leb 1990 y) (leb y 2089) (q .0) in
-    let last : d ≤ monthLength y m = leb-true _ _ (p .1) in
-    let first : 0 < d = ltb-true 0 d (q .1) in
-    record {
-      from = leb-true _ _ (s .0);
-      to = leb-true _ _ (s .1);
-      firstMonth = ⊎-elim (λ l. absurd (none (omega arith) last first)) (λ l. l) (lt-or-ge m 1);
-      lastMonth = ⊎-elim (λ l. omega (arith, no-month y m l)) (λ l. l) (lt-or-ge 12 m);
-      first = first;
-      last = last;
-    }
-  where
-    none : m ≡ 0 → d ≤ monthLength y m → 0 < d → ⊥
-    none z l f = omega (arith, ap (monthLength y) z ∙ month-zero y)
+    let (a, b, c, f) = all-four (leb 1990 y) (leb y 2089) (ltb 0 d) (leb d (monthLength y m)) e in
+    let first : 0 < d = ltb-true 0 d c in
+    let last : d ≤ monthLength y m = leb-true _ _ f in
+    let least : 1 ≤ m = ⊎-elim (λ l. let z : m ≡ 0 = omega arith in omega (arith, ap (monthLength y) z)) (λ l. l) (lt-or-ge m 1) in
+    let most : m ≤ 12 = ⊎-elim (λ l. omega (arith, no-month y m l)) (λ l. l) (lt-or-ge 12 m) in
+    omega (arith, leb-true 1990 y a, leb-true y 2089 b)
 
 pub is-real : {y m d : ℕ} → Real y m d → realDate y m d ≡ true
 unfolding realDate
@@ -123,8 +106,4 @@ years-more k b e = rw (add-one k, e)
 pub years-most : (n : ℕ) → yearDays n ≤ 366 * n
 unfolding yearDays
 years-most zero = omega arith
-years-most (suc n) = go (leap (1990 + n)) (years-most n)
-  where
-    go : (b : Bool) → yearDays n ≤ 366 * n → yearDays n + cond b 366 365 ≤ 366 * suc n
-    go true h = omega arith
-    go false h = omega arith
+years-most (suc n) = omega (arith, years-most n, cond-most (leap (1990 + n)) 366 365 (omega arith))

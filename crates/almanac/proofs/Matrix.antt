@@ -1,8 +1,8 @@
 -- The matrix, cell by cell, is what specs/Matrix.antt says. Assumes nothing.
 use Prim.Native.Nat.{ℕ, _+_, _*_, _<_, _≤_}
 use mathlib.Core.Path.{_≡_, refl, sym, ap, _∙_, subst}
-use mathlib.Core.Logic.{_⊎_, inl, inr, ⊎-elim}
-use mathlib.Core.Bool.{Bool, true, false, cond, _&&_, and-false}
+use mathlib.Core.Logic.{⊎-elim}
+use mathlib.Core.Bool.{_&&_, and-false}
 use mathlib.Core.List.{List, []}
 use mathlib.Core.Option.{Option, some, none}
 use native.Mathlib.Nat.{mul-le-mul-right, suc-mul}
@@ -19,7 +19,7 @@ use Rattle.meaning.specs.Refusals.{Opened, opened, refused, openImage}
 use Rattle.meaning.specs.Calendar.{controlsOf, matrixAt, dayColumns, rowWidth, table54Size, cellAt, Found, found, missing, sized, seatsFound, calendarIn, calendar, matrixCell, matrixOf, matrixIn, matrixReply, matrixVerdictIn, matrixVerdict}
 use Rattle.meaning.specs.Numbers.{notACalendar}
 use Rattle.almanac.specs.Matrix.{cell, Fifteen, Shown, MatrixSays}
-use Rattle.almanac.proofs.Tests.{lt-or-ge, both-true}
+use Rattle.almanac.proofs.Tests.{lt-or-ge, both-true, cond-meets, cond-most}
 use Rattle.almanac.proofs.Build.{build-long, build-at}
 
 -- A LIST OF LISTS BUILT
@@ -53,39 +53,25 @@ abbrev AllSized : Found → Type 0
 AllSized (found o c t) = Sized c t
 AllSized (missing r) = Unit {0}
 
-controls-rows : (o : ℕ) (t : List ℕ) → controlsOf o t .seasons ≤ 15
+controls-few : (o : ℕ) (t : List ℕ) → (controlsOf o t .seasons ≤ 15) × (controlsOf o t .specials ≤ 15)
 unfolding controlsOf
-controls-rows o t = omega arith
+controls-few o t = omega arith
 
 pub days-most : (c : Controls) → dayColumns c ≤ 7
 unfolding dayColumns
-days-most c = go (c .weekdays)
-  where
-    go : (b : Bool) → cond b 7 3 ≤ 7
-    go true = omega arith
-    go false = omega arith
+days-most c = cond-most (c .weekdays) 7 3 (omega arith)
 
 pub width-most : (c : Controls) → c .specials ≤ 15 → rowWidth c ≤ 22
 unfolding rowWidth
 width-most c h = omega (arith, days-most c)
 
-controls-specials : (o : ℕ) (t : List ℕ) → controlsOf o t .specials ≤ 15
-unfolding controlsOf
-controls-specials o t = omega arith
-
 sized-sized : (o : ℕ) (a b : List ℕ) → AllSized (sized o a b)
 unfolding sized table54Size
-sized-sized o a b = go (eqb (length a) 9 && eqb (length b) (table54Size (controlsOf o a))) refl
-  where
-    go : (x : Bool) → (eqb (length a) 9 && eqb (length b) (table54Size (controlsOf o a))) ≡ x
-        → AllSized (cond x (found o (controlsOf o a) b) (missing notACalendar))
-    go true e =
-        record {
-          rows = controls-rows o a;
-          columns = width-most (controlsOf o a) (controls-specials o a);
-          size = eqb-true _ _ (both-true (eqb (length a) 9) (eqb (length b) (table54Size (controlsOf o a))) e .1);
-        }
-    go false e = tt
+sized-sized o a b =
+    cond-meets AllSized (eqb (length a) 9 && eqb (length b) (table54Size (controlsOf o a))) {x = found o (controlsOf o a) b} {y = missing notACalendar}
+    (λ e.
+    let n = controls-few o a in
+    record { rows = n .0; columns = width-most (controlsOf o a) (n .1); size = eqb-true _ _ (both-true (eqb (length a) 9) _ e .1) }) (λ e. tt)
 
 seats-sized : (img : List ℕ) (a b c : Option Seat) → AllSized (seatsFound img a b c)
 unfolding seatsFound
@@ -104,29 +90,21 @@ unfolding calendar
 calendar-sized d img o c t e = subst AllSized e (in-sized img (openImage d img))
 
 -- THE CELLS
-cell-used : (c : Controls) (t : List ℕ) (row column : ℕ) → row < c .seasons → column < rowWidth c
-    → matrixCell c t row column ≡ getD t (matrixAt c + row * rowWidth c + column) 0
-unfolding matrixCell cellAt
-cell-used c t row column h k = rw (lt-ltb _ _ h, lt-ltb _ _ k)
-
-cell-unused : (c : Controls) (t : List ℕ) (row column : ℕ) → (c .seasons ≤ row) ⊎ (rowWidth c ≤ column) → matrixCell c t row column ≡ 0
-unfolding matrixCell
-cell-unused c t row column (inl h) = rw (le-ltb _ _ h)
-cell-unused c t row column (inr h) = rw (le-ltb _ _ h, and-false)
-
 -- a row's cells lie before the next row's
 pub row-inside : (n row w column : ℕ) → row < n → column < w → row * w + column < n * w
 row-inside n row w column h k = omega (arith, mul-le-mul-right w h, suc-mul row w)
 
 matrix-found : (o : ℕ) (c : Controls) (t : List ℕ) → Sized c t → Shown c t (matrixIn (found o c t))
-unfolding matrixIn matrixOf
+unfolding matrixIn matrixOf matrixCell cellAt
 matrix-found o c t s =
     record {
       rows = s .rows;
       columns = s .columns;
       inside = λ row column h k. omega (arith, row-inside (c .seasons) row (rowWidth c) column h k, s .size);
-      used = λ row column h k. grid-cell (matrixCell c t) row column (omega arith) (omega arith) ∙ cell-used c t row column h k;
-      unused = λ row column h. grid-zero (matrixCell c t) row column (cell-unused c t row column h);
+      used = λ row column h k. grid-cell (matrixCell c t) row column (omega arith) (omega arith) ∙ rw (lt-ltb _ _ h, lt-ltb _ _ k);
+      unused =
+          λ row column h. grid-zero (matrixCell c t) row column
+          (⊎-elim (λ l. rw (le-ltb row (c .seasons) l)) (λ l. rw (le-ltb column (rowWidth c) l, and-false)) h);
     }
 
 -- REFUSED OR FOUND, it has its rows

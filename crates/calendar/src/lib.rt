@@ -363,15 +363,9 @@ pub fn tier(description: &[u8], image: &[u8], moment: Moment, quantity: Quantity
 pub fn matrix(description: &[u8], image: &[u8]) -> [[u8; 22]; 15]
     ensures { λ r. ⌜ r ≡ matrixReply (now (description .entry)) (now (image .entry)) ⌝ }
 {
-    let calendar = calendar_at(description, image);
-    match calendar {
-        Calendar::Refused(_) => [[0u8; 22]; 15],
-        Calendar::At {
-            controls,
-            start,
-            length,
-        } => rows_of(controls, octets::part(image, start, length)),
-    }
+    let mut cells = [[0u8; 22]; 15];
+    matrix_into(description, image, &mut cells);
+    cells
 }
 
 // The matrix's refusal.

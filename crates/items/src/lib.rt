@@ -5,12 +5,13 @@
 // and move on from there.
 use basics::bit_range;
 use basics::both;
+use basics::either;
 use basics::wide;
 use meaning::Fields;
 ghost use mathlib.Core.Path.{_≡_};
 ghost use Prim.Native.Nat.{_+_, _<_, _≤_, min};
 ghost use Rattle.meaning.specs.Basics.{if_then_else_, bits};
-ghost use Rattle.meaning.specs.Description.{itemCount, wordAt, ownOctets, referring, malformed, namesSlot, octetsOfCode, tableOf, uintOf, blockOf, setOf, arrayOf, ifOf, fieldsOf};
+ghost use Rattle.meaning.specs.Description.{itemCount, wordAt, ownOctets, referring, malformed, namesSlot, octetsOfCode, tableOf, uintOf, blockOf, setOf, arrayOf, ifOf, fieldsOf, isChoice, nests};
 ghost use Rattle.items.specs.Read.{readAt};
 
 // Bits high..low of a word, bit 0 least significant.
@@ -189,6 +190,20 @@ fn fields_of(word: u32) -> Fields
         6 => if_of(word),
         _ => malformed(),
     }
+}
+
+// Whether an item is a choice, which takes one of its bodies.
+pub fn is_choice(f: Fields) -> bool
+    ensures { λ r. ⌜ r ≡ isChoice f ⌝ }
+{
+    f.kind == 6
+}
+
+// Whether it is an ARRAY or a choice, which count in the depth.
+pub fn nests(f: Fields) -> bool
+    ensures { λ r. ⌜ r ≡ nests f ⌝ }
+{
+    either(f.kind == 5, is_choice(f))
 }
 
 // A place in a description: before item `at`.

@@ -3,21 +3,23 @@
 use Prim.Native.Nat.{ℕ, zero, suc, _+_, _-_, _<_, _≤_}
 use mathlib.Core.Path.{_≡_, refl, _∙_, sym}
 use mathlib.Core.List.{List}
-use mathlib.Core.Bool.{Bool, true, false, cond}
+use mathlib.Core.Bool.{Bool, true, false, cond, or-true, false≢true}
 use lib.Dec.{eqb}
 use borrow.Author.Tests.{eqb-true, eqb-false, eq-eqb, ne-eqb}
 use native.Mathlib.Omega.{arith}
 use Rattle.meaning.specs.declared.Fields.{Fields}
+use Rattle.meaning.specs.declared.Inner.{Inner}
 use Rattle.meaning.specs.declared.Round.{Round}
 use Rattle.meaning.specs.Ranges.{FieldsRange}
 use Rattle.meaning.specs.Passed.{Keeps, PassedLaws, endOf}
 use Rattle.meaning.specs.Description.{fieldsAt, nests, nested, count, inside, slotOctets}
-use Rattle.meaning.specs.Layout.{Node, Body, leaf, array, choice, stray, done, more, armsOf, nodeOf, bodyAt}
+use Rattle.meaning.specs.Layout.{Node, Body, leaf, array, choice, stray, done, more, Branches, otherwise, branch, branchesOf, bodyIn, armsOf, onlyBody, bodyAt}
 use Rattle.meaning.proofs.Ranges.{fields-range, sets-none}
 use Rattle.meaning.proofs.Rules.{slot-step}
 use Rattle.laying.specs.Sound.{Known, setKnown, GoodReference, SoundBody, SoundNode, SoundArms, afterNode, afterBody}
-use Rattle.laying.specs.Tree.{innerAt}
-use Rattle.laying.proofs.Nested.{Run, first-keeps, first-ends, first-body, second-body, rest-body}
+use Rattle.laying.specs.Tree.{innerAt, nodeAt}
+use Rattle.laying.proofs.Branches.{Within, BodyRun, BranchRuns, branches-within, only-run, branch-runs}
+use Rattle.laying.proofs.Nested.{Run, first-keeps, first-ends, rest-body, still}
 use Rattle.laying.proofs.Nodes.{node-cases}
 use Rattle.laying.proofs.Steps.{body-none, body-step}
 
@@ -54,36 +56,46 @@ record SoundItem (d : List ℕ) (free : Bool) (κ : Known) (t : Node) (e : ℕ) 
   sound : SoundNode free κ t
   after : Same d (afterNode t κ) e
 
--- what the two bodies of an ARRAY or IF come to, the first m items from a on, the second n items more
-record SoundBodies (d : List ℕ) (κ : Known) (body : ℕ → ℕ → Body) (a m n : ℕ) : Type 0 where
-  first : SoundBody false κ (body a m)
-  second : SoundBody false κ (body (a + m) n)
-  after : Same d κ (a + (m + n))
+-- what the bodies of an ARRAY or a choice at item `at` come to, k levels left
+record SoundBodies (d : List ℕ) (κ : Known) (k at : ℕ) : Type 0 where
+  one : SoundBody false κ (bodyIn (innerAt k d) at (onlyBody (fieldsAt d at)))
+  arms : SoundArms κ (armsOf (innerAt k d) at (branchesOf d at))
+  after : Same d κ (at + 1 + nested (fieldsAt d at))
 
--- a dimension stands in no ARRAY or IF
+-- a dimension stands in no ARRAY or choice
 unset : (s m : ℕ) → 0 < m → (0 < s → m ≡ 0) → s ≡ 0
 unset zero m p h = refl
 unset (suc s) m p h = absurd (omega (arith, h (omega arith)))
 
+counted : (b : Bool) → count b ≡ 1 → b ≡ true
+counted true e = refl
+counted false e = absurd (omega arith)
+
 -- an item that keeps the rules, with r round it and n items after it in its body
-module _ (d : List ℕ) (k at n : ℕ) (r : Round) (free : Bool) (κ : Known) (f : Fields)
-    (loose : free ≡ false → 0 < r .nests) (here : Same d κ at) (keep : Keeps d f at r) (range : FieldsRange f) (table : 0 < r .tables) (fits : nested f ≤ n)
-    (next : Same d (setKnown (f .sets) (f .octets) κ) (at + 1))
-    (bodies : nests f ≡ true → Same d κ (at + 1) → SoundBodies d κ (innerAt k d) (at + 1) (f .first) (f .second)) where
+module _ (d : List ℕ) (k at n : ℕ) (r : Round) (free : Bool) (κ : Known)
+    (loose : free ≡ false → 0 < r .nests) (here : Same d κ at) (keep : Keeps d (fieldsAt d at) at r) (table : 0 < r .tables) (fits : nested (fieldsAt d at) ≤ n)
+    (next : Same d (setKnown (fieldsAt d at .sets) (fieldsAt d at .octets) κ) (at + 1))
+    (bodies : nests (fieldsAt d at) ≡ true → Same d κ (at + 1) → SoundBodies d κ k at) where
+  abbrev f : Fields
+  f = fieldsAt d at
+
+  abbrev range : FieldsRange f
+  range = fields-range d at
+
   -- its reference, if it has one, is good
   good : GoodReference κ f
   good = record { some = range .some-bits; inside = λ h. rw (here (f .slot) h) (keep .refers h) }
 
   -- an item that sets no slot leaves those known as they are
-  unmoved : f .sets ≡ 0 → Same d κ (at + 1)
+  unmoved : (f .kind ≡ 2 → ⊥) → Same d κ (at + 1)
   unfolding setKnown
-  unmoved e = rw e at next
+  unmoved other = rw (sets-none f range other) at next
 
-  item : SoundItem d free κ (nodeOf (innerAt k d) f at n) (at + 1 + nested f)
-  unfolding SoundNode SoundArms armsOf afterNode
+  item : SoundItem d free κ (nodeAt k d at n) (at + 1 + nested f)
+  unfolding SoundNode afterNode
   item =
-      node-cases (λ t. SoundItem d free κ t (at + 1 + nested f)) (innerAt k d) f at n
-      (λ lost. absurd (lost fits (omega (arith, keep .wellFormed, eqb-false (f .kind) 1 (keep .within table))) (range .known)))
+      node-cases (λ t. SoundItem d free κ t (at + 1 + nested f)) (innerAt k d) d at n
+      (λ lost. absurd (lost fits (counted _ (range .known (omega (arith, keep .wellFormed, eqb-false (f .kind) 1 (keep .within table)))))))
       (λ l two four.
       let ends : at + 1 + nested f ≡ at + 1 = omega (arith, range .whole two four) in
       rw ends
@@ -91,8 +103,8 @@ module _ (d : List ℕ) (k at n : ℕ) (r : Round) (free : Bool) (κ : Known) (f
         sound = record { refers = good; unset = λ h. unset (f .sets) (r .nests) (loose h) (keep .direct); owns = λ h. range .owns (omega (arith, range .dimension h)) };
         after = next;
       }))
-      (λ l five. let b = bodies (rw five) (unmoved (sets-none f range (λ two. omega arith))) in record { sound = (good, b .first); after = b .after })
-      (λ l six. let b = bodies (rw six) (unmoved (sets-none f range (λ two. omega arith))) in record { sound = (good, (b .first, (b .second, tt))); after = b .after })
+      (λ l five. let b = bodies (rw five) (unmoved (λ two. omega arith)) in record { sound = (good, b .one); after = b .after })
+      (λ l choice. let b = bodies (rw (choice, or-true)) (unmoved (λ two. false≢true (rw two at choice))) in record { sound = (good, b .arms); after = b .after })
 
 -- BODIES. What a body comes to, up to item e
 pub record SoundRun (d : List ℕ) (free : Bool) (κ : Known) (b : Body) (e : ℕ) : Type 0 where
@@ -114,20 +126,33 @@ no-items d k at e free κ h same =
 
 -- a body with an item, where shorter ones are sound
 module _ {d : List ℕ} (p : PassedLaws d) (m : ℕ) (rec : Runs d m) (at e : ℕ) (r : Round) (κ : Known) (run : Run d at e r) (l : at < e) (t : 0 < r .tables) where
-  -- the two bodies of an ARRAY or IF: it has at most three levels round it, so a level is left for them
-  both : (k : ℕ) → e ≤ at + m → 4 ≤ k + r .nests → nests (fieldsAt d at) ≡ true → Same d κ (at + 1)
-      → SoundBodies d κ (innerAt k d) (at + 1) (fieldsAt d at .first) (fieldsAt d at .second)
-  unfolding inside innerAt
+  -- the bodies of an ARRAY or a choice, one level down
+  module _ (k : ℕ) (few : e ≤ at + m) (deep : 4 ≤ suc k + r .nests) (nest : nests (fieldsAt d at) ≡ true) (same : Same d κ (at + 1)) where
+    quiet : (i : ℕ) → at + 1 ≤ i → i ≤ endOf d at → Same d κ i
+    quiet i a b j s = same j s ∙ sym (still p run l nest j s i a b)
+
+    sound-body : (c : Inner) → BodyRun d at r c → c .skip + c .items ≤ nested (fieldsAt d at) → SoundBody false κ (bodyIn (bodyAt k d) at c)
+    unfolding inside
+    sound-body c b w =
+        let one : count (nests (fieldsAt d at)) ≡ 1 = rw nest in
+        let ends = first-ends p run l in
+        rec k (at + 1 + c .skip) (c .items) _ _ false κ (omega arith) refl b (omega arith) (λ z. omega arith) (omega arith) (quiet _ (omega arith) (omega arith)) .sound
+
+    sound-arms : (b : Branches) → BranchRuns d at r b → Within (nested (fieldsAt d at)) b → SoundArms κ (armsOf (bodyAt k d) at b)
+    unfolding BranchRuns Within armsOf SoundArms
+    sound-arms (otherwise c) b w = sound-body c b w
+    sound-arms (branch t c rest) b w = (sound-body c (b .0) (w .0), sound-arms rest (b .1) (w .1))
+
+  -- it has at most three levels round it, so a level is left for them
+  both : (k : ℕ) → e ≤ at + m → 4 ≤ k + r .nests → nests (fieldsAt d at) ≡ true → Same d κ (at + 1) → SoundBodies d κ k at
+  unfolding innerAt
   both zero few deep h same = absurd (omega (arith, first-keeps p run l .shallow h))
   both (suc k) few deep h same =
-      let f = fieldsAt d at in
-      let one : count (nests f) ≡ 1 = rw h in
-      let ends = first-ends p run l in
-      let x = rec k (at + 1) (f .first) _ _ false κ (omega arith) refl (first-body p run l) (omega arith) (λ z. omega arith) (omega arith) same in
-      let next : Same d κ (at + 1 + f .first) = rw (quiet-body κ _ (x .sound)) at (x .after) in
-      let y = rec k (at + 1 + f .first) (f .second) _ _ false κ (omega arith) refl (second-body p run l) (omega arith) (λ z. omega arith) (omega arith) next in
-      let end : at + 1 + (f .first + f .second) ≡ endOf d at = omega arith in
-      record { first = x .sound; second = y .sound; after = rw end (rw (quiet-body κ _ (y .sound)) at (y .after)) }
+      record {
+        one = sound-body k few deep h same (onlyBody (fieldsAt d at)) (only-run p run l) (omega arith);
+        arms = sound-arms k few deep h same (branchesOf d at) (branch-runs p run l) (branches-within d at);
+        after = quiet k few deep h same _ (omega arith) (omega arith);
+      }
 
   -- a body is its first item and the rest
   one-more : (k n : ℕ) (free : Bool) → n < m → at + suc n ≡ e → (free ≡ false → 0 < r .nests) → 4 ≤ k + r .nests → Same d κ at
@@ -137,7 +162,7 @@ module _ {d : List ℕ} (p : PassedLaws d) (m : ℕ) (rec : Runs d m) (at e : �
       let f = fieldsAt d at in
       let ends = first-ends p run l in
       let next = same-next d at (f .sets) (f .octets) κ same (slot-step d at) in
-      let x = item d k at n r free κ f loose same (first-keeps p run l) (fields-range d at) t (omega arith) next (both k (omega arith) deep) in
+      let x = item d k at n r free κ loose same (first-keeps p run l) t (omega arith) next (both k (omega arith) deep) in
       let there : at + 1 + nested f ≡ endOf d at = omega arith in
       let y = rec k (endOf d at) (n - nested f) e r free _ (omega arith) (omega arith) (rest-body p run l) t loose deep (rw there at (x .after)) in
       rw (body-step k d at n, there) (record { sound = (x .sound, y .sound); after = y .after })

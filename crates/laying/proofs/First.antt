@@ -2,7 +2,7 @@
 -- sets a slot. What is laid after the first element, and after the first table, doesn't change that. Assumes nothing.
 use Prim.Native.Nat.{ℕ, suc, _+_, _-_, _<_, _≤_}
 use mathlib.Core.Path.{_≡_, refl, subst}
-use mathlib.Core.Bool.{true, false, _&&_, and-eq-true-iff}
+use mathlib.Core.Bool.{true, false, _&&_, and-eq-true-iff, false≢true}
 use mathlib.Core.List.{List, [], _∷_}
 use mathlib.Core.Option.{some}
 use lib.ListN.{length}
@@ -11,7 +11,7 @@ use native.Mathlib.Omega.{arith}
 use Rattle.meaning.specs.Basics.{_=?_, _<?_, _≤?_}
 use Rattle.meaning.specs.declared.Fields.{Fields}
 use Rattle.meaning.specs.Description.{itemCount, fieldsAt, isTable, isTableNamed, isTable00, isDataOrder, isDimension, nested}
-use Rattle.meaning.specs.Layout.{Body, Tables, leaf, more, table, nodeOf, bodyOf, bodyAt, tableAt, tablesOf, treeOf, leafOctets}
+use Rattle.meaning.specs.Layout.{Body, Tables, leaf, more, table, branchesOf, nodeOf, bodyOf, bodyAt, tableAt, tablesOf, treeOf, leafOctets}
 use Rattle.meaning.specs.Layout.{Slots, Placed, short, Laid, laid, stopped, also, andThen, valued, inImage, placed, layBody}
 use Rattle.meaning.specs.Layout.{Seat, Layout, laidOut, stoppedAt, before, seated, layTables, layOut, tableNamed}
 use Rattle.meaning.specs.Passed.{Passes, PassedLaws}
@@ -62,13 +62,13 @@ begins-tables f g m k h e o b rest img s =
 -- THE TREE
 module _ (d : List ℕ) where
   -- what sets a slot is a UINT
-  dimension-node : (inner : ℕ → ℕ → Body) (at m : ℕ) → 0 < fieldsAt d at .sets → nodeOf inner (fieldsAt d at) at m ≡ leaf at (fieldsAt d at)
+  dimension-node : (inner : ℕ → ℕ → Body) (at m : ℕ) → 0 < fieldsAt d at .sets → nodeOf inner (fieldsAt d at) (branchesOf d at) at m ≡ leaf at (fieldsAt d at)
   dimension-node inner at m h =
       let f = fieldsAt d at in
       let r = fields-range d at in
       let k = r .dimension h in
-      node-cases (λ n. n ≡ leaf at f) inner f at m (λ no. absurd (no (omega (arith, r .whole (omega arith) (omega arith))) (omega arith) (omega arith)))
-      (λ l a b. refl) (λ l e. absurd (omega arith)) (λ l e. absurd (omega arith))
+      node-cases (λ n. n ≡ leaf at f) inner d at m (λ no. absurd (no (omega (arith, r .whole (omega arith) (omega arith))) (rw k)))
+      (λ l a b. refl) (λ l e. absurd (omega arith)) (λ l e. absurd (false≢true (rw k at e)))
 
   -- the first table, of at least one item, begins with item 1
   first-table : (n m : ℕ) → isTable (fieldsAt d 0) ≡ true → fieldsAt d 0 .first ≡ suc m → suc m ≤ n → 0 < fieldsAt d 1 .sets

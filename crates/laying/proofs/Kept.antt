@@ -10,7 +10,7 @@ use native.Mathlib.Omega.{arith}
 use Rattle.meaning.specs.Basics.{if_then_else_, _≤?_}
 use Rattle.meaning.specs.declared.Fields.{Fields}
 use Rattle.meaning.specs.Description.{refers}
-use Rattle.meaning.specs.Layout.{Node, Body, Arms, Tables, leaf, array, choice, stray, done, more, noArm, arm, noMore, table, strayTable, treeOf, leafOctets}
+use Rattle.meaning.specs.Layout.{Node, Body, Arms, Tables, leaf, array, choice, stray, done, more, lastArm, arm, noMore, table, strayTable, treeOf, leafOctets}
 use Rattle.meaning.specs.Layout.{Slot, Slots, unread, holds, setSlot, numberAt, Placed, Laid, laid, stopped, also, andThen, reading, valued, inImage, placed}
 use Rattle.meaning.specs.Layout.{sizeFrom, repeated, layBody, layNode, layArms, Seat, Layout, laidOut, stoppedAt, before, seated, layTables, layOut}
 use Rattle.meaning.specs.Passed.{Passes}
@@ -109,7 +109,7 @@ module _ (img later : List ℕ) (long : length later ≡ length img) where
     -- the arm that is taken
     kept-arms : (arms : Arms) (κ : Known) → SoundArms κ arms → (x : ℕ) (a : Bool) (s : Slots) (p : ℕ)
         → Kept a (layArms arms x img a s p) (layArms arms x later a s p)
-    kept-arms noArm κ h x a s p = kept-equal refl
+    kept-arms (lastArm b) κ h x a s p = kept-body b false κ h a (λ e. refl) s p
     kept-arms (arm t b arms) κ h x a s p = kept-test (t x) (kept-body b false κ (h .0) a (λ e. refl) s p) (kept-arms arms κ (h .1) x a s p)
 
   -- THE WHOLE IMAGE

@@ -11,7 +11,7 @@ use native.Mathlib.Omega.{arith}
 use Rattle.meaning.specs.Basics.{_=?_, _≤?_}
 use Rattle.meaning.specs.declared.Fields.{Fields}
 use Rattle.meaning.specs.Description.{refers}
-use Rattle.meaning.specs.Layout.{Node, Body, Arms, leaf, array, choice, stray, done, more, noArm, arm}
+use Rattle.meaning.specs.Layout.{Node, Body, Arms, leaf, array, choice, stray, done, more, lastArm, arm}
 use Rattle.meaning.specs.Layout.{Slot, Slots, unread, holds, Placed, Fault, fault, short, Laid, laid, stopped, also, andThen, reading, valued, inImage, placed}
 use Rattle.meaning.specs.Layout.{leafOctets, under, asElement, repeated, layBody, layNode, layArms}
 use Rattle.laying.specs.Every.{Every}
@@ -216,16 +216,15 @@ module _ (d : List ℕ) where
           keeps-valued s f i (λ c. keeps-image a i (keeps-map (λ e k. k .0)
           (keeps-repeated (λ j e k. record { low = k .low; high = k .high; few = omega (arith, k .few); of = k .of })
           _ (λ t q. keeps-body b (n + 1) lo hi h true t q) i _ c 0 s p)))
-      keeps-node (choice i f arms) n lo hi h a s p = keeps-valued s f i (λ x. keeps-arms arms n lo hi h x a s p)
+      keeps-node (choice i f arms) n lo hi h a s p = keeps-valued s f i (λ x. keeps-arms arms n lo hi (h .2) x a s p)
       keeps-node (stray i) n lo hi h a s p = faults
 
       -- the arm that is taken
       pub keeps-arms : (arms : Arms) (n lo hi : ℕ) → RisesArms d n lo hi arms → (x : ℕ) (a : Bool) (s : Slots) (p : ℕ)
           → Keeps a (length img) p (Own d n lo hi) (layArms arms x img a s p)
-      keeps-arms noArm n lo hi h x a s p = lays laying-none
+      keeps-arms (lastArm b) n lo hi h x a s p = keeps-body b n lo hi h a s p
       keeps-arms (arm t b arms) n lo hi h x a s p =
-          tested (Keeps a (length img) p (Own d n lo hi)) (t x) _ _ (λ e. keeps-map (wider (omega arith) (h .2)) (keeps-body b n lo (h .0) (h .3) a s p))
-          (λ e. keeps-map (wider (h .1) (omega arith)) (keeps-arms arms n (h .0) hi (h .4) x a s p))
+          tested (Keeps a (length img) p (Own d n lo hi)) (t x) _ _ (λ e. keeps-body b n lo hi (h .0) a s p) (λ e. keeps-arms arms n lo hi (h .1) x a s p)
 
     -- of a body that is laid
     pub laying-body : (b : Body) (n lo hi : ℕ) → RisesBody d n lo hi b → (a : Bool) (s : Slots) (p : ℕ) {ps : List Placed} {t : Slots} {q : ℕ}

@@ -4,12 +4,15 @@ pub mod Nodes
 pub mod Rising
 pub mod Steps
 pub mod Nested
+pub mod Branches
 pub mod Bodies
 pub mod Tops
+pub mod Rows
 pub mod Spots
 pub mod Whole
+pub mod Standing
 pub mod Reaches
-pub mod Unchosen
+pub mod Arms
 pub mod Cover
 pub mod Apart
 pub mod Laying

@@ -1,14 +1,16 @@
--- A body of a passed description is a run of items with the same TABLE, ARRAYs and IFs round each of them: so are the bodies of its first item, and what
+-- A body of a passed description is a run of items with the same TABLE, ARRAYs and choices round each of them: so are the bodies of its first item, and what
 -- follows those. Assumes nothing.
 use Prim.Native.Nat.{ℕ, _+_, _<_, _≤_}
 use mathlib.Core.Path.{_≡_, refl, _∙_, ap}
+use mathlib.Core.Bool.{true}
 use mathlib.Core.List.{List}
+use borrow.Author.Tests.{ne-eqb}
 use native.Mathlib.Omega.{arith}
 use native.Mathlib.Decide.{decLt}
 use Rattle.meaning.specs.declared.Round.{Round}
-use Rattle.meaning.specs.Description.{itemCount, fieldsAt, inside, round}
+use Rattle.meaning.specs.Description.{itemCount, fieldsAt, nests, count, inside, round, slotOctets}
 use Rattle.meaning.specs.Passed.{Keeps, PassedLaws, endOf}
-use Rattle.meaning.proofs.Rules.{beyond, in-first, in-second}
+use Rattle.meaning.proofs.Rules.{beyond, in-first, in-second, slot-step}
 use Rattle.meaning.proofs.Nesting.{upward}
 
 -- the items from a up to e, with r round each of them
@@ -72,3 +74,30 @@ module _ {d : List ℕ} (p : PassedLaws d) {a e : ℕ} {r : Round} (b : Run d a 
       within j s t (no n) y = let x : j ≡ a = omega arith in rw x (omega arith)
       within j s t (yes x) (yes y) = omega (arith, p .nest .first a j (omega (arith, first-ends, b .whole)) x y)
       within j s t (yes x) (no n) = p .nest .second a j (omega (arith, first-ends, b .whole)) (omega arith) t
+
+-- WHAT STANDS IN AN ARRAY OR A CHOICE sets no slot
+-- items before an item put no less round it than fewer of them do
+grows : (d : List ℕ) (k i : ℕ) → round d k i .nests ≤ round d (k + 1) i .nests
+unfolding inside
+grows d k i = go (decLt i (k + 1 + fieldsAt d k .first)) (decLt i (endOf d k))
+  where
+    go : Dec (i < k + 1 + fieldsAt d k .first) → Dec (i < endOf d k) → round d k i .nests ≤ round d (k + 1) i .nests
+    go (yes x) y = rw (in-first d k i x) (omega arith)
+    go (no x) (yes y) = rw (in-second d k i (omega arith) y) (omega arith)
+    go (no x) (no y) = rw (beyond d k i (omega arith)) (omega arith)
+
+module _ {d : List ℕ} (p : PassedLaws d) {a e : ℕ} {r : Round} (b : Run d a e r) (l : a < e) (nest : nests (fieldsAt d a) ≡ true) where
+  deep : (i : ℕ) → a < i → i < endOf d a → 0 < round d i i .nests
+  unfolding inside
+  deep i s t = upward (λ k. 0 < round d k i .nests) (a + 1) (go (decLt i (a + 1 + fieldsAt d a .first))) (λ k z h. omega (arith, grows d k i)) i (omega arith)
+    where
+      go : Dec (i < a + 1 + fieldsAt d a .first) → 0 < round d (a + 1) i .nests
+      go (yes x) = let one : count (nests (fieldsAt d a)) ≡ 1 = rw nest in rw (in-first d a i x) (omega arith)
+      go (no x) = let one : count (nests (fieldsAt d a)) ≡ 1 = rw nest in rw (in-second d a i (omega arith) t) (omega arith)
+
+  pub still : (j : ℕ) → 0 < j → (k : ℕ) → a + 1 ≤ k → k ≤ endOf d a → slotOctets d k j ≡ slotOctets d (a + 1) j
+  still j some =
+      upward (λ k. k ≤ endOf d a → slotOctets d k j ≡ slotOctets d (a + 1) j) (a + 1) (λ z. refl)
+      (λ k s rec t.
+      let none = p .keeps k (omega (arith, first-ends p b l, b .whole)) .direct in
+      slot-step d k j ∙ rw (ne-eqb (fieldsAt d k .sets) j (λ e. omega (arith, none (omega arith), deep k (omega arith) (omega arith)))) (rec (omega arith)))

@@ -12,12 +12,12 @@ use native.Mathlib.Omega.{arith}
 use Rattle.meaning.specs.declared.Fields.{Fields}
 use Rattle.meaning.specs.Description.{refers}
 use Rattle.meaning.specs.Passed.{Passes}
-use Rattle.meaning.specs.Layout.{Node, Body, Arms, Tables, leaf, array, choice, stray, done, more, noArm, arm, noMore, table, strayTable, treeOf}
+use Rattle.meaning.specs.Layout.{Node, Body, Arms, Tables, leaf, array, choice, stray, done, more, lastArm, arm, noMore, table, strayTable, treeOf}
 use Rattle.meaning.specs.Layout.{Slots, unread, holds, setSlot, leafOctets, numberAt, Placed, Stop, fault, short, Laid, laid, stopped, also, andThen, inImage, placed}
 use Rattle.meaning.specs.Layout.{layBody, layNode, layArms, Seat, Layout, laidOut, stoppedAt, before, seated, layTables, layOut}
 use Rattle.laying.specs.Every.{Every}
 use Rattle.laying.specs.Outcomes.{Lays, setNumber, readOn, OutsideBody, OutsideNode, OutsideArms, Outside, itemOfNode, ShortIn, ShortAt}
-use Rattle.laying.specs.Rows.{Row, noRow, rowSpot, firstRow, onward, unchosen, bodyRow, itemRow, passedOver, rowAfter, walkBody, walkNode, walkArms}
+use Rattle.laying.specs.Rows.{Row, noRow, rowSpot, firstRow, onward, passedOver, bodyRow, itemRow, rowAfter, walkBody, walkNode, walkArms}
 use Rattle.laying.specs.Rows.{walkTables, rowOf, seen}
 use Rattle.laying.specs.Sizes.{Numbers, value, bodySize, itemSize}
 use Rattle.laying.specs.Slots.{numberOf, octetsOf, numbersOf, Matches}
@@ -25,10 +25,10 @@ use Rattle.laying.specs.Sound.{Known, noneKnown, setKnown, SoundBody, So
 use Rattle.laying.proofs.Bodies.{quiet-body}
 use Rattle.laying.proofs.Either.{tested}
 use Rattle.laying.proofs.Rising.{RisesBody, RisesNode, RisesArms, RisesTables, afterTable, rises-tree}
+use Rattle.laying.proofs.Rows.{Other, other-narrower, first-none, onward-none, over-none, over-absent, parted, first-alone}
 use Rattle.laying.proofs.Spots.{orElse, seen-none, seen-append, seen-one, row-onward, row-absent, row-first}
 use Rattle.laying.proofs.Tops.{passed-sound}
-use Rattle.laying.proofs.Whole.{Other, other-narrower, first-none, onward-none, unchosen-none, other-body, other-node, other-over, parted, over-absent}
-use Rattle.laying.proofs.Whole.{first-alone, first-later, Whole, value-is, w-body, w-array}
+use Rattle.laying.proofs.Whole.{other-node, Whole, value-is, w-body, w-array}
 
 -- THE SLOTS
 -- a slot that is set, on each side
@@ -89,17 +89,14 @@ module _ (d img : List ℕ) (i : ℕ) where
     elsewhere-node : (n lo hi : ℕ) (x : Node) → RisesNode d n lo hi x → Other lo hi i → (s : Slots) (p : ℕ) → walkNode x img s p i ≡ noRow
     elsewhere-node n lo hi (leaf j f) h o s p = onward-none p _ (other-node d (numbersOf s) i n lo hi (leaf j f) h o)
     elsewhere-node n lo hi (array j f b) h o s p = onward-none p _ (other-node d (numbersOf s) i n lo hi (array j f b) h o)
-    elsewhere-node n lo hi (choice j f arms) h o s p = elsewhere-arms n lo hi arms (value (numbersOf s) f) h o s p
+    elsewhere-node n lo hi (choice j f arms) h o s p =
+        first-none _ _ (elsewhere-arms n lo hi arms (value (numbersOf s) f) (h .2) o s p) (over-none lo hi j f i (h .0) (h .1) o)
     elsewhere-node n lo hi (stray j) h o s p = refl
 
     elsewhere-arms : (n lo hi : ℕ) (arms : Arms) (x : ℕ) → RisesArms d n lo hi arms → Other lo hi i → (s : Slots) (p : ℕ) → walkArms arms x img s p i ≡ noRow
-    elsewhere-arms n lo hi noArm x h o s p = refl
+    elsewhere-arms n lo hi (lastArm b) x h o s p = elsewhere-body n lo hi b h o s p
     elsewhere-arms n lo hi (arm t b arms) x h o s p =
-        let first = other-narrower lo hi lo (h .0) i (omega arith) (h .2) o in
-        let rest = other-narrower lo hi (h .0) hi i (h .1) (omega arith) o in
-        tested (λ r. r ≡ noRow) (t x) _ _
-        (λ e. first-none _ _ (elsewhere-body n lo (h .0) b (h .3) first s p) (other-over d (numbersOf s) i n (h .0) hi arms (h .4) rest))
-        (λ e. first-none _ _ (unchosen-none _ (other-body d (numbersOf s) i n lo (h .0) b (h .3) first)) (elsewhere-arms n (h .0) hi arms x (h .4) rest s p))
+        tested (λ r. r ≡ noRow) (t x) _ _ (λ e. elsewhere-body n lo hi b (h .0) o s p) (λ e. elsewhere-arms n lo hi arms x (h .1) o s p)
 
   elsewhere-tables : (lo : ℕ) (t : Tables) → RisesTables d lo t → i < lo → (s : Slots) (p : ℕ) → walkTables t img s p i ≡ noRow
   unfolding walkTables RisesTables
@@ -237,23 +234,22 @@ module _ (img : List ℕ) where
           rw (value-is s κ f i _ m (h .0))
           (r-whole (array i f b) s κ p _ m
           (w-array s (λ t q. layBody b img true t q) (bodySize b v) (λ j. bodyRow b v j) (λ q. w-body d img s κ m b (n + 1) lo hi q (h .1) r) i (value v f) p))
-      r-node (choice i f arms) free n lo hi s κ p m h r = rw (value-is s κ f i _ m (h .0)) (r-arms arms (value (numbersOf s) f) n lo hi s κ p m (h .1) r)
+      r-node (choice j f arms) free n lo hi s κ p m h r =
+          let x = value (numbersOf s) f in
+          rw (value-is s κ f j _ m (h .0))
+          (r-as (OutsideArms arms) (OutsideArms arms) s κ _ _ (layArms arms x img false s p) (λ n t. t) (λ i xs. first-alone (walkArms arms x img s p i) (passedOver j f i) xs (over-absent j f i xs))
+          (r-arms arms x n lo hi s κ p m (h .1) (r .2)))
       r-node (stray i) free n lo hi s κ p m h r = absurd h
 
       r-arms : (arms : Arms) (x n lo hi : ℕ) (s : Slots) (κ : Known) (p : ℕ) → Matches s κ → SoundArms κ arms → RisesArms d n lo hi arms
           → Reaches (OutsideArms arms) s κ (λ i. walkArms arms x img s p i) (layArms arms x img false s p)
-      r-arms noArm x n lo hi s κ p m h r = nothing s κ m
+      r-arms (lastArm b) x n lo hi s κ p m h r = rw (quiet-body κ b h) at (r-body b false n lo hi s κ p m h r)
       r-arms (arm t b arms) x n lo hi s κ p m h r =
-          let v = numbersOf s in
-          r-pick (OutsideArms (arm t b arms)) s κ (t x) (λ i. firstRow (walkBody b img s p i) (passedOver arms v i))
-          (λ i. firstRow (unchosen (bodyRow b v i)) (walkArms arms x img s p i)) _ _
-          (r-as (OutsideBody b) (OutsideArms (arm t b arms)) s κ _ _ (layBody b img false s p) (λ n. inl)
-          (λ i xs. first-alone (walkBody b img s p i) (passedOver arms v i) xs (over-absent d v i arms xs))
-          (rw (quiet-body κ b (h .0)) at (r-body b false n lo (r .0) s κ p m (h .0) (r .3))))
-          (r-as (OutsideArms arms) (OutsideArms (arm t b arms)) s κ _ _ (layArms arms x img false s p) (λ n. inr)
-          (λ i xs. first-later (bodyRow b v i) (walkArms arms x img s p i) xs
-          (parted i (r .0) _ _ (λ l. unchosen-none _ (other-body d v i n lo (r .0) b (r .3) (inr l))) (λ l. elsewhere-arms d img i n (r .0) hi arms x (r .4) (inl l) s p)))
-          (r-arms arms x n (r .0) hi s κ p m (h .1) (r .4)))
+          r-pick (OutsideArms (arm t b arms)) s κ (t x) (λ i. walkBody b img s p i) (λ i. walkArms arms x img s p i) _ _
+          (r-as (OutsideBody b) (OutsideArms (arm t b arms)) s κ _ _ (layBody b img false s p) (λ n. inl) (λ i xs. refl)
+          (rw (quiet-body κ b (h .0)) at (r-body b false n lo hi s κ p m (h .0) (r .0))))
+          (r-as (OutsideArms arms) (OutsideArms (arm t b arms)) s κ _ _ (layArms arms x img false s p) (λ n. inr) (λ i xs. refl)
+          (r-arms arms x n lo hi s κ p m (h .1) (r .1)))
 
 -- THE WHOLE IMAGE
 module _ (d img : List ℕ) where

@@ -9,11 +9,12 @@ use native.Mathlib.Omega.{arith}
 use Rattle.meaning.specs.Basics.{_≤?_}
 use Rattle.meaning.specs.declared.Fields.{Fields}
 use Rattle.meaning.specs.Description.{itemCount, fieldsAt, isTable, nested}
-use Rattle.meaning.specs.Layout.{Node, Body, Arms, Tables, leaf, array, choice, stray, done, more, noArm, arm, noMore, table, strayTable}
-use Rattle.meaning.specs.Layout.{armsOf, nodeOf, bodyOf, bodyAt, tableAt, tablesOf, treeOf, leafOctets}
+use Rattle.meaning.specs.Layout.{Node, Body, Arms, Tables, leaf, array, choice, stray, done, more, lastArm, arm, noMore, table, strayTable}
+use Rattle.meaning.specs.Layout.{Branches, otherwise, branch, branchesOf, armsOf, nodeOf, bodyOf, bodyAt, tableAt, tablesOf, treeOf, leafOctets}
 use Rattle.meaning.proofs.Ranges.{fields-range}
 use Rattle.laying.specs.Own.{OfItem}
 use Rattle.laying.specs.Tree.{innerAt, nodeAt}
+use Rattle.laying.proofs.Branches.{Within, branches-within}
 use Rattle.laying.proofs.Either.{tested}
 use Rattle.laying.proofs.Nodes.{node-cases}
 
@@ -35,13 +36,12 @@ module _ (d : List ℕ) where
     pub RisesNode : (n lo hi : ℕ) → Node → Type 0
     RisesNode n lo hi (leaf i f) = Leaf n lo hi i f
     RisesNode n lo hi (array i f b) = RisesBody (n + 1) lo hi b
-    RisesNode n lo hi (choice i f arms) = RisesArms n lo hi arms
+    RisesNode n lo hi (choice i f arms) = (lo ≤ i + 1) × (i + 1 + nested f ≤ hi) × RisesArms n lo hi arms
     RisesNode n lo hi (stray i) = Unit {0}
 
-    -- the items of one arm before those of the next
     pub RisesArms : (n lo hi : ℕ) → Arms → Type 0
-    RisesArms n lo hi noArm = Unit {0}
-    RisesArms n lo hi (arm t b arms) = (mid : ℕ) × (lo ≤ mid) × (mid ≤ hi) × RisesBody n lo mid b × RisesArms n mid hi arms
+    RisesArms n lo hi (lastArm b) = RisesBody n lo hi b
+    RisesArms n lo hi (arm t b arms) = RisesBody n lo hi b × RisesArms n lo hi arms
 
   -- the item after table i's last
   abbrev pub afterTable : (i : ℕ) → ℕ
@@ -71,17 +71,21 @@ module _ (d : List ℕ) where
 
   -- where the bodies one level down rise, with one array more at most round them
   module _ (inner : ℕ → ℕ → Body) (n : ℕ) (few : n ≤ 4) (deeper : (k at m lo hi : ℕ) → k ≤ n + 1 → Room 0 at m lo hi → RisesBody k lo hi (inner at m)) where
-    -- so does an item
-    rises-node : (at m lo hi : ℕ) → Room 0 at (1 + min m (nested (fieldsAt d at))) lo hi → RisesNode n lo hi (nodeOf inner (fieldsAt d at) at m)
-    unfolding RisesNode armsOf
+    -- so do the arms of a choice whose items have room
+    rises-arms : (at m lo hi : ℕ) → Room 0 (at + 1) m lo hi → (b : Branches) → Within m b → RisesArms n lo hi (armsOf inner at b)
+    unfolding RisesArms armsOf Within
+    rises-arms at m lo hi r (otherwise c) h = deeper n _ (c .items) lo hi (omega arith) (omega arith)
+    rises-arms at m lo hi r (branch t c rest) h = (deeper n _ (c .items) lo hi (omega arith) (omega (arith, h .0)), rises-arms at m lo hi r rest (h .1))
+
+    -- and so does an item
+    rises-node : (at m lo hi : ℕ) → Room 0 at (1 + min m (nested (fieldsAt d at))) lo hi → RisesNode n lo hi (nodeOf inner (fieldsAt d at) (branchesOf d at) at m)
+    unfolding RisesNode
     rises-node at m lo hi r =
         let f = fieldsAt d at in
-        let mid = at + 1 + f .first in
-        node-cases (RisesNode n lo hi) inner f at m (λ s. tt)
+        node-cases (RisesNode n lo hi) inner d at m (λ s. tt)
         (λ l a b. record { few = few; low = omega arith; high = omega arith; own = of-item at (omega arith) a b })
-        (λ l k. deeper (n + 1) (at + 1) (f .first) lo hi (omega arith) (omega arith))
-        (λ l k. let second = deeper n mid (f .second) mid hi (omega arith) (omega arith) in
-        (mid, omega arith, omega arith, deeper n (at + 1) (f .first) lo mid (omega arith) (omega arith), (hi, omega arith, omega arith, second, tt)))
+        (λ l k. deeper (n + 1) (at + 1 + 0) (f .first) lo hi (omega arith) (omega arith))
+        (λ l k. (omega arith, omega arith, rises-arms at (nested f) lo hi (omega arith) (branchesOf d at) (branches-within d at)))
 
     -- and a body
     rises-of : (m skip at lo hi : ℕ) → Room skip at m lo hi → RisesBody n lo hi (bodyOf inner d m skip at)

@@ -10,7 +10,7 @@ use borrow.Author.Tests.{eqb-true, eqb-false, ltb-true, ltb-false, lt-ltb, le-lt
 use native.Mathlib.Nat.{zero-mul, suc-mul}
 use native.Mathlib.Omega.{arith}
 use Rattle.meaning.specs.Layout.{Placed, under, sameList, elementNamed}
-use Rattle.laying.specs.Rows.{Array, Row, row, notChosen, noRow, Spot, spot, absent, spotIn, rowSpot, firstRow, onward, inArray, unchosen, spotOf, seen}
+use Rattle.laying.specs.Rows.{Array, Row, row, notChosen, noRow, Spot, spot, absent, spotIn, rowSpot, firstRow, onward, inArray, spotOf, seen}
 
 -- the first that is somewhere
 unfoldable pub orElse : Spot → Spot → Spot
@@ -177,12 +177,6 @@ unfolding rowSpot onward further
 row-onward k (row p n rest) xs = spot-onward k p n rest xs
 row-onward k (notChosen rest) xs = refl
 row-onward k noRow xs = refl
-
-pub row-unchosen : (r : Row) (xs : List ℕ) → rowSpot (unchosen r) xs ≡ absent
-unfolding rowSpot unchosen
-row-unchosen (row p n rest) xs = refl
-row-unchosen (notChosen rest) xs = refl
-row-unchosen noRow xs = refl
 
 pub row-absent : (xs : List ℕ) → rowSpot noRow xs ≡ absent
 unfolding rowSpot

@@ -8,7 +8,7 @@ use native.Mathlib.Omega.{arith}
 use Rattle.meaning.specs.declared.Round.{Round}
 use Rattle.meaning.specs.Description.{itemCount, fieldsAt, isTable, nested, count, inside}
 use Rattle.meaning.specs.Passed.{Passes, PassedLaws, endOf}
-use Rattle.meaning.specs.Layout.{Node, Body, Arms, Tables, leaf, array, choice, stray, done, more, noArm, arm, noMore, table, strayTable, tableAt, bodyAt}
+use Rattle.meaning.specs.Layout.{Node, Body, Arms, Tables, leaf, array, choice, stray, done, more, lastArm, arm, noMore, table, strayTable, tableAt, bodyAt}
 use Rattle.meaning.specs.Layout.{tablesOf, treeOf}
 use Rattle.meaning.proofs.Passed.{passed-laws}
 use Rattle.meaning.proofs.Ranges.{fields-range, sets-none}
@@ -78,7 +78,7 @@ mutual
   fit-node free κ (stray i) h = h
 
   fit-arms : (κ : Known) (arms : Arms) → SoundArms κ arms → FitArms arms
-  fit-arms κ noArm h = tt
+  fit-arms κ (lastArm b) h = fit-body false κ b h
   fit-arms κ (arm t b arms) h = (fit-body false κ b (h .0), fit-arms κ arms (h .1))
 
 -- in any table

@@ -2,21 +2,20 @@
 -- So an array's elements are of one size. Assumes nothing.
 use Prim.Native.Nat.{ℕ, zero, suc, _+_, _-_, _*_, _<_, _≤_}
 use mathlib.Core.Path.{_≡_, refl, _∙_, ap, ap₂, sym}
-use mathlib.Core.Logic.{_⊎_, inl, inr}
+use mathlib.Core.Logic.{inl, inr}
 use mathlib.Core.Bool.{Bool, true, false, cond}
 use mathlib.Core.List.{List, [], _∷_}
 use lib.Dec.{eqb}
 use borrow.Author.Tests.{le-leb, eq-eqb, ne-eqb, ltb-true}
-use native.Mathlib.Decide.{decLt}
 use native.Mathlib.Nat.{suc-mul}
 use native.Mathlib.Omega.{arith}
 use Rattle.meaning.specs.declared.Fields.{Fields}
 use Rattle.meaning.specs.Description.{refers}
-use Rattle.meaning.specs.Layout.{Node, Body, Arms, leaf, array, choice, stray, done, more, noArm, arm}
+use Rattle.meaning.specs.Layout.{Node, Body, Arms, leaf, array, choice, stray, done, more, lastArm, arm}
 use Rattle.meaning.specs.Layout.{Slot, Slots, unread, holds, setSlot, bitRange, leafOctets, Placed, Laid, laid, stopped, also, andThen, reading, valued}
 use Rattle.meaning.specs.Layout.{inImage, placed, sizeFrom, under, asElement, repeated, layBody, layNode, layArms}
 use Rattle.laying.specs.Every.{Every}
-use Rattle.laying.specs.Rows.{Row, row, notChosen, noRow, Spot, absent, rowSpot, firstRow, onward, inArray, unchosen, bodyRow, itemRow, armsRow, passedOver, seen}
+use Rattle.laying.specs.Rows.{Row, row, noRow, Spot, absent, rowSpot, onward, inArray, passedOver, bodyRow, itemRow, armsRow, seen}
 use Rattle.laying.specs.Sizes.{Numbers, value, bodySize, itemSize, armsSize}
 use Rattle.laying.specs.Slots.{numberOf, octetsOf, numbersOf, Matches}
 use Rattle.laying.specs.Sound.{Known, GoodReference, SoundBody, SoundNode, SoundArms}
@@ -24,53 +23,15 @@ use Rattle.laying.proofs.Bodies.{quiet-node}
 use Rattle.laying.proofs.Either.{tested}
 use Rattle.laying.proofs.Every.{every-append}
 use Rattle.laying.proofs.Rising.{RisesBody, RisesNode, RisesArms}
+use Rattle.laying.proofs.Rows.{Other, other-narrower, first-none, onward-none, array-none, over-none, over-absent, parted, first-alone}
 use Rattle.laying.proofs.Spots.{orElse, further, further-or, further-twice, further-absent, seen-none, seen-append, seen-one, someSpot, some-none}
-use Rattle.laying.proofs.Spots.{some-more, row-onward, row-unchosen, row-absent, row-array, row-first}
+use Rattle.laying.proofs.Spots.{some-more, row-onward, row-absent, row-array, row-first}
 
 -- ROWS OF OTHER ITEMS
--- i is none of the items from lo up to hi
-abbrev pub Other : (lo hi i : ℕ) → Type 0
-Other lo hi i = (i < lo) ⊎ (hi ≤ i)
-
-pub other-narrower : (lo hi from to i : ℕ) → lo ≤ from → to ≤ hi → Other lo hi i → Other from to i
-other-narrower lo hi from to i a b (inl h) = inl (omega arith)
-other-narrower lo hi from to i a b (inr h) = inr (omega arith)
-
-pub first-none : (r q : Row) → r ≡ noRow → q ≡ noRow → firstRow r q ≡ noRow
-unfolding firstRow
-first-none r q e g = rw e g
-
-pub onward-none : (k : ℕ) (r : Row) → r ≡ noRow → onward k r ≡ noRow
-unfolding onward
-onward-none k r e = rw e
-
-pub unchosen-none : (r : Row) → r ≡ noRow → unchosen r ≡ noRow
-unfolding unchosen
-unchosen-none r e = rw e
-
-array-none : (c w : ℕ) (r : Row) → r ≡ noRow → inArray c w r ≡ noRow
-unfolding inArray
-array-none c w r e = rw e
-
 -- i is not an item from lo up to hi
 other-item : (lo hi j i : ℕ) → lo ≤ j → j < hi → Other lo hi i → j ≡ i → ⊥
 other-item lo hi j i a b (inl h) e = omega arith
 other-item lo hi j i a b (inr h) e = omega arith
-
--- of two rows without elements
-first-absent : (r q : Row) (xs : List ℕ) → rowSpot r xs ≡ absent → rowSpot q xs ≡ absent → rowSpot (firstRow r q) xs ≡ absent
-unfolding firstRow
-first-absent (row p n rest) q xs e g = e
-first-absent (notChosen rest) q xs e g = e
-first-absent noRow q xs e g = g
-
--- items before mid have no row after it, and the others none before it
-pub parted : (i mid : ℕ) (r q : Row) → (mid ≤ i → r ≡ noRow) → (i < mid → q ≡ noRow) → (r ≡ noRow) ⊎ (q ≡ noRow)
-parted i mid r q h k = go (decLt i mid)
-  where
-    go : Dec (i < mid) → (r ≡ noRow) ⊎ (q ≡ noRow)
-    go (yes p) = inr (k p)
-    go (no p) = inl (h (omega arith))
 
 module _ (d : List ℕ) (v : Numbers) (i : ℕ) where
   mutual
@@ -86,28 +47,13 @@ module _ (d : List ℕ) (v : Numbers) (i : ℕ) where
     pub other-node : (n lo hi : ℕ) (x : Node) → RisesNode d n lo hi x → Other lo hi i → itemRow x v i ≡ noRow
     other-node n lo hi (leaf j f) h o = rw (ne-eqb j i (other-item lo hi j i (h .low) (h .high) o))
     other-node n lo hi (array j f b) h o = array-none _ _ _ (other-body (n + 1) lo hi b h o)
-    other-node n lo hi (choice j f arms) h o = other-arms n lo hi arms (value v f) h o
+    other-node n lo hi (choice j f arms) h o = first-none _ _ (other-arms n lo hi arms (value v f) (h .2) o) (over-none lo hi j f i (h .0) (h .1) o)
     other-node n lo hi (stray j) h o = refl
 
     pub other-arms : (n lo hi : ℕ) (arms : Arms) (x : ℕ) → RisesArms d n lo hi arms → Other lo hi i → armsRow arms x v i ≡ noRow
-    other-arms n lo hi noArm x h o = refl
+    other-arms n lo hi (lastArm b) x h o = other-body n lo hi b h o
     other-arms n lo hi (arm t b arms) x h o =
-        let r = other-body n lo (h .0) b (h .3) (other-narrower lo hi lo (h .0) i (omega arith) (h .2) o) in
-        let rest = other-narrower lo hi (h .0) hi i (h .1) (omega arith) o in
-        tested (λ r. r ≡ noRow) (t x) _ _ (λ e. first-none _ _ r (other-over n (h .0) hi arms (h .4) rest))
-        (λ e. first-none _ _ (unchosen-none _ r) (other-arms n (h .0) hi arms x (h .4) rest))
-
-    pub other-over : (n lo hi : ℕ) (arms : Arms) → RisesArms d n lo hi arms → Other lo hi i → passedOver arms v i ≡ noRow
-    other-over n lo hi noArm h o = refl
-    other-over n lo hi (arm t b arms) h o =
-        first-none _ _ (unchosen-none _ (other-body n lo (h .0) b (h .3) (other-narrower lo hi lo (h .0) i (omega arith) (h .2) o)))
-        (other-over n (h .0) hi arms (h .4) (other-narrower lo hi (h .0) hi i (h .1) (omega arith) o))
-
-  -- arms passed over hold no element
-  pub over-absent : (arms : Arms) (xs : List ℕ) → rowSpot (passedOver arms v i) xs ≡ absent
-  unfolding passedOver
-  over-absent noArm xs = row-absent xs
-  over-absent (arm t b arms) xs = first-absent _ _ xs (row-unchosen (bodyRow b v i) xs) (over-absent arms xs)
+        tested (λ r. r ≡ noRow) (t x) _ _ (λ e. other-body n lo hi b (h .0) o) (λ e. other-arms n lo hi arms x (h .1) o)
 
 -- WHOLE
 abbrev pub Spots : Type 0
@@ -223,23 +169,10 @@ value-is s κ f i g m h = by-test (refers f) refl
     by-test false e = refl
 
 -- by the first arm, or by those after it
-pub w-pick : (s : Slots) (p : ℕ) (b : Bool) (n m : ℕ) (f g : Spots) (r q : ℕ → Row) (o u : Laid) → Whole s p n f o → Whole s p m g u
-    → ((i : ℕ) (xs : List ℕ) → f i xs ≡ rowSpot (r i) xs) → ((i : ℕ) (xs : List ℕ) → g i xs ≡ rowSpot (q i) xs)
+w-pick : (s : Slots) (p : ℕ) (b : Bool) (n m : ℕ) (r q : ℕ → Row) (o u : Laid) → Whole s p n (λ i xs. rowSpot (r i) xs) o → Whole s p m (λ i xs. rowSpot (q i) xs) u
     → Whole s p (cond b n m) (λ i xs. rowSpot (cond b (r i) (q i)) xs) (cond b o u)
-w-pick s p true n m f g r q o u h k a b = w-as s p n n f _ o refl a h
-w-pick s p false n m f g r q o u h k a b = w-as s p m m g _ u refl b k
-
--- where the other row holds no element, the first tells all
-pub first-alone : (r q : Row) (xs : List ℕ) → rowSpot q xs ≡ absent → rowSpot r xs ≡ rowSpot (firstRow r q) xs
-unfolding firstRow
-first-alone (row p n rest) q xs e = refl
-first-alone (notChosen rest) q xs e = refl
-first-alone noRow q xs e = row-absent xs ∙ sym e
-
--- and what isn't chosen holds none
-pub first-later : (r q : Row) (xs : List ℕ) → (unchosen r ≡ noRow) ⊎ (q ≡ noRow) → rowSpot q xs ≡ rowSpot (firstRow (unchosen r) q) xs
-unfolding orElse
-first-later r q xs h = sym (row-first (unchosen r) q xs h ∙ rw (row-unchosen r xs))
+w-pick s p true n m r q o u h k = h
+w-pick s p false n m r q o u h k = k
 
 -- a sound body that rises is laid whole, and so is each item in it
 module _ (d img : List ℕ) (s : Slots) (κ : Known) (m : Matches s κ) where
@@ -265,16 +198,13 @@ module _ (d img : List ℕ) (s : Slots) (κ : Known) (m : Matches s κ) where
     w-node (array j f b) n lo hi p h r =
         rw (value-is s κ f j _ m (h .0))
         (w-array s (λ t q. layBody b img true t q) (bodySize b v) (bodyRow b v) (λ q. w-body b (n + 1) lo hi q (h .1) r) j (value v f) p)
-    w-node (choice j f arms) n lo hi p h r = rw (value-is s κ f j _ m (h .0)) (w-arms arms (value v f) n lo hi p (h .1) r)
+    w-node (choice j f arms) n lo hi p h r =
+        rw (value-is s κ f j _ m (h .0))
+        (w-as s p (armsSize arms (value v f) v) _ _ _ (layArms arms (value v f) img true s p) refl (λ i xs. first-alone (armsRow arms (value v f) v i) (passedOver j f i) xs (over-absent j f i xs)) (w-arms arms (value v f) n lo hi p (h .1) (r .2)))
     w-node (stray j) n lo hi p h r = absurd h
 
     w-arms : (arms : Arms) (x n lo hi p : ℕ) → SoundArms κ arms → RisesArms d n lo hi arms
         → Whole s p (armsSize arms x v) (λ i xs. rowSpot (armsRow arms x v i) xs) (layArms arms x img true s p)
-    w-arms noArm x n lo hi p h r = w-as s p 0 0 _ _ (laid [] s p) refl (λ i xs. sym (row-absent xs)) (w-none s p)
+    w-arms (lastArm b) x n lo hi p h r = w-body b n lo hi p h r
     w-arms (arm t b arms) x n lo hi p h r =
-        w-pick s p (t x) (bodySize b v) (armsSize arms x v) _ _ (λ i. firstRow (bodyRow b v i) (passedOver arms v i))
-        (λ i. firstRow (unchosen (bodyRow b v i)) (armsRow arms x v i)) _ _
-        (w-body b n lo (r .0) p (h .0) (r .3)) (w-arms arms x n (r .0) hi p (h .1) (r .4))
-        (λ i xs. first-alone (bodyRow b v i) (passedOver arms v i) xs (over-absent d v i arms xs))
-        (λ i xs. first-later (bodyRow b v i) (armsRow arms x v i) xs
-        (parted i (r .0) _ _ (λ l. unchosen-none _ (other-body d v i n lo (r .0) b (r .3) (inr l))) (λ l. other-arms d v i n (r .0) hi arms x (r .4) (inl l))))
+        w-pick s p (t x) _ _ (bodyRow b v) (armsRow arms x v) _ _ (w-body b n lo hi p (h .0) (r .0)) (w-arms arms x n lo hi p (h .1) (r .1))

@@ -5,7 +5,7 @@ use mathlib.Core.Logic.{_⊎_}
 use mathlib.Core.List.{List, [], _∷_}
 use lib.ListN.{length}
 use Rattle.meaning.specs.Basics.{if_then_else_, _=?_}
-use Rattle.meaning.specs.Layout.{Node, Body, Arms, Tables, leaf, array, choice, stray, done, more, noArm, arm, noMore, table, strayTable, treeOf, numberAt}
+use Rattle.meaning.specs.Layout.{Node, Body, Arms, Tables, leaf, array, choice, stray, done, more, lastArm, arm, noMore, table, strayTable, treeOf, numberAt}
 use Rattle.meaning.specs.Layout.{Placed, fault, short, Layout, laidOut, stoppedAt}
 use Rattle.laying.specs.Sizes.{Numbers, itemSize}
 
@@ -40,7 +40,7 @@ unfoldable mutual
   OutsideNode (stray i) n = ⊥
 
   pub OutsideArms : Arms → Node → Type 0
-  OutsideArms noArm n = ⊥
+  OutsideArms (lastArm b) n = OutsideBody b n
   OutsideArms (arm t b arms) n = OutsideBody b n ⊎ OutsideArms arms n
 
 -- in one of the tables

@@ -1,10 +1,13 @@
--- ROWS: what laying out finds for an element's item. Where the element of some subscripts stands is then arithmetic. Assumes nothing.
+-- ROWS: what laying out finds for an element's item; of other items a row says nothing. Where the element of some subscripts stands is then arithmetic.
+-- Assumes nothing.
 use Prim.Native.Nat.{ℕ, _+_, _*_}
-use mathlib.Core.Bool.{false}
+use mathlib.Core.Bool.{Bool, false, _&&_}
 use mathlib.Core.List.{List, [], _∷_}
 use mathlib.Core.Option.{Option, some, none}
-use Rattle.meaning.specs.Basics.{if_then_else_, _=?_, _<?_}
-use Rattle.meaning.specs.Layout.{Node, Body, Arms, Tables, leaf, array, choice, stray, done, more, noArm, arm, noMore, table, strayTable, treeOf, leafOctets}
+use Rattle.meaning.specs.Basics.{if_then_else_, _=?_, _≤?_, _<?_}
+use Rattle.meaning.specs.declared.Fields.{Fields}
+use Rattle.meaning.specs.Description.{nested}
+use Rattle.meaning.specs.Layout.{Node, Body, Arms, Tables, leaf, array, choice, stray, done, more, lastArm, arm, noMore, table, strayTable, treeOf, leafOctets}
 use Rattle.meaning.specs.Layout.{Slots, unread, Placed, Laid, laid, stopped, layNode, layBody, elementNamed}
 use Rattle.laying.specs.Sizes.{Numbers, value, bodySize, itemSize}
 use Rattle.laying.specs.Slots.{numbersOf}
@@ -58,11 +61,13 @@ inArray c w (row p n rest) = row p n (record { count = c; stride = w } ∷ rest)
 inArray c w (notChosen rest) = notChosen (record { count = c; stride = w } ∷ rest)
 inArray c w noRow = noRow
 
--- in a branch not chosen
-unfoldable pub unchosen : Row → Row
-unchosen (row p n rest) = notChosen []
-unchosen (notChosen rest) = notChosen []
-unchosen noRow = noRow
+-- item i is one of n items from `at` on
+abbrev pub among : (at n i : ℕ) → Bool
+among at n i = at ≤? i && i <? at + n
+
+-- an item that stands in a choice, which is item j, but isn't found in the arm taken
+unfoldable pub passedOver : (j : ℕ) → Fields → (i : ℕ) → Row
+passedOver j f i = if among (j + 1) (nested f) i then notChosen [] else noRow
 
 -- the row of item i, counted from the first octet of a body or an item, where slots have these numbers
 unfoldable mutual
@@ -73,18 +78,12 @@ unfoldable mutual
   pub itemRow : Node → Numbers → (i : ℕ) → Row
   itemRow (leaf j f) v i = if j =? i then row 0 (leafOctets f (value v f)) [] else noRow
   itemRow (array j f b) v i = inArray (value v f) (bodySize b v) (bodyRow b v i)
-  itemRow (choice j f arms) v i = armsRow arms (value v f) v i
+  itemRow (choice j f arms) v i = firstRow (armsRow arms (value v f) v i) (passedOver j f i)
   itemRow (stray j) v i = noRow
 
-  -- the chosen arm's, or that it is in another
   pub armsRow : Arms → (value : ℕ) → Numbers → (i : ℕ) → Row
-  armsRow noArm x v i = noRow
-  armsRow (arm t b arms) x v i =
-      if t x then firstRow (bodyRow b v i) (passedOver arms v i) else firstRow (unchosen (bodyRow b v i)) (armsRow arms x v i)
-
-  pub passedOver : Arms → Numbers → (i : ℕ) → Row
-  passedOver noArm v i = noRow
-  passedOver (arm t b arms) v i = firstRow (unchosen (bodyRow b v i)) (passedOver arms v i)
+  armsRow (lastArm b) x v i = bodyRow b v i
+  armsRow (arm t b arms) x v i = if t x then bodyRow b v i else armsRow arms x v i
 
 -- OUTSIDE ARRAYS a dimension may stand before an item, so the row goes by the slots that laying out comes to
 unfoldable pub rowAfter : Laid → (Slots → ℕ → Row) → Row
@@ -99,14 +98,12 @@ unfoldable mutual
   pub walkNode : Node → (image : List ℕ) → Slots → (p i : ℕ) → Row
   walkNode (leaf j f) img s p i = onward p (itemRow (leaf j f) (numbersOf s) i)
   walkNode (array j f b) img s p i = onward p (itemRow (array j f b) (numbersOf s) i)
-  walkNode (choice j f arms) img s p i = walkArms arms (value (numbersOf s) f) img s p i
+  walkNode (choice j f arms) img s p i = firstRow (walkArms arms (value (numbersOf s) f) img s p i) (passedOver j f i)
   walkNode (stray j) img s p i = noRow
 
   pub walkArms : Arms → (value : ℕ) → (image : List ℕ) → Slots → (p i : ℕ) → Row
-  walkArms noArm x img s p i = noRow
-  walkArms (arm t b arms) x img s p i =
-      if t x then firstRow (walkBody b img s p i) (passedOver arms (numbersOf s) i)
-      else firstRow (unchosen (bodyRow b (numbersOf s) i)) (walkArms arms x img s p i)
+  walkArms (lastArm b) x img s p i = walkBody b img s p i
+  walkArms (arm t b arms) x img s p i = if t x then walkBody b img s p i else walkArms arms x img s p i
 
 -- in one table after another
 unfoldable pub walkTables : Tables → (image : List ℕ) → Slots → (p i : ℕ) → Row

@@ -4,7 +4,7 @@ use Prim.Native.Nat.{ℕ, _+_, _*_}
 use Rattle.meaning.specs.Basics.{if_then_else_}
 use Rattle.meaning.specs.declared.Fields.{Fields}
 use Rattle.meaning.specs.Description.{refers}
-use Rattle.meaning.specs.Layout.{Node, Body, Arms, leaf, array, choice, stray, done, more, noArm, arm, bitRange, leafOctets}
+use Rattle.meaning.specs.Layout.{Node, Body, Arms, leaf, array, choice, stray, done, more, lastArm, arm, bitRange, leafOctets}
 
 -- the number of each slot
 abbrev pub Numbers : Type 0
@@ -28,5 +28,5 @@ unfoldable mutual
   itemSize (stray i) v = 0
 
   pub armsSize : Arms → (value : ℕ) → Numbers → ℕ
-  armsSize noArm x v = 0
+  armsSize (lastArm b) x v = bodySize b v
   armsSize (arm t b arms) x v = if t x then bodySize b v else armsSize arms x v

@@ -4,7 +4,7 @@ use mathlib.Core.Path.{_≡_}
 use mathlib.Core.Bool.{Bool, true, false}
 use Rattle.meaning.specs.Basics.{if_then_else_, _=?_}
 use Rattle.meaning.specs.declared.Fields.{Fields}
-use Rattle.meaning.specs.Layout.{Node, Body, Arms, Tables, leaf, array, choice, stray, done, more, noArm, arm, noMore, table, strayTable}
+use Rattle.meaning.specs.Layout.{Node, Body, Arms, Tables, leaf, array, choice, stray, done, more, lastArm, arm, noMore, table, strayTable}
 
 -- NOTHING STRAY
 unfoldable mutual
@@ -19,7 +19,7 @@ unfoldable mutual
   FitNode (stray i) = ⊥
 
   pub FitArms : Arms → Type 0
-  FitArms noArm = Unit {0}
+  FitArms (lastArm b) = FitBody b
   FitArms (arm t b arms) = FitBody b × FitArms arms
 
 unfoldable pub FitTables : Tables → Type 0
@@ -72,7 +72,7 @@ unfoldable mutual
   SoundNode free κ (stray i) = ⊥
 
   pub SoundArms : Known → Arms → Type 0
-  SoundArms κ noArm = Unit {0}
+  SoundArms κ (lastArm b) = SoundBody false κ b
   SoundArms κ (arm t b arms) = SoundBody false κ b × SoundArms κ arms
 
 unfoldable pub SoundTables : Known → Tables → Type 0

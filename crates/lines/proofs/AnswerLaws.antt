@@ -1,47 +1,39 @@
 -- What answering leans on: a word of the line, and which reply is due in each case. Assumes nothing.
-use mathlib.Core.Path.{_≡_, refl, sym, ap, _∙_}
+use mathlib.Core.Path.{_≡_, refl, ap, _∙_}
 use mathlib.Core.List.{List, [], _∷_}
-use mathlib.Core.Bool.{Bool, true, false, cond, not, _&&_, _||_, and-eq-true-iff}
-use Prim.Native.Nat.{ℕ, zero, suc, _+_, _-_, _≤_, _<_, zero-le}
+use mathlib.Core.Bool.{Bool, true, false, not, _&&_, _||_, and-eq-true-iff}
+use Prim.Native.Nat.{ℕ, zero, suc, _+_, _≤_, _<_, zero-le}
 use native.Mathlib.Nat.{not-suc-le-zero, le-of-suc-le-suc, add-zero, zero-add}
 use native.Mathlib.Omega.{arith}
 use borrow.Author.Tests.{lt-ltb, le-ltb, leb-true, eqb-true, ne-eqb, not-true}
 use lib.Dec.{leb, eqb}
-use lib.ListN.{length, getD, take, drop, length-take, length-drop}
+use lib.ListN.{length, getD, take, length-take, length-drop}
 use lib.Seq.{length-take-le}
-use Rattle.meaning.specs.Basics.{if_then_else_, _=?_, part}
+use Rattle.meaning.specs.Basics.{_=?_, part}
 use Rattle.words.specs.declared.types.Words.{Words}
 use Rattle.words.specs.declared.types.Octets.{Octets}
-use Rattle.words.specs.declared.types.Octets.the-variants.{Are, Not}
-use Rattle.words.specs.Hex.{areOctets, OctetsRead}
+use Rattle.words.specs.Hex.{OctetsRead}
 use Rattle.words.specs.Line.{lineWords, splitOf, partOf, wordIn}
+use Rattle.words.proofs.Cases.{by-test}
 use Rattle.words.proofs.LineLaws.{count-of, word-of}
 use Rattle.lines.specs.declared.rows.Form.{Form}
+use Rattle.lines.specs.declared.read.Part.{Part}
 use Rattle.lines.specs.declared.read.Asked.{Asked}
-use Rattle.lines.specs.Answer.{noForm, nth, Row, rows, noRow, rowAt, kindOf, formOf, Within, replyText, answerAs, answerWords, answerText, roomFor, Replied}
-use Rattle.lines.specs.Read.{OfSeven, AskedRead}
-use Rattle.lines.proofs.OctetLaws.{OctetsAre, octets-are, octets-not}
+use Rattle.lines.specs.Answer.{nth, Row, rows, noRow, rowAt, kindOf, formOf, Within, wordIf}
+use Rattle.lines.specs.Answer.{noForm, replyText, answerAs, answerWords, answerText, roomFor, Replied}
+use Rattle.lines.specs.Read.{OfSeven, PartRead, AskedRead}
+use Rattle.lines.proofs.OctetLaws.{partFrom, part-read}
 use Rattle.lines.proofs.ReadLaws.{read-within}
 
 -- a reply that was put, under another name
 pub put-as : {out later text : List ℕ} {r : ℕ} (other : List ℕ) → Replied out text later r → text ≡ other → Replied out other later r
 put-as other p e = rw e at p
 
--- what a test that holds chooses, and one that fails
-pub yes : {t : Bool} (a b : List ℕ) → t ≡ true → a ≡ (if t then a else b)
-yes a b h = rw h
-
-pub no : {t : Bool} (a b : List ℕ) → t ≡ false → b ≡ (if t then a else b)
-no a b h = rw h
-
 -- no word is longer than its line
 short-part : (line : List ℕ) (s e : ℕ) → length (partOf line s e) ≤ length line
 unfolding partOf
-short-part line s e = go (leb s e && leb e (length line)) refl
-  where
-    go : (t : Bool) → (leb s e && leb e (length line)) ≡ t → length (cond t (take (e - s) (drop s line)) []) ≤ length line
-    go true h = omega (arith, length-take (e - s) (drop s line), length-drop s line)
-    go false h = zero-le
+short-part line s e =
+    by-test (leb s e && leb e (length line)) (λ h. rw h (simp (length-take, length-drop) (omega arith))) (λ h. rw h zero-le)
 
 pub word-short : (line : List ℕ) (split : Words) (k : ℕ) (word : List ℕ) → word ≡ wordIn line split k → length word ≤ length line
 unfolding wordIn
@@ -54,14 +46,12 @@ module _ (line : List ℕ) (split : Words) (is-split : split ≡ splitOf line) w
   unfolding nth
   word-at k word e = word-of line split k word is-split e
 
-  -- word k read as octets, with room for them: an octet is two digits of the line
-  pub data-are : (k : ℕ) (word : List ℕ) {given later : List ℕ} {r : Octets} → word ≡ wordIn line split k → length line ≤ 300000
-      → OctetsRead word given later r → 150000 ≤ length given → (n : ℕ) → r ≡ Are n → OctetsAre (nth (lineWords line) k) later n
-  data-are k word e short p room n f = rw (word-at k word e) at (octets-are p (omega (arith, word-short line split k word e)) n f)
-
-  pub data-not : (k : ℕ) (word : List ℕ) {given later : List ℕ} {r : Octets} → word ≡ wordIn line split k → length line ≤ 300000
-      → OctetsRead word given later r → 150000 ≤ length given → r ≡ Not → areOctets (nth (lineWords line) k) ≡ false
-  data-not k word e short p room f = rw (word-at k word e) at (octets-not p (omega (arith, word-short line split k word e)) f)
+  -- word k, which the form has, read as octets, with room for them: an octet is two digits of the line
+  pub word-read : {there : Bool} (k : ℕ) (word : List ℕ) {given later : List ℕ} {r : Octets} {part : Part} → there ≡ true → word ≡ wordIn line split k
+      → length line ≤ 300000 → OctetsRead word given later r → 150000 ≤ length given → partFrom r ≡ part → PartRead (wordIf there (nth (lineWords line) k)) later part
+  unfolding wordIf
+  word-read k word t e short p room f =
+      rw (t, ← word-at k word e, ← f) (part-read p (omega (arith, word-short line split k word e)))
 
   -- the number of words
   pub counted : (k : ℕ) → (split .count =? k) ≡ (length (lineWords line) =? k)
@@ -129,11 +119,11 @@ module _ (kind : ℕ) {f : Form} (line : List ℕ) {word description image given
   pub asked-reply : r .is ≡ true → length line ≤ 300000
       → replyText kind (take (r .d) description) (take (r .m) image) (r .numbers) (take (r .given) given) ≡ answerText line
   unfolding answerAs
-  asked-reply h short = rw (s .d-octets h, s .m-octets h, s .given-octets h, s .values h) (yes _ _ (sym (s .reply) ∙ h)) ∙ answer-as ∙ taken line short
+  asked-reply h short = rw (s .d-octets h, s .m-octets h, s .given-octets h, s .values h, ← s .reply, h) refl ∙ answer-as ∙ taken line short
 
   pub asked-none : r .is ≡ false → length line ≤ 300000 → noForm ≡ answerText line
   unfolding answerAs
-  asked-none h short = no _ _ (sym (s .reply) ∙ h) ∙ answer-as ∙ taken line short
+  asked-none h short = rw (← s .reply, h) refl ∙ answer-as ∙ taken line short
 
   -- the part of the image that M is has room in the reply where the whole has
   pub asked-room : (earlier out : List ℕ) → length image ≡ length earlier → roomFor earlier ≤ length out → roomFor (take (r .m) image) ≤ length out

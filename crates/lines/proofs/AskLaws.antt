@@ -4,12 +4,11 @@ use mathlib.Core.List.{List, [], _∷_, map}
 use mathlib.Core.Bool.{true, false, true≢false}
 use Prim.Native.Nat.{ℕ, _+_, _*_, _≤_, _<_, zero-le}
 use native.Mathlib.Omega.{arith}
-use lib.ListN.{length, getD, take, drop, length-take, length-drop}
+use lib.ListN.{length, getD, take, length-take, length-drop}
 use Rattle.meaning.specs.Basics.{part}
-use Rattle.meaning.specs.declared.ElementName.{ElementName}
 use Rattle.meaning.specs.declared.Place.{Place}
 use Rattle.meaning.specs.declared.Told.{Told}
-use Rattle.meaning.specs.Refusals.{toldNumbers, placePart, tablePartReply, elementPartReply}
+use Rattle.meaning.specs.Refusals.{toldNumbers, placePart}
 use Rattle.meaning.specs.Questions.{toldTo, octetsTo, imageAfter}
 use Rattle.words.specs.Hex.{hexText}
 use Rattle.words.specs.Number.{decimalText}
@@ -63,16 +62,11 @@ module _ {kind : ℕ} {d m numbers out : List ℕ} {at : ℕ} where
 -- a part of the image is no longer than the image
 part-short : (m : List ℕ) (p : Place) → length (placePart m p) ≤ length m
 unfolding placePart part
-part-short m (Place.At p n) = omega (arith, length-take n (drop (p .0) m), length-drop (p .0) m)
+part-short m (Place.At p n) = simp (length-take, length-drop) (omega arith)
 part-short m (Place.Refused r) = zero-le
 
-pub table-short : (d m : List ℕ) (mfr num : ℕ) (octets : List ℕ) → octets ≡ tablePartReply d m mfr num → length octets ≤ length m
-unfolding tablePartReply
-table-short d m mfr num octets e = rw e (part-short m _)
-
-pub element-short : (d m : List ℕ) (element : ElementName) (octets : List ℕ) → octets ≡ elementPartReply d m element → length octets ≤ length m
-unfolding elementPartReply
-element-short d m element octets e = rw e (part-short m _)
+pub place-short : (m : List ℕ) (p : Place) (octets : List ℕ) → octets ≡ placePart m p → length octets ≤ length m
+place-short m p octets e = rw e (part-short m p)
 
 -- THE WHOLE REPLY: what was asked, then its numbers, its octets and the image afterwards, put one after another
 pub told-few : {kind : ℕ} {f : Form} → f ≡ formOf kind → kind < length rows → f .told ≤ 5

@@ -1,7 +1,7 @@
 -- What putting a reply together leans on: words added to a text one by one, and the room that they take. Assumes nothing.
-use mathlib.Core.Path.{_≡_, refl, sym, ap, _∙_}
+use mathlib.Core.Path.{_≡_, refl, sym, _∙_}
 use mathlib.Core.List.{List, [], _∷_, _++_, map, append-nil, map-append}
-use mathlib.Core.Bool.{Bool, true, false, cond}
+use mathlib.Core.Bool.{Bool, true, false}
 use Prim.Native.Nat.{ℕ, _+_, _*_, _≤_, _<_, zero-le}
 use native.Mathlib.Nat.{add-zero, zero-add}
 use native.Mathlib.Numerals.{add-one}
@@ -12,6 +12,7 @@ use lib.ListN.{length, getD, take, length-append, length-take, take-append-drop}
 use lib.Seq.{take-suc, length-take-le}
 use Rattle.words.specs.Put.{laid, IsPut}
 use Rattle.words.specs.Number.{decimalText}
+use Rattle.words.proofs.Cases.{by-test}
 use Rattle.words.proofs.NumberLaws.{text-short}
 use Rattle.words.specs.Hex.{hexText}
 use Rattle.words.proofs.HexLaws.{text-short as hex-short}
@@ -38,11 +39,7 @@ a-space at e p = rw (ne-eqb at 0 e) p
 
 space-short : (at : ℕ) → length (spaceAt at) ≤ 1
 unfolding spaceAt
-space-short at = go (eqb at 0)
-  where
-    go : (b : Bool) → length {A = ℕ} (cond b [] (32 ∷ [])) ≤ 1
-    go true = zero-le
-    go false = omega arith
+space-short at = by-test (eqb at 0) (λ e. rw e zero-le) (λ e. rw e (omega arith))
 
 behind-short : (at : ℕ) (word : List ℕ) → length (behind at word) ≤ 1 + length word
 unfolding behind
@@ -94,6 +91,14 @@ numbers-long text (x ∷ xs) =
     let w : List ℕ = behind (length text) (decimalText x) in
     omega (arith, numbers-long (text ++ w) xs, length-append text w, behind-short (length text) (decimalText x), text-short x)
 
+-- a text that was put, with room for it, and another behind it
+module _ {out text now : List ℕ} {at : ℕ} (p : Replied out text now at) where
+  put-end : at ≡ length text
+  put-end = put-next (p .put) (omega arith) ∙ zero-add _
+
+  put-more : {more later : List ℕ} {next : ℕ} → IsPut now at more later next → length text + length more ≤ length out → Replied out (text ++ more) later next
+  put-more q h = record { room = simp length-append h; put = put-then (p .put) q (omega arith) }
+
 -- the first i of five numbers stand at the start of `now`, which is `out` otherwise; the next place is `at`
 abbrev first : (numbers : List ℕ) → (i : ℕ) → List ℕ
 first numbers i = addWords [] (map decimalText (take i numbers))
@@ -111,31 +116,31 @@ counted-none out numbers count f l h = record { within = zero-le; few = f; five 
 
 module _ {out numbers : List ℕ} {count : ℕ} {now : List ℕ} {at i : ℕ} (s : Counted out numbers count now at i) where
   short-first : length (first numbers i) ≤ 21 * i
-  short-first = omega (arith, numbers-long [] (take i numbers), length-take-le i numbers (omega (arith, s .five, s .within, s .few)))
+  short-first = omega (arith, numbers-long [] (take i numbers), length-take-le i numbers (omega arith))
 
-  at-first : at ≡ length (first numbers i)
-  at-first = put-next (s .is) (omega (arith, short-first, s .within, s .few, s .room)) ∙ zero-add _
+  first-so : Replied out (first numbers i) now at
+  first-so = record { room = omega (arith, short-first); put = s .is }
 
   pub counted-room : i < count → at + 21 ≤ length now
-  counted-room h = omega (arith, at-first, short-first, put-long (s .is), s .few, s .room)
+  counted-room h = omega (arith, put-end first-so, short-first, put-long (s .is))
 
   pub counted-more : {later : List ℕ} {next : ℕ} → i < count → IsPut now at (behind at (decimalText (getD numbers i 0))) later next → Counted out numbers count later next (i + 1)
   unfolding addWords
   counted-more h p =
       let x : ℕ = getD numbers i 0 in
-      let t : take (i + 1) numbers ≡ take i numbers ++ (x ∷ []) = rw add-one (take-suc numbers i 0 (omega (arith, s .five, s .few))) in
+      let t : take (i + 1) numbers ≡ take i numbers ++ (x ∷ []) = rw add-one (take-suc numbers i 0 (omega arith)) in
       let e : first numbers (i + 1) ≡ first numbers i ++ behind at (decimalText x) =
-      rw (t, map-append, add-append [] (map decimalText (take i numbers)) (decimalText x ∷ []), at-first) in
+      rw (t, map-append, add-append [] (map decimalText (take i numbers)) (decimalText x ∷ []), put-end first-so) in
       record {
         within = omega arith;
         few = s .few;
         five = s .five;
         room = s .room;
-        is = rw e (put-then (s .is) p (omega (arith, short-first, behind-short at (decimalText x), text-short x, s .few, s .room)));
+        is = rw e (put-more first-so p (omega (arith, short-first, behind-short at (decimalText x), text-short x)) .put);
       }
 
   pub counted-all : count ≤ i → IsPut out 0 (first numbers count) now at
-  counted-all h = let e : i ≡ count = omega (arith, s .within) in rw e at (s .is)
+  counted-all h = let e : i ≡ count = omega arith in rw e at (s .is)
 
 -- THE WHOLE REPLY: numbers, then octets where it has them, then the image afterwards where it has that; the line feed
 module _ (m octets image numbers : List ℕ) (count : ℕ) (part after : Bool) {out : List ℕ} (few : count ≤ 5) (room : roomFor m ≤ length out)
@@ -144,51 +149,38 @@ module _ (m octets image numbers : List ℕ) (count : ℕ) (part after : Bool) {
   count-short : length (first numbers count) ≤ 105
   count-short = omega (arith, numbers-long [] (take count numbers), length-take count numbers)
 
-  at-is : at₁ ≡ length (first numbers count)
-  at-is = put-next p₁ (omega (arith, count-short)) ∙ zero-add _
+  first-put : Replied out (first numbers count) now₁ at₁
+  first-put = record { room = omega (arith, count-short); put = p₁ }
 
   pub part-room : at₁ + 2 * length m + 662 ≤ length now₁
-  part-room = omega (arith, at-is, count-short, put-long p₁)
+  part-room = omega (arith, put-end first-put, count-short, put-long p₁)
 
   module _ {now₂ : List ℕ} {at₂ : ℕ} (p₂ : IsPut now₁ at₁ (hexBehind at₁ part octets) now₂ at₂) where
-    part-short : length (hexBehind at₁ part octets) ≤ 2 * length m + 662
-    part-short = omega (arith, hex-room at₁ part octets (length m + 330) short-octets)
-
     told : List ℕ
     told = first numbers count ++ hexBehind at₁ part octets
 
     told-short : length told ≤ 2 * length m + 767
     unfolding told
-    told-short = omega (arith, length-append (first numbers count) (hexBehind at₁ part octets), count-short, part-short)
+    told-short = simp length-append (omega (arith, count-short, hex-room at₁ part octets (length m + 330) short-octets))
 
-    told-put : IsPut out 0 told now₂ at₂
+    told-put : Replied out told now₂ at₂
     unfolding told
-    told-put = put-then p₁ p₂ (omega (arith, count-short, part-short))
-
-    told-end : at₂ ≡ length told
-    told-end = put-next told-put (omega (arith, told-short)) ∙ zero-add _
+    told-put = put-more first-put p₂ (omega (arith, told-short, length-append (first numbers count) (hexBehind at₁ part octets)))
 
     pub after-room : at₂ + 2 * length m + 2 ≤ length now₂
-    after-room = omega (arith, told-end, told-short, put-long told-put)
+    after-room = omega (arith, put-end told-put, told-short, put-long (told-put .put))
 
     text-is : addWords [] (map decimalText (take count numbers) ++ (hexIf part octets ++ hexIf after image)) ≡ told ++ hexBehind at₂ after image
     unfolding told
     text-is =
-        let a : addWords (first numbers count) (hexIf part octets) ≡ told = add-hex (first numbers count) part octets ∙ ap (λ (n : ℕ). first numbers count ++ hexBehind n part octets) (sym at-is) in
-        let b : addWords told (hexIf after image) ≡ told ++ hexBehind at₂ after image = add-hex told after image ∙ ap (λ (n : ℕ). told ++ hexBehind n after image) (sym told-end) in
-        add-append [] (map decimalText (take count numbers)) (hexIf part octets ++ hexIf after image)
-        ∙ add-append (first numbers count) (hexIf part octets) (hexIf after image)
-        ∙ ap (λ (t : List ℕ). addWords t (hexIf after image)) a
-        ∙ b
+        add-append [] (map decimalText (take count numbers)) _
+        ∙ add-append (first numbers count) (hexIf part octets) _
+        ∙ rw (add-hex (first numbers count) part octets, ← put-end first-put, add-hex told after image, ← put-end told-put)
 
     pub reply-put : {now₃ later : List ℕ} {at₃ r : ℕ} → IsPut now₂ at₂ (hexBehind at₂ after image) now₃ at₃ → IsPut now₃ at₃ (10 ∷ []) later r
         → Replied out (lineOf (map decimalText (take count numbers) ++ (hexIf part octets ++ hexIf after image))) later r
     unfolding lineOf
     reply-put p₃ p₄ =
-        let s : length (hexBehind at₂ after image) ≤ 2 * length m + 2 = hex-room at₂ after image (length m) (λ e. short-image) in
-        let l : length (told ++ hexBehind at₂ after image) ≡ length told + length (hexBehind at₂ after image) = length-append told _ in
-        rw text-is
-        (record {
-          room = omega (arith, length-append (told ++ hexBehind at₂ after image) (10 ∷ []), told-short);
-          put = put-then (put-then told-put p₃ (omega (arith, told-short))) p₄ (omega (arith, told-short));
-        })
+        let s = hex-room at₂ after image (length m) (λ e. short-image) in
+        let l = length-append told (hexBehind at₂ after image) in
+        rw text-is (put-more (put-more told-put p₃ (omega (arith, told-short))) p₄ (omega (arith, told-short)))

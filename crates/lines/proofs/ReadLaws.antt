@@ -1,7 +1,7 @@
 -- What reading numbers leans on, each within its limit: `SoFar` says what is known when the first i words have been read. Assumes nothing.
 use mathlib.Core.Path.{_≡_, refl, sym, ap, _∙_}
 use mathlib.Core.List.{List, [], _∷_, _++_, append-assoc}
-use mathlib.Core.Bool.{Bool, true, false, cond, _&&_}
+use mathlib.Core.Bool.{Bool, true, false, _&&_, and-eq-true-iff}
 use Prim.Native.Nat.{ℕ, zero, suc, _+_, _-_, _≤_, _<_, zero-le}
 use native.Mathlib.Nat.{not-suc-le-zero, le-of-suc-le-suc, add-zero}
 use native.Mathlib.Numerals.{add-one}
@@ -15,6 +15,8 @@ use Rattle.words.specs.declared.types.Number.{Number}
 use Rattle.words.specs.declared.types.Number.the-variants.{Is, Not}
 use Rattle.words.specs.Number.{allDigits, valueOf, isNumber, numberOf}
 use Rattle.words.specs.Hex.{areOctets}
+use Rattle.words.proofs.Cases.{by-test}
+use Rattle.words.proofs.LineLaws.{padded}
 use Rattle.lines.specs.declared.rows.Form.{Form}
 use Rattle.lines.specs.declared.read.Numbers.{Numbers}
 use Rattle.lines.specs.declared.read.Part.{Part}
@@ -26,32 +28,16 @@ use Rattle.lines.specs.Read.{OfSeven, NumbersRead, PartRead, AskedRead}
 module _ (word : List ℕ) (most : ℕ) {r : Number} (e : r ≡ numberOf word most) where
   pub number-is : (n : ℕ) → r ≡ Is n → (isNumber word most ≡ true) × (n ≡ valueOf word)
   unfolding numberOf
-  number-is n f = go (isNumber word most) refl e
-    where
-      go : (t : Bool) → isNumber word most ≡ t → r ≡ cond t (Is (valueOf word)) Not → (isNumber word most ≡ true) × (n ≡ valueOf word)
-      go true h g = (h, cc)
-      go false h g = let z : _≡_ {A = ℕ} 0 1 = cc in absurd (omega arith)
+  number-is n f = by-test (isNumber word most) (λ h. (h, cc)) (λ h. (cc, cc))
 
   pub number-not : r ≡ Not → isNumber word most ≡ false
   unfolding numberOf
-  number-not f = go (isNumber word most) refl e
-    where
-      go : (t : Bool) → isNumber word most ≡ t → r ≡ cond t (Is (valueOf word)) Not → isNumber word most ≡ false
-      go true h g = let z : _≡_ {A = ℕ} 0 1 = cc in absurd (omega arith)
-      go false h g = h
-
-both-left : (a b : Bool) → (a && b) ≡ true → a ≡ true
-both-left true b e = refl
-both-left false b e = e
-
-both-right : (a b : Bool) → (a && b) ≡ true → b ≡ true
-both-right true b e = e
-both-right false b e = let z : _≡_ {A = ℕ} 0 1 = cc in absurd (omega arith)
+  number-not f = by-test (isNumber word most) (λ h. cc) (λ h. h)
 
 -- a number word comes to no more than its limit
 small : (word : List ℕ) (most : ℕ) → isNumber word most ≡ true → valueOf word ≤ most
 unfolding isNumber
-small word most e = leb-true _ _ (both-right (allDigits word) _ (both-right (leb 1 (length word)) _ e))
+small word most e = leb-true _ _ (and-eq-true-iff (allDigits word) _ .0 (and-eq-true-iff (leb 1 (length word)) _ .0 e .1) .1)
 
 -- ALL OF THEM
 numbers-long : (words : List (List ℕ)) (from : ℕ) (most : List ℕ) → length (numbersIn words from most) ≡ length most
@@ -80,8 +66,8 @@ number-within : (words : List (List ℕ)) (from : ℕ) (most : List ℕ) (i : �
     → getD (numbersIn words from most) i 0 ≤ getD most i 0
 unfolding areNumbers numbersIn
 number-within words from [] i e = zero-le
-number-within words from (m ∷ most) zero e = small (nth words from) m (both-left (isNumber (nth words from) m) _ e)
-number-within words from (m ∷ most) (suc i) e = number-within words (from + 1) most i (both-right (isNumber (nth words from) m) _ e)
+number-within words from (m ∷ most) zero e = small (nth words from) m (and-eq-true-iff (isNumber (nth words from) m) _ .0 e .0)
+number-within words from (m ∷ most) (suc i) e = number-within words (from + 1) most i (and-eq-true-iff (isNumber (nth words from) m) _ .0 e .1)
 
 pub limits-long : {count : ℕ} {most : List ℕ} → OfSeven count most → length (take count most) ≡ count
 limits-long {count} {most} o = length-take-le count most (omega arith)
@@ -94,12 +80,6 @@ pub record SoFar (words : List (List ℕ)) (most values : List ℕ) (i : ℕ) : 
 
 pub so-far-none : (words : List (List ℕ)) (most : List ℕ) → SoFar words most (replicate 7 0) 0
 so-far-none words most = record { within = zero-le; left = rw add-zero; front = refl }
-
--- one number more in place of the first zero
-more : (xs : List ℕ) (i n : ℕ) → length xs ≡ i → i < 7 → set (xs ++ replicate (7 - i) 0) i n ≡ (xs ++ n ∷ []) ++ replicate (7 - (i + 1)) 0
-more xs i n e h =
-    let k : 7 - i ≡ suc (7 - (i + 1)) = omega arith in
-    rw (k, set-at xs 0 (replicate (7 - (i + 1)) 0) n i e, append-assoc)
 
 module _ {words : List (List ℕ)} {count : ℕ} {all values : List ℕ} {i : ℕ} (o : OfSeven count all) (s : SoFar words (take count all) values i) (less : i < count)
     {word : List ℕ} {r : Number} (w : word ≡ nth words (3 + i)) (e : r ≡ numberOf word (getD all i 0)) where
@@ -117,10 +97,12 @@ module _ {words : List (List ℕ)} {count : ℕ} {all values : List ℕ} {i : �
       let t : isNumber (nth words (3 + i)) (getD most i 0) ≡ true = rw (w, m) at (q .0) in
       let l : i < length (numbersIn words 3 most) = omega (arith, numbers-long words 3 most, h) in
       let front : length (take i (numbersIn words 3 most)) ≡ i = length-take-le i (numbersIn words 3 most) (omega arith) in
+      -- one number more in place of the first zero
+      let k : 7 - i ≡ suc (7 - (i + 1)) = omega arith in
       record {
         within = omega (arith, h);
         left = s .left ∙ are-next words 3 most i h ∙ rw t;
-        front = rw (s .front, more (take i (numbersIn words 3 most)) i n front (omega arith), add-one i, take-suc (numbersIn words 3 most) i 0 l, v);
+        front = rw (s .front, k, set-at _ 0 _ n i front, add-one i, take-suc (numbersIn words 3 most) i 0 l, append-assoc, v);
       }
 
   pub so-far-not : r ≡ Not → NumbersRead words (take count all) (record { are = false; values = values })
@@ -128,7 +110,7 @@ module _ {words : List (List ℕ)} {count : ℕ} {all values : List ℕ} {i : �
       let t : isNumber (nth words (3 + i)) (getD (take count all) i 0) ≡ false = rw (w, m) at (number-not word (getD all i 0) e f) in
       record {
         reply = sym (s .left ∙ are-next words 3 (take count all) i h ∙ rw t);
-        memory = λ g. (let z : _≡_ {A = ℕ} 0 1 = cc in absurd (omega arith));
+        memory = λ g. cc;
       }
 
 pub so-far-all : {words : List (List ℕ)} {most values : List ℕ} {i : ℕ} → SoFar words most values i → length most ≤ i
@@ -142,17 +124,6 @@ so-far-all {words} {most} {values} {i} s h =
     }
 
 -- ALL THAT A LINE ASKS
--- the zeros behind the numbers are what an index past the end reads
-zeros : (k i : ℕ) → _≡_ {A = ℕ} (getD (replicate k 0) i 0) 0
-zeros zero i = refl
-zeros (suc k) zero = refl
-zeros (suc k) (suc i) = zeros k i
-
-padded : (xs : List ℕ) (k i : ℕ) → getD (xs ++ replicate k 0) i 0 ≡ getD xs i 0
-padded [] k i = zeros k i
-padded (x ∷ xs) k zero = refl
-padded (x ∷ xs) k (suc i) = padded xs k i
-
 module _ {f : Form} {words : List (List ℕ)} {description image given : List ℕ} {d m g : Part} {n : Numbers}
     (is-d : PartRead (wordIf true (nth words 1)) description d) (is-m : PartRead (wordIf (f .image) (nth words 2)) image m)
     (is-n : NumbersRead words (take (f .numbers) (f .most)) n) (is-g : PartRead (wordIf (f .given) (nth words (3 + f .numbers))) given g) where
@@ -161,18 +132,18 @@ module _ {f : Form} {words : List (List ℕ)} {description image given : List �
       → AskedRead f words description image given (record { is = r; d = d .count; m = m .count; given = g .count; numbers = n .values })
   unfolding ofForm limits dWord mWord givenWord
   asked-read {counted} {two} {three} {all} {r} c e₂ e₃ a e =
-      let is-all : r ≡ true → (three && n .are) ≡ true = λ h. sym a ∙ both-right counted all (sym e ∙ h) in
-      let is-three : r ≡ true → (d .are && two) ≡ true = λ h. sym e₃ ∙ both-left three (n .are) (is-all h) in
-      let is-two : r ≡ true → (m .are && g .are) ≡ true = λ h. sym e₂ ∙ both-right (d .are) two (is-three h) in
+      let all-so : r ≡ true → (three ≡ true) × (n .are ≡ true) = λ h. and-eq-true-iff three _ .0 (sym a ∙ and-eq-true-iff counted all .0 (sym e ∙ h) .1) in
+      let three-so : r ≡ true → (d .are ≡ true) × (two ≡ true) = λ h. and-eq-true-iff (d .are) two .0 (sym e₃ ∙ all-so h .0) in
+      let two-so : r ≡ true → (m .are ≡ true) × (g .are ≡ true) = λ h. and-eq-true-iff (m .are) (g .are) .0 (sym e₂ ∙ three-so h .1) in
       record {
         reply = rw (e, c, a, e₃, e₂, is-d .reply, is-m .reply, is-g .reply, is-n .reply);
         d-within = is-d .within;
         m-within = is-m .within;
         given-within = is-g .within;
-        d-octets = λ h. is-d .octets (both-left (d .are) two (is-three h));
-        m-octets = λ h. is-m .octets (both-left (m .are) (g .are) (is-two h));
-        given-octets = λ h. is-g .octets (both-right (m .are) (g .are) (is-two h));
-        values = λ h. is-n .memory (both-right three (n .are) (is-all h));
+        d-octets = λ h. is-d .octets (three-so h .0);
+        m-octets = λ h. is-m .octets (two-so h .0);
+        given-octets = λ h. is-g .octets (two-so h .1);
+        values = λ h. is-n .memory (all-so h .1);
       }
 
 -- FOR CALLERS: each number that was read is within its limit
@@ -181,6 +152,6 @@ pub read-within : {f : Form} {words : List (List ℕ)} {description image given 
 unfolding ofForm seven
 read-within {f} {words} s e i =
     let octets : Bool = areOctets (dWord words) && (areOctets (mWord f words) && areOctets (givenWord f words)) in
-    let a : (octets && areNumbers words 3 (limits f)) ≡ true = both-right (length words =? f .words) _ (sym (s .reply) ∙ e) in
-    let t : areNumbers words 3 (limits f) ≡ true = both-right octets _ a in
+    let a : (octets && areNumbers words 3 (limits f)) ≡ true = and-eq-true-iff (length words =? f .words) _ .0 (sym (s .reply) ∙ e) .1 in
+    let t : areNumbers words 3 (limits f) ≡ true = and-eq-true-iff octets _ .0 a .1 in
     rw (s .values e, padded (numbersIn words 3 (limits f)) _ i) (number-within words 3 (limits f) i t)

@@ -10,7 +10,7 @@ use native.Mathlib.Omega.{arith}
 use Rattle.meaning.specs.Description.{itemCount, fieldsAt, isTable, nests, count, inside, round}
 use Rattle.meaning.specs.Passed.{Keeps, Levels, BodiesNest, endOf}
 use Rattle.meaning.proofs.Ranges.{fields-range}
-use Rattle.meaning.proofs.Rules.{round-none, beyond, in-first, in-second, bodies}
+use Rattle.meaning.proofs.Rules.{round-none, beyond, in-first, in-second}
 
 -- what holds at some number, and at each next one, holds from there on
 pub upward : (P : ℕ → Type 0) (from : ℕ) → P from → ((k : ℕ) → from ≤ k → P k → P (k + 1)) → (k : ℕ) → from ≤ k → P k
@@ -117,7 +117,7 @@ module _ (d : List ℕ) (kept : (i : ℕ) → i < itemCount d → Keeps d (field
   unfolding inside
   enclosed k i e l n b s h =
       let c = kept k (omega arith) in
-      let m = one-more (isTable (fieldsAt d k)) (nests (fieldsAt d k)) _ _ (bodies (fieldsAt d k) (fields-range d k) (omega arith)) (c .top) (c .within) (c .shallow) (h .one) (h .four) in
+      let m = one-more (isTable (fieldsAt d k)) (nests (fieldsAt d k)) _ _ (fields-range d k .encloses (omega arith)) (c .top) (c .within) (c .shallow) (h .one) (h .four) in
       rw (s, shared k i (omega arith) l b) (record { one = m .0; four = m .1 })
 
   -- nothing stands deeper than a TABLE and four levels in it

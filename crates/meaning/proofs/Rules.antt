@@ -7,7 +7,6 @@ use mathlib.Core.List.{List}
 use mathlib.Core.Bool.{Bool, true, false, not, cond, _&&_, _||_, true≢false}
 use native.Mathlib.Nat.{eq-or-lt-of-le}
 use native.Mathlib.Numerals.{add-one}
-use native.Mathlib.Decide.{ℕ-discrete}
 use native.Mathlib.Omega.{arith}
 use borrow.Author.Tests.{lt-ltb, le-ltb, eq-eqb, ne-eqb, ltb-false, eqb-false, not-false}
 use lib.Dec.{eqb, ltb}
@@ -15,9 +14,8 @@ use lib.ListN.{length}
 use Rattle.meaning.specs.declared.Fields.{Fields}
 use Rattle.meaning.specs.declared.Round.{Round}
 use Rattle.meaning.specs.declared.Verdict.{Verdict}
-use Rattle.meaning.specs.Description.{itemCount, fieldsAt, isTable, isTableNamed, isTable00, isDataOrder, isDimension, nests, refers, count, inside, around, round, slotOctets, tableGiven, misplaced, breaks1, breaks2, breaks3, breaks4, breaks5, breaks6, breaks7, lowestBroken, ruleBroken, firstBroken, checkReply}
+use Rattle.meaning.specs.Description.{itemCount, fieldsAt, isTable, isTableNamed, isTable00, isDataOrder, isDimension, nests, refers, inside, around, round, slotOctets, tableGiven, misplaced, breaks1, breaks2, breaks3, breaks4, breaks5, breaks6, breaks7, lowestBroken, ruleBroken, firstBroken, checkReply}
 use Rattle.meaning.specs.Passed.{Keeps}
-use Rattle.meaning.specs.Ranges.{FieldsRange}
 use Rattle.meaning.specs.Numbers.{descriptionLength, breaksRule}
 
 -- WHAT EARLIER ITEMS GAVE, before the first item and past one more
@@ -65,17 +63,6 @@ module _ (d : List ℕ) (k i : ℕ) where
       → round d (k + 1) i ≡ inside (fieldsAt d k) (k + 1 + fieldsAt d k .first + fieldsAt d k .second) (round d k i)
   unfolding around
   in-second p h = step ∙ simp (le-ltb _ _ p, lt-ltb _ _ h)
-
--- only a TABLE, an ARRAY or an IF has bodies
-pub bodies : (f : Fields) → FieldsRange f → (f .first + f .second ≡ 0 → ⊥) → count (isTable f) + count (nests f) ≡ 1
-bodies f h some = go (ℕ-discrete (f .kind) 0) (ℕ-discrete (f .kind) 1) (ℕ-discrete (f .kind) 5) (ℕ-discrete (f .kind) 6)
-  where
-    go : Dec (f .kind ≡ 0) → Dec (f .kind ≡ 1) → Dec (f .kind ≡ 5) → Dec (f .kind ≡ 6) → count (isTable f) + count (nests f) ≡ 1
-    go (yes n) p q r = absurd (some (h .empty n))
-    go (no n) (yes p) q r = rw p
-    go (no n) (no p) (yes q) r = rw q
-    go (no n) (no p) (no q) (yes r) = rw r
-    go (no n) (no p) (no q) (no r) = absurd (some (h .whole (omega (arith, h .known)) (omega (arith, h .known))))
 
 -- AN ITEM THAT BREAKS NO RULE
 -- a test of which one side or the other would do fails: both fail

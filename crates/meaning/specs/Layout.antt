@@ -9,6 +9,7 @@ use mathlib.Core.Option.{Option, some, none}
 use lib.ListN.{length, getD}
 use Rattle.meaning.specs.Basics.{if_then_else_, _=?_, _≤?_, _<?_, bits, part, numberIn}
 use Rattle.meaning.specs.declared.Fields.{Fields}
+use Rattle.meaning.specs.declared.Inner.{Inner}
 use Rattle.meaning.specs.Description.{itemCount, fieldsAt, isTable, isElement, isArray, isChoice, nested, refers}
 
 -- THE TREE OF A DESCRIPTION
@@ -26,9 +27,9 @@ mutual
     done : Body
     more : Node → Body → Body
 
-  -- the arms of a choice, each with its test on the value and its body: the first whose test holds is taken
+  -- the arms of a choice: the body of the first whose test on the value holds is taken, or else that of the last
   pub data Arms : Type 0 where
-    noArm : Arms
+    lastArm : Body → Arms
     arm : (test : ℕ → Bool) → Body → Arms → Arms
 
 -- the tables, one after another, each with its item and fields
@@ -38,24 +39,54 @@ pub data Tables : Type 0 where
   -- no TABLE where one should stand, or one whose body runs past the description
   strayTable : (item : ℕ) → Tables
 
--- the arms of an IF at item `at`: nonzero is true, and its false items follow its true items; `inner at n` is the body of n items from `at` on, one level down
-unfoldable pub armsOf : (inner : ℕ → ℕ → Body) → Fields → (at : ℕ) → Arms
-armsOf inner f at = arm (λ x. 0 <? x) (inner (at + 1) (f .first)) (arm (λ x. true) (inner (at + 1 + f .first) (f .second)) noArm)
+-- THE BRANCHES OF A CHOICE: the arms by their items, each with its test on the value, and the last, taken where no test holds
+pub data Branches : Type 0 where
+  otherwise : Inner → Branches
+  branch : (test : ℕ → Bool) → Inner → Branches → Branches
 
--- the item `at`, with n items after it in its body
-unfoldable pub nodeOf : (inner : ℕ → ℕ → Body) → Fields → (at n : ℕ) → Node
-nodeOf inner f at n =
+-- IF: nonzero is true, and its false items follow its true items
+unfoldable pub ifBranches : Fields → Branches
+ifBranches f = branch (λ x. 0 <? x) (record { skip = 0; items = f .first }) (otherwise (record { skip = f .first; items = f .second }))
+
+-- of a choice that is f, with its items from item `first` on: an IF tells them by its fields alone
+unfoldable pub branchesIn : (description : List ℕ) → Fields → (first : ℕ) → Branches
+branchesIn d f first = ifBranches f
+
+-- of the choice at item `at`
+abbrev pub branchesOf : (description : List ℕ) → (at : ℕ) → Branches
+branchesOf d at = branchesIn d (fieldsAt d at) (at + 1)
+
+-- the branch taken for a value
+unfoldable pub taken : Branches → (value : ℕ) → Inner
+taken (otherwise c) x = c
+taken (branch t c rest) x = if t x then c else taken rest x
+
+-- a body inside item `at`; `inner at n` is the body of n items from `at` on, one level down
+abbrev pub bodyIn : (inner : ℕ → ℕ → Body) → (at : ℕ) → Inner → Body
+bodyIn inner at c = inner (at + 1 + c .skip) (c .items)
+
+unfoldable pub armsOf : (inner : ℕ → ℕ → Body) → (at : ℕ) → Branches → Arms
+armsOf inner at (otherwise c) = lastArm (bodyIn inner at c)
+armsOf inner at (branch t c rest) = arm t (bodyIn inner at c) (armsOf inner at rest)
+
+-- the one body of an ARRAY
+abbrev pub onlyBody : Fields → Inner
+onlyBody f = record { skip = 0; items = f .first }
+
+-- the item `at`, which is f, with n items after it in its body; b are its branches if it is a choice
+unfoldable pub nodeOf : (inner : ℕ → ℕ → Body) → Fields → Branches → (at n : ℕ) → Node
+nodeOf inner f b at n =
     if n <? nested f then stray at
     else if isElement f then leaf at f
-    else if isArray f then array at f (inner (at + 1) (f .first))
-    else if isChoice f then choice at f (armsOf inner f at)
+    else if isArray f then array at f (bodyIn inner at (onlyBody f))
+    else if isChoice f then choice at f (armsOf inner at b)
     else stray at
 
 -- the n items from `at` on, of which the first `skip` stand inside an item before them
 unfoldable pub bodyOf : (inner : ℕ → ℕ → Body) → (description : List ℕ) → (n skip at : ℕ) → Body
 bodyOf inner d zero skip at = done
 bodyOf inner d (suc n) (suc skip) at = bodyOf inner d n skip (at + 1)
-bodyOf inner d (suc n) zero at = more (nodeOf inner (fieldsAt d at) at n) (bodyOf inner d n (nested (fieldsAt d at)) (at + 1))
+bodyOf inner d (suc n) zero at = more (nodeOf inner (fieldsAt d at) (branchesOf d at) at n) (bodyOf inner d n (nested (fieldsAt d at)) (at + 1))
 
 -- bodies stand inside bodies, at most `depth` deep; a deeper one is none
 unfoldable pub bodyAt : (depth : ℕ) → (description : List ℕ) → (at n : ℕ) → Body
@@ -213,9 +244,8 @@ unfoldable mutual
   layNode (choice i f arms) img a s p = valued s f i (λ x. layArms arms x img a s p)
   layNode (stray i) img a s p = stopped [] (noItem i)
 
-  -- where no arm's test holds, nothing is taken
   pub layArms : Arms → (value : ℕ) → (image : List ℕ) → (inArray : Bool) → Slots → ℕ → Laid
-  layArms noArm x img a s p = laid [] s p
+  layArms (lastArm b) x img a s p = layBody b img a s p
   layArms (arm t b arms) x img a s p = if t x then layBody b img a s p else layArms arms x img a s p
 
 -- THE WHOLE IMAGE

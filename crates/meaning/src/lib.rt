@@ -24,6 +24,12 @@ pub struct Fields {
     pub unit: u32,
 }
 
+// A body inside an item: how many of the items in it come before that body, and how many it has.
+pub struct Inner {
+    pub skip: usize,
+    pub items: usize,
+}
+
 // What stands round an item: where the innermost body round it ends, and how many TABLEs, and ARRAYs and IFs, enclose it.
 pub struct Round {
     pub limit: usize,

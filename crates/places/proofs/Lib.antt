@@ -1,8 +1,6 @@
 pub mod Numbers
-pub mod Over
 pub mod RowLaws
 pub mod Reach
-pub mod Taken
 pub mod Measures
 pub mod Opened
 pub mod Held

@@ -2,34 +2,35 @@
 -- what it comes to. Assumes nothing.
 use Prim.Native.Nat.{ℕ, zero, suc, _+_, _-_, _*_, _<_, _≤_}
 use mathlib.Core.Path.{_≡_, refl, _∙_, ap, ap₂, sym, subst}
-use mathlib.Core.Logic.{inl}
 use mathlib.Core.Bool.{Bool, true, false, false≢true}
 use mathlib.Core.List.{List, []}
-use borrow.Author.Tests.{eq-eqb, ne-eqb, eqb-false, le-ltb, lt-ltb}
+use borrow.Author.Tests.{eq-eqb, eqb-false, le-ltb}
 use native.Mathlib.Omega.{arith}
-use Rattle.meaning.specs.Basics.{if_then_else_, _=?_, _<?_}
+use Rattle.meaning.specs.Basics.{if_then_else_, _=?_}
 use Rattle.meaning.specs.declared.Fields.{Fields}
-use Rattle.meaning.specs.Description.{fieldsAt, nests, isArray, isChoice, nested}
-use Rattle.meaning.specs.Layout.{Body, done, more, armsOf, nodeOf, leafOctets, bodyAt}
+use Rattle.meaning.specs.declared.Inner.{Inner}
+use Rattle.meaning.specs.Description.{fieldsAt, nests, isArray, isChoice, nested, count}
+use Rattle.meaning.specs.Layout.{Body, done, more, branchesOf, taken, bodyIn, onlyBody, nodeOf, leafOctets, bodyAt}
+use Rattle.meaning.proofs.Ranges.{fields-range}
 use Rattle.meaning.proofs.Rules.{either-false}
-use Rattle.laying.specs.Rows.{row, notChosen, noRow, firstRow, onward, inArray, unchosen, bodyRow, itemRow, armsRow, passedOver}
+use Rattle.laying.specs.Rows.{row, noRow, firstRow, onward, bodyRow, itemRow}
 use Rattle.laying.specs.Rows as def
-use Rattle.laying.specs.Sizes.{Numbers, value, bodySize, itemSize, armsSize}
-use Rattle.laying.specs.Sound.{FitBody, FitNode, FitArms}
+use Rattle.laying.specs.Sizes.{Numbers, value, bodySize, itemSize}
+use Rattle.laying.specs.Sound.{FitBody, FitNode}
 use Rattle.laying.specs.Tree.{innerAt, nodeAt}
-use Rattle.laying.proofs.Nodes.{node-cases}
+use Rattle.laying.proofs.Arms.{taken-size, taken-row, taken-fit, taken-within}
+use Rattle.laying.proofs.Branches.{branches-within}
+use Rattle.laying.proofs.Nodes.{node-cases, choice-no-array}
+use Rattle.laying.proofs.Rows.{first-none-right, first-assoc, onward-first, onward-twice, onward-nothing}
 use Rattle.laying.proofs.Steps.{body-none, body-step}
-use Rattle.laying.proofs.Unchosen.{left-other, left-body, first-none-right}
-use Rattle.places.specs.declared.measure.Inner.{Inner}
 use Rattle.places.specs.declared.measure.Sized.{Sized}
 use Rattle.places.specs.declared.measure.Span.{Span}
 use Rattle.places.specs.declared.rows.Row.{Row}
 use Rattle.places.specs.declared.rows.Stands.the-variants.{Nowhere, There}
-use Rattle.places.specs.Measuring.{numbersIn, chosenOf, innerOf, OverReady, leafSpan, joined, arraySpan, choiceSpan, nodeIn, SpanAs, BodyReady, ItemReady, BodyAs, ItemAs, Going}
+use Rattle.places.specs.Measuring.{numbersIn, innerOf, leafSpan, joined, arraySpan, choiceSpan, nodeIn, SpanAs, BodyReady, ItemReady, BodyAs, ItemAs, Going}
 use Rattle.places.specs.Rows.{cut, levels, saying, cutArrays, cutRow, RowAs, alone}
 use Rattle.places.proofs.Numbers.{cut-mul}
-use Rattle.places.proofs.Taken.{overRow, taken-row, none-back, over-as}
-use Rattle.places.proofs.RowLaws.{as-none, as-wider, as-first, as-onward, as-array}
+use Rattle.places.proofs.RowLaws.{as-none, as-wider, as-first, as-onward, as-array, over-as}
 
 -- ONE AFTER ANOTHER
 pub joined-as : (k : ℕ) (a b : Span) (s t : ℕ) (r q : def.Row) → SpanAs k a s r → SpanAs k b t q → SpanAs k (joined a b) (s + t) (firstRow r (onward s q))
@@ -41,26 +42,13 @@ joined-as k a b s t r q h g =
 
 -- the first of three, and further on twice
 rows-step : (s t : ℕ) (r q p : def.Row) → firstRow (firstRow r (onward s q)) (onward (s + t) p) ≡ firstRow r (onward s (firstRow q (onward t p)))
-unfolding firstRow onward
-rows-step s t (row a n rest) q p = refl
-rows-step s t (notChosen rest) q p = refl
-rows-step s t noRow (row a n rest) p = refl
-rows-step s t noRow (notChosen rest) p = refl
-rows-step s t noRow noRow (row a n rest) = let e : s + t + a ≡ s + (t + a) = omega arith in rw e
-rows-step s t noRow noRow (notChosen rest) = refl
-rows-step s t noRow noRow noRow = refl
-
-onward-none-first : (r : def.Row) → firstRow noRow (onward 0 r) ≡ r
-unfolding firstRow onward
-onward-none-first (row a n rest) = let e : 0 + a ≡ a = omega arith in rw e
-onward-none-first (notChosen rest) = refl
-onward-none-first noRow = refl
+rows-step s t r q p = first-assoc r _ _ ∙ ap (firstRow r) (rw (onward-twice s t p) (sym (onward-first s q (onward t p))))
 
 -- an item with nothing stray in it takes no more items than follow it, and is the same however many do
 pub node-within : (d : List ℕ) (k at n : ℕ) → FitNode (nodeAt k d at n) → nested (fieldsAt d at) ≤ n
 unfolding FitNode
 node-within d k at n =
-    node-cases (λ t. FitNode t → nested (fieldsAt d at) ≤ n) (innerAt k d) (fieldsAt d at) at n (λ lost h. absurd h) (λ l two four h. l) (λ l five h. l) (λ l six h. l)
+    node-cases (λ t. FitNode t → nested (fieldsAt d at) ≤ n) (innerAt k d) d at n (λ lost h. absurd h) (λ l two four h. l) (λ l five h. l) (λ l choice h. l)
 
 pub node-same : (d : List ℕ) (k at n : ℕ) → FitNode (nodeAt k d at n) → nodeAt k d at n ≡ nodeIn k d at
 unfolding nodeOf
@@ -102,6 +90,7 @@ module _ (d numbers : List ℕ) (at n k i : ℕ) where
 
   -- at the start nothing is measured
   pub started : BodyReady d numbers at n k → Going d numbers at n k i (record { size = 0; row = alone Nowhere }) at
+  unfolding firstRow
   started r =
       let e : at + n - at ≡ n = omega arith in
       record {
@@ -111,7 +100,7 @@ module _ (d numbers : List ℕ) (at n k i : ℕ) where
         rest = rw e r;
         measured = record { size-is = omega arith; row-as = as-none k };
         sizes = rw e (omega arith);
-        rows = rw e (onward-none-first _);
+        rows = rw e (onward-nothing _);
       }
 
   module _ (s : Span) (next : ℕ) (g : Going d numbers at n k i s next) where
@@ -189,11 +178,11 @@ module _ (d numbers : List ℕ) (at k i : ℕ) (ready : ItemReady d numbers at k
   pub leaf-measured : nests f ≡ false → SpanAs k (leafSpan f x at i) (itemSize (nodeIn k d at) w) (itemRow (nodeIn k d at) w i)
   unfolding FitNode itemSize itemRow leafSpan saying cutRow cutArrays levels
   leaf-measured other =
-      node-cases (λ t. FitNode t → SpanAs k (leafSpan f x at i) (itemSize t w) (itemRow t w i)) (innerAt k d) f at (nested f)
+      node-cases (λ t. FitNode t → SpanAs k (leafSpan f x at i) (itemSize t w) (itemRow t w i)) (innerAt k d) d at (nested f)
       (λ lost h. absurd h)
       (λ l two four h. record { size-is = refl; row-as = go (at =? i) })
       (λ l five h. absurd (eqb-false (f .kind) 5 (either-false (isArray f) (isChoice f) other .0) five))
-      (λ l six h. absurd (eqb-false (f .kind) 6 (either-false (isArray f) (isChoice f) other .1) six))
+      (λ l choice h. absurd (false≢true (sym (either-false (isArray f) (isChoice f) other .1) ∙ choice)))
       (ready .fit)
     where
       go : (b : Bool) → RowAs k (alone (if b then There 0 (leafOctets f x) else Nowhere)) (if b then row 0 (leafOctets f x) [] else noRow)
@@ -203,123 +192,69 @@ module _ (d numbers : List ℕ) (at k i : ℕ) (ready : ItemReady d numbers at k
   -- what holds of an ARRAY or a choice
   module _ (some : nests f ≡ true) where
     not-leaf : 2 ≤ f .kind → f .kind ≤ 4 → ⊥
-    not-leaf two four = false≢true (sym (rw (ne-eqb (f .kind) 5 (λ e. omega arith), ne-eqb (f .kind) 6 (λ e. omega arith))) ∙ some)
+    not-leaf two four = let one : count (nests f) ≡ 1 = rw some in omega (arith, fields-range d at .single two four)
 
+    -- the body that it takes, one level down
     record Inside (c : Inner) : Type 0 where
       deeper : 0 < k
       fit : FitBody (bodyAt (k - 1) d (at + 1 + c .skip) (c .items))
       within : c .skip + c .items ≤ nested f
 
-    inside : Inside (innerOf f x)
-    unfolding FitNode FitArms armsOf innerOf chosenOf
+    enters : (c : Inner) → FitBody (bodyIn (innerAt k d) at c) → c .skip + c .items ≤ nested f → Inside c
+    enters c h l = let g = inner-fit d k _ _ h in record { deeper = g .0; fit = subst FitBody (g .1) h; within = l }
+
+    inside : Inside (innerOf d f (at + 1) x)
+    unfolding FitNode innerOf
     inside =
-        node-cases (λ t. FitNode t → Inside (innerOf f x)) (innerAt k d) f at (nested f)
+        node-cases (λ t. FitNode t → Inside (innerOf d f (at + 1) x)) (innerAt k d) d at (nested f)
         (λ lost h. absurd h)
         (λ l two four h. absurd (not-leaf two four))
-        (λ l five h.
-        let e : at + 1 + 0 ≡ at + 1 = omega arith in
-        let g = inner-fit d k (at + 1) (f .first) h in
-        rw (eq-eqb (f .kind) 5 five) (record { deeper = g .0; fit = rw e (subst FitBody (g .1) h); within = omega arith }))
-        (λ l six h. rw (ne-eqb (f .kind) 5 (λ five. omega arith)) (go (x =? 0) (h .0) (h .1 .0)))
+        (λ l five h. rw (eq-eqb (f .kind) 5 five) (enters (onlyBody f) h (omega arith)))
+        (λ l choice h. rw (choice-no-array f choice)
+        (enters _ (taken-fit (innerAt k d) at x (branchesOf d at) h) (taken-within (nested f) x (branchesOf d at) (branches-within d at))))
         (ready .fit)
-      where
-        go : (b : Bool) → FitBody (innerAt k d (at + 1) (f .first)) → FitBody (innerAt k d (at + 1 + f .first) (f .second))
-            → Inside (if b then record { skip = f .first; items = f .second } else record { skip = 0; items = f .first })
-        go true y n = let g = inner-fit d k (at + 1 + f .first) (f .second) n in record { deeper = g .0; fit = subst FitBody (g .1) n; within = omega arith }
-        go false y n =
-            let e : at + 1 + 0 ≡ at + 1 = omega arith in
-            let g = inner-fit d k (at + 1) (f .first) y in record { deeper = g .0; fit = rw e (subst FitBody (g .1) y); within = omega arith }
 
     pub deeper : 0 < k
     deeper = inside .deeper
 
-    -- the body that it takes can be measured
-    pub inner-ready : BodyReady d numbers (at + 1 + innerOf f x .skip) (innerOf f x .items) (k - 1)
+    pub within : innerOf d f (at + 1) x .skip + innerOf d f (at + 1) x .items ≤ nested f
+    within = inside .within
+
+    -- it can be measured
+    pub inner-ready : BodyReady d numbers (at + 1 + innerOf d f (at + 1) x .skip) (innerOf d f (at + 1) x .items) (k - 1)
     inner-ready =
-        record {
-          few = ready .few;
-          there = omega (arith, ready .there, inside .within);
-          fit = inside .fit;
-          deep = omega (arith, ready .deep);
-          slots = ready .slots;
-        }
+        record { few = ready .few; there = omega (arith, ready .there, within); fit = inside .fit; deep = omega (arith, ready .deep); slots = ready .slots }
 
-    pub over-ready : OverReady d (at + 1) (nested f) (innerOf f x)
-    over-ready = record { few = ready .few; there = ready .there; within = inside .within }
-
-    module _ (b : Span) (h : BodyAs d numbers (at + 1 + innerOf f x .skip) (innerOf f x .items) (k - 1) i b) where
+    module _ (b : Span) (h : BodyAs d numbers (at + 1 + innerOf d f (at + 1) x .skip) (innerOf d f (at + 1) x .items) (k - 1) i b) where
       -- an array takes count times its element's size
       pub array-measured : f .kind ≡ 5 → SpanAs k (arraySpan x b) (itemSize (nodeIn k d at) w) (itemRow (nodeIn k d at) w i)
       unfolding FitNode itemSize itemRow innerOf
       array-measured five =
-          node-cases (λ t. FitNode t → SpanAs k (arraySpan x b) (itemSize t w) (itemRow t w i)) (innerAt k d) f at (nested f)
+          node-cases (λ t. FitNode t → SpanAs k (arraySpan x b) (itemSize t w) (itemRow t w i)) (innerAt k d) d at (nested f)
           (λ lost g. absurd g)
           (λ l two four g. absurd (not-leaf two four))
-          (λ l five g. go (let m = rw (eq-eqb (f .kind) 5 five) at h in m) (inner-fit d k (at + 1) (f .first) g))
-          (λ l six g. absurd (omega (arith, five)))
+          (λ l five g.
+          let m : BodyAs d numbers (at + 1 + 0) (f .first) (k - 1) i b = rw (eq-eqb (f .kind) 5 five) at h in
+          let body = bodyAt (k - 1) d (at + 1 + 0) (f .first) in
+          rw (inner-fit d k _ _ g .1)
+          (record {
+            size-is = ap (λ (s : ℕ). cut (x * s)) (m .size-is) ∙ cut-mul x (bodySize body w);
+            row-as = rw (m .size-is) (as-array (k - 1) k x (bodySize body w) (b .row) (bodyRow body w i) (omega (arith, deeper)) (ready .deep) (m .row-as));
+          }))
+          (λ l choice g. absurd (false≢true (rw five at choice)))
           (ready .fit)
-        where
-          go : BodyAs d numbers (at + 1 + 0) (f .first) (k - 1) i b → (0 < k) × (innerAt k d (at + 1) (f .first) ≡ bodyAt (k - 1) d (at + 1) (f .first))
-              → SpanAs k (arraySpan x b) (x * bodySize (innerAt k d (at + 1) (f .first)) w)
-              (inArray x (bodySize (innerAt k d (at + 1) (f .first)) w) (bodyRow (innerAt k d (at + 1) (f .first)) w i))
-          go m g =
-              let e : at + 1 + 0 ≡ at + 1 = omega arith in
-              let m : BodyAs d numbers (at + 1) (f .first) (k - 1) i b = rw e at m in
-              let body = bodyAt (k - 1) d (at + 1) (f .first) in
-              rw (g .1)
-              (record {
-                size-is = ap (λ (s : ℕ). cut (x * s)) (m .size-is) ∙ cut-mul x (bodySize body w);
-                row-as = rw (m .size-is) (as-array (k - 1) k x (bodySize body w) (b .row) (bodyRow body w i) (omega (arith, g .0)) (ready .deep) (m .row-as));
-              })
 
-      -- a choice only the chosen body
-      chosen-measured : (y : ℕ) → BodyAs d numbers (at + 1 + chosenOf f y .skip) (chosenOf f y .items) (k - 1) i b
-          → FitBody (innerAt k d (at + 1) (f .first)) → FitBody (innerAt k d (at + 1 + f .first) (f .second))
-          → SpanAs k (choiceSpan d (at + 1) (nested f) (chosenOf f y) i b)
-          (if 0 <? y then bodySize (innerAt k d (at + 1) (f .first)) w else bodySize (innerAt k d (at + 1 + f .first) (f .second)) w)
-          (if 0 <? y then firstRow (bodyRow (innerAt k d (at + 1) (f .first)) w i) (firstRow (unchosen (bodyRow (innerAt k d (at + 1 + f .first) (f .second)) w i)) noRow)
-          else firstRow (unchosen (bodyRow (innerAt k d (at + 1) (f .first)) w i)) (firstRow (bodyRow (innerAt k d (at + 1 + f .first) (f .second)) w i) noRow))
-      unfolding chosenOf
-      chosen-measured y m g h =
-          let p = inner-fit d k (at + 1) (f .first) g in
-          let q = inner-fit d k (at + 1 + f .first) (f .second) h in
-          let first = bodyAt (k - 1) d (at + 1) (f .first) in
-          let second = bodyAt (k - 1) d (at + 1 + f .first) (f .second) in
-          let out = left-body d i w (k - 1) (at + 1 + f .first) (f .second) (subst FitBody (q .1) h) in
-          rw (
-            p .1,
-            q .1,
-            taken-row d i f at y (bodyRow first w i) (bodyRow second w i) (bodyRow first w i) (bodyRow second w i)
-                (left-body d i w (k - 1) (at + 1) (f .first) (subst FitBody (p .1) g)) out
-                (λ l. none-back d i _ (out ∙ left-other d i (at + 1 + f .first) (f .second) (inl l))),
-          )
-          (by-value y m)
-        where
-          -- the body taken, and what is passed over
-          together : (c : Inner) (t : ℕ) (r : def.Row) → SpanAs (k - 1) b t r
-              → SpanAs k (choiceSpan d (at + 1) (nested f) c i b) t (firstRow r (overRow d i (at + 1) (nested f) c))
-          together c t r m =
-              record {
-                size-is = m .size-is;
-                row-as = as-first k (b .row) _ r _ (as-wider (k - 1) k (b .row) r (omega arith) (m .row-as)) (over-as d i k (at + 1) (nested f) c);
-              }
-
-          by-value : (y : ℕ) → BodyAs d numbers (at + 1 + chosenOf f y .skip) (chosenOf f y .items) (k - 1) i b
-              → SpanAs k (choiceSpan d (at + 1) (nested f) (chosenOf f y) i b)
-              (if 0 <? y then bodySize (bodyAt (k - 1) d (at + 1) (f .first)) w else bodySize (bodyAt (k - 1) d (at + 1 + f .first) (f .second)) w)
-              (firstRow (if y =? 0 then bodyRow (bodyAt (k - 1) d (at + 1 + f .first) (f .second)) w i else bodyRow (bodyAt (k - 1) d (at + 1) (f .first)) w i)
-              (overRow d i (at + 1) (nested f) (chosenOf f y)))
-          by-value zero m = together _ _ _ m
-          by-value (suc y) m =
-              let e : at + 1 + 0 ≡ at + 1 = omega arith in
-              rw (lt-ltb 0 (suc y) (omega arith), ne-eqb (suc y) 0 (λ e. omega arith)) (together _ _ _ (let m = rw (ne-eqb (suc y) 0 (λ z. omega arith), e) at m in m))
-
-      pub choice-measured : (f .kind ≡ 5 → ⊥) → SpanAs k (choiceSpan d (at + 1) (nested f) (innerOf f x) i b) (itemSize (nodeIn k d at) w) (itemRow (nodeIn k d at) w i)
-      unfolding FitNode FitArms itemSize armsSize itemRow armsRow passedOver armsOf innerOf
-      choice-measured other =
-          node-cases (λ t. FitNode t → SpanAs k (choiceSpan d (at + 1) (nested f) (innerOf f x) i b) (itemSize t w) (itemRow t w i)) (innerAt k d) f at (nested f)
+      -- a choice only the body taken
+      pub choice-measured : isChoice f ≡ true → SpanAs k (choiceSpan (at + 1) (nested f) i b) (itemSize (nodeIn k d at) w) (itemRow (nodeIn k d at) w i)
+      unfolding FitNode itemSize itemRow innerOf
+      choice-measured choice =
+          node-cases (λ t. FitNode t → SpanAs k (choiceSpan (at + 1) (nested f) i b) (itemSize t w) (itemRow t w i)) (innerAt k d) d at (nested f)
           (λ lost g. absurd g)
           (λ l two four g. absurd (not-leaf two four))
-          (λ l five g. absurd (other five))
-          (λ l six g. rw (ne-eqb (f .kind) 5 other) (chosen-measured (value w f) (let m = rw (ne-eqb (f .kind) 5 other) at h in m) (g .0) (g .1 .0)))
+          (λ l five g. absurd (false≢true (rw five at choice)))
+          (λ l choice g.
+          let arms = branchesOf d at in
+          let m : BodyAs d numbers (at + 1 + taken arms x .skip) (taken arms x .items) (k - 1) i b = rw (choice-no-array f choice) at h in
+          rw (taken-size (innerAt k d) at x arms w, taken-row (innerAt k d) at x arms w i, inner-fit d k _ _ (taken-fit (innerAt k d) at x arms g) .1)
+          (record { size-is = m .size-is; row-as = as-first k (b .row) _ _ _ (as-wider (k - 1) k (b .row) _ (omega arith) (m .row-as)) (over-as k at f i) }))
           (ready .fit)

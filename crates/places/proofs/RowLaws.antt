@@ -1,15 +1,21 @@
--- Rows as the code has them say the rows of the definitions, cut: of none, of the first of two, further on, inside one ARRAY more. Assumes nothing.
+-- Rows as the code has them say the rows of the definitions, cut: of none, of the first of two, further on, inside one ARRAY more, of an item passed over.
+-- Assumes nothing.
 use Prim.Native.Nat.{ℕ, zero, suc, _+_, _<_, _≤_}
 use mathlib.Core.Path.{_≡_, refl, _∙_, ap, ap₂, sym}
+use mathlib.Core.Bool.{Bool, true, false}
 use mathlib.Core.List.{List, [], _∷_}
 use lib.ListN.{getD}
 use native.Mathlib.Numerals.{add-one}
 use native.Mathlib.Omega.{arith}
-use Rattle.laying.specs.Rows.{row, notChosen, noRow, firstRow, onward, inArray}
+use Rattle.meaning.specs.Basics.{if_then_else_}
+use Rattle.meaning.specs.declared.Fields.{Fields}
+use Rattle.meaning.specs.Description.{nested}
+use Rattle.laying.specs.Rows.{row, notChosen, noRow, firstRow, onward, inArray, among, passedOver}
 use Rattle.laying.specs.Rows as def
 use Rattle.places.specs.declared.rows.Row.{Row}
 use Rattle.places.specs.declared.rows.Stands.{Stands}
 use Rattle.places.specs.declared.rows.Stands.the-variants.{Nowhere, NotChosen, There}
+use Rattle.places.specs.Measuring.{overStands}
 use Rattle.places.specs.Rows.{cut, levels, saying, said, cutArrays, cutRow, Few, RowAs, alone, firstBy, firstOf, movedBy, onwardBy, withArray}
 
 -- no row
@@ -111,3 +117,12 @@ as-array k m c w a r l few h =
           ∙ ap (inArray c (cut w)) (h .says) ∙ sym (cut-array c w r);
       few = record { depth = omega (arith, h .few .depth); counts = refl; strides = refl };
     }
+
+-- AN ITEM PASSED OVER
+pub over-as : (k at : ℕ) (f : Fields) (i : ℕ) → RowAs k (alone (overStands (at + 1) (nested f) i)) (passedOver at f i)
+unfolding overStands passedOver saying cutRow cutArrays levels
+over-as k at f i = go (among (at + 1) (nested f) i)
+  where
+    go : (b : Bool) → RowAs k (alone (if b then NotChosen else Nowhere)) (if b then notChosen [] else noRow)
+    go true = record { says = refl; few = as-none k .few }
+    go false = as-none k

@@ -26,6 +26,7 @@ use Rattle.laying.specs.Rows.{Array, row, notChosen, noRow, firstRow, onward, r
 use Rattle.laying.specs.Rows as def
 use Rattle.laying.specs.Slots.{numberOf, octetsOf, Matches}
 use Rattle.laying.specs.Sound.{Known, noneKnown, SoundBody, SoundTables, afterBody}
+use Rattle.laying.proofs.Among.{every-among, seat-among}
 use Rattle.laying.proofs.Cover.{Lies, consecutive-fill}
 use Rattle.laying.proofs.Dimensions.{no-dimension}
 use Rattle.laying.proofs.Every.{every-map, every-append}
@@ -34,7 +35,7 @@ use Rattle.laying.proofs.Reaches.{Reaches, r-body}
 use Rattle.laying.proofs.Rising.{RisesBody, rises-body}
 use Rattle.laying.proofs.Steps.{tables-none, tables-step}
 use Rattle.laying.proofs.Tops.{passed-sound, fit-body, table-one}
-use Rattle.laying.proofs.Unchosen.{first-none-right}
+use Rattle.laying.proofs.Rows.{first-none-right, first-assoc}
 use Rattle.places.specs.declared.rows.Row.{Row}
 use Rattle.places.specs.declared.rows.Stands.{Stands}
 use Rattle.places.specs.declared.rows.Stands.the-variants.{Nowhere, NotChosen, There}
@@ -55,29 +56,40 @@ use Rattle.places.proofs.Held.{holds-append}
 use Rattle.places.proofs.RowLaws.{as-none}
 
 -- WHERE THINGS ARE
--- one table more among those laid
-seat-more : (n : TableName) (ts : List Seat) (h : Fields) (i p l : ℕ)
-    → tableFound (tableNamed (n .manufacturer) (n .number) (ts ++ (record { item = i; manufacturer = h .manufacturer; number = h .number; start = p; size = l } ∷ [])))
-    ≡ seatIn (tableFound (tableNamed (n .manufacturer) (n .number) ts)) (isFirst (tableFound (tableNamed (n .manufacturer) (n .number) ts)) h n) i (record { 0 = p }) l
-unfolding tableNamed tableFound isFirst seatIn
-seat-more n [] h i p l = go (h .manufacturer =? n .manufacturer && h .number =? n .number)
-  where
-    go : (b : Bool) → tableFound (cond {A = Option Seat} b (some (record { item = i; manufacturer = h .manufacturer; number = h .number; start = p; size = l })) none)
-        ≡ cond b (Yes i (record { 0 = p }) l) No
-    go true = refl
-    go false = refl
-seat-more n (t ∷ ts) h i p l = go (t .manufacturer =? n .manufacturer && t .number =? n .number) (seat-more n ts h i p l)
-  where
-    new : Seat
-    new = record { item = i; manufacturer = h .manufacturer; number = h .number; start = p; size = l }
+-- the first of two that is found
+firstSeat : Option Seat → Option Seat → Option Seat
+firstSeat (some t) u = some t
+firstSeat none u = u
 
-    go : (b : Bool)
-        → tableFound (tableNamed (n .manufacturer) (n .number) (ts ++ (new ∷ [])))
-        ≡ seatIn (tableFound (tableNamed (n .manufacturer) (n .number) ts)) (isFirst (tableFound (tableNamed (n .manufacturer) (n .number) ts)) h n) i (record { 0 = p }) l
-        → tableFound (cond b (some t) (tableNamed (n .manufacturer) (n .number) (ts ++ (new ∷ []))))
-        ≡ seatIn (tableFound (cond b (some t) (tableNamed (n .manufacturer) (n .number) ts))) (isFirst (tableFound (cond b (some t) (tableNamed (n .manufacturer) (n .number) ts))) h n) i (record { 0 = p }) l
+-- one table more among those laid
+named-more : (m k : ℕ) (ts : List Seat) (t : Seat) → tableNamed m k (ts ++ (t ∷ [])) ≡ firstSeat (tableNamed m k ts) (tableNamed m k (t ∷ []))
+unfolding tableNamed firstSeat
+named-more m k [] t = refl
+named-more m k (u ∷ ts) t = go (u .manufacturer =? m && u .number =? k) (named-more m k ts t)
+  where
+    go : (b : Bool) → tableNamed m k (ts ++ (t ∷ [])) ≡ firstSeat (tableNamed m k ts) (tableNamed m k (t ∷ []))
+        → cond b (some u) (tableNamed m k (ts ++ (t ∷ []))) ≡ firstSeat (cond b (some u) (tableNamed m k ts)) (tableNamed m k (t ∷ []))
     go true e = refl
     go false e = e
+
+-- a table of item i, at p, l octets long
+abbrev seatOf : Fields → (i p l : ℕ) → Seat
+seatOf h i p l = record { item = i; manufacturer = h .manufacturer; number = h .number; start = p; size = l }
+
+seat-more : (n : TableName) (ts : List Seat) (h : Fields) (i p l : ℕ)
+    → tableFound (tableNamed (n .manufacturer) (n .number) (ts ++ (seatOf h i p l ∷ [])))
+    ≡ seatIn (tableFound (tableNamed (n .manufacturer) (n .number) ts)) (isFirst (tableFound (tableNamed (n .manufacturer) (n .number) ts)) h n) i (record { 0 = p }) l
+unfolding tableNamed firstSeat tableFound isFirst seatIn
+seat-more n ts h i p l = rw (named-more _ _ ts (seatOf h i p l)) (go (tableNamed (n .manufacturer) (n .number) ts))
+  where
+    one : (b : Bool) → tableFound (cond {A = Option Seat} b (some (seatOf h i p l)) none) ≡ cond b (Yes i (record { 0 = p }) l) No
+    one true = refl
+    one false = refl
+
+    go : (x : Option Seat) → tableFound (firstSeat x (tableNamed (n .manufacturer) (n .number) (seatOf h i p l ∷ [])))
+        ≡ seatIn (tableFound x) (isFirst (tableFound x) h n) i (record { 0 = p }) l
+    go (some t) = refl
+    go none = one (h .manufacturer =? n .manufacturer && h .number =? n .number)
 
 -- a row of the code that is none says none, and one that is some comes before any other
 said-none : (L : List def.Array) (r : def.Row) → saying Nowhere L ≡ cutRow r → r ≡ noRow
@@ -114,7 +126,7 @@ standing-first a b r q h g = go (a .row .stands) (h .row-as .says)
 module _ (n : TableName) (o l p : ℕ) (ts : List Seat) (es ps : List Placed) (h : Fields) (i x : ℕ) (order : p ≤ x)
     (seats-end : Every (λ t. t .start + t .size ≤ p) ts) (elements-end : Every (λ e. e .start + e .size ≤ p) es) (lies : Every (Lies p x) ps) where
   abbrev new : Seat
-  new = record { item = i; manufacturer = h .manufacturer; number = h .number; start = p; size = x - p }
+  new = seatOf h i p (x - p)
 
   -- in a table that ends by p none of the new elements counts
   held-earlier : (t : Seat) → t .start + t .size ≤ p → heldIn o l (some t) (es ++ ps) ≡ heldIn o l (some t) es
@@ -140,29 +152,18 @@ module _ (n : TableName) (o l p : ℕ) (ts : List Seat) (es ps : List Placed) (h
   held-more : heldIn o l (tableNamed (n .manufacturer) (n .number) (ts ++ (new ∷ []))) (es ++ ps)
       ≡ heldAfter (heldIn o l (tableNamed (n .manufacturer) (n .number) ts) es) (isFirst (tableFound (tableNamed (n .manufacturer) (n .number) ts)) h n)
       (o + l ≤? x - p) (anyDimension ps (p + o) l)
-  unfolding tableNamed tableFound isFirst heldAfter Every
-  held-more = go ts seats-end
+  unfolding tableNamed firstSeat tableFound isFirst heldAfter
+  held-more = rw (named-more _ _ ts new) (go (tableNamed (n .manufacturer) (n .number) ts) refl)
     where
       one : (b : Bool) → heldIn o l (cond {A = Option Seat} b (some new) none) (es ++ ps) ≡ cond b (o + l ≤? x - p && anyDimension ps (p + o) l) (heldIn o l none es)
       one true = held-new
       one false = held-none
 
-      go : (ts : List Seat) → Every (λ t. t .start + t .size ≤ p) ts
-          → heldIn o l (tableNamed (n .manufacturer) (n .number) (ts ++ (new ∷ []))) (es ++ ps)
-          ≡ heldAfter (heldIn o l (tableNamed (n .manufacturer) (n .number) ts) es) (isFirst (tableFound (tableNamed (n .manufacturer) (n .number) ts)) h n)
-          (o + l ≤? x - p) (anyDimension ps (p + o) l)
-      go [] e = one (h .manufacturer =? n .manufacturer && h .number =? n .number)
-      go (t ∷ ts) e = pick (t .manufacturer =? n .manufacturer && t .number =? n .number) (go ts (e .1))
-        where
-          pick : (b : Bool)
-              → heldIn o l (tableNamed (n .manufacturer) (n .number) (ts ++ (new ∷ []))) (es ++ ps)
-              ≡ heldAfter (heldIn o l (tableNamed (n .manufacturer) (n .number) ts) es) (isFirst (tableFound (tableNamed (n .manufacturer) (n .number) ts)) h n)
-              (o + l ≤? x - p) (anyDimension ps (p + o) l)
-              → heldIn o l (cond b (some t) (tableNamed (n .manufacturer) (n .number) (ts ++ (new ∷ [])))) (es ++ ps)
-              ≡ heldAfter (heldIn o l (cond b (some t) (tableNamed (n .manufacturer) (n .number) ts)) es)
-              (isFirst (tableFound (cond b (some t) (tableNamed (n .manufacturer) (n .number) ts))) h n) (o + l ≤? x - p) (anyDimension ps (p + o) l)
-          pick true rest = held-earlier t (e .0)
-          pick false rest = rest
+      go : (y : Option Seat) → tableNamed (n .manufacturer) (n .number) ts ≡ y
+          → heldIn o l (firstSeat y (tableNamed (n .manufacturer) (n .number) (new ∷ []))) (es ++ ps)
+          ≡ heldAfter (heldIn o l y es) (isFirst (tableFound y) h n) (o + l ≤? x - p) (anyDimension ps (p + o) l)
+      go (some t) e = held-earlier t (every-among _ t ts seats-end (seat-among _ _ ts t e .among))
+      go none e = one (h .manufacturer =? n .manufacturer && h .number =? n .number)
 
 -- WHAT WAS LAID BEFORE, THEN THE REST
 before-one : (ts : List Seat) (ps : List Placed) (t : Seat) (qs : List Placed) (o : Layout) → beforeAll ts ps (before t qs o) ≡ beforeAll (ts ++ (t ∷ [])) (ps ++ qs) o
@@ -174,12 +175,6 @@ before-none : (o : Layout) → beforeAll [] [] o ≡ o
 unfolding beforeAll
 before-none (laidOut us qs s n) = refl
 before-none (stoppedAt qs x) = refl
-
-first-assoc : (r q p : def.Row) → firstRow r (firstRow q p) ≡ firstRow (firstRow r q) p
-unfolding firstRow
-first-assoc (row a n rest) q p = refl
-first-assoc (notChosen rest) q p = refl
-first-assoc noRow q p = refl
 
 -- AT THE START
 zeros : (n k : ℕ) → getD (replicate {A = ℕ} n 0) k 0 ≡ 0
@@ -376,7 +371,7 @@ module _ (d img : List ℕ) (q : Asked) (s : Survey) (ready : TableReady d img q
         → Matches t (afterBody body (g .known)) → Whole (laid ps t x) → Surveyed d img q r
     unfolding seated rowAfter firstRow Every
     laid-on ps t x is e m wh =
-        let t0 : Seat = record { item = at; manufacturer = f .manufacturer; number = f .number; start = s .start .0; size = x - s .start .0 } in
+        let t0 : Seat = seatOf f at (s .start .0) (x - s .start .0) in
         let st : r .start .0 ≡ x = start ∙ omega (arith, e .here, walks .walked .inside, ready .ready .small) in
         let sz : w .octets .0 ≡ x - s .start .0 = omega (arith, e .here) in
         let same : tablesOf d (itemCount d - r .next .at) 0 (r .next .at) ≡ rest = ap (λ (j : ℕ). tablesOf d (itemCount d - j) 0 j) goes-on in
@@ -392,7 +387,7 @@ module _ (d img : List ℕ) (q : Asked) (s : Survey) (ready : TableReady d img q
           matches = m;
           whole = wh ∙ before-one (g .seats) (g .elements) t0 ps (layTables rest img t x)
               ∙ ap₂ (λ (a : Tables) (b : ℕ). beforeAll (g .seats ++ (t0 ∷ [])) (g .elements ++ ps) (layTables a img t b)) (sym same) (sym st);
-          rows = rows-are (laid ps t x) is ∙ first-assoc (g .row) row-here _
+          rows = rows-are (laid ps t x) is ∙ sym (first-assoc (g .row) row-here _)
               ∙ ap₂ (λ (a : Tables) (b : ℕ). firstRow (firstRow (g .row) row-here) (walkTables a img t b (q .item))) (sym same) (sym st);
           sound = subst (SoundTables (afterBody body (g .known))) (sym same) (sound .1);
           ordered = omega (arith, goes-on, left .few);

@@ -16,14 +16,13 @@ use Rattle.laying.specs.Sound.{Known, FitBody, SoundBody, SoundNode, afterNode}
 use Rattle.places.proofs.Held.{holds-none, holds-append}
 use Rattle.laying.proofs.Reaches.{Reaches, r-node}
 use Rattle.laying.proofs.Rising.{rises-at}
+use Rattle.laying.proofs.Rows.{first-none-right, first-assoc, onward-first}
 use Rattle.laying.proofs.Steps.{body-none}
-use Rattle.laying.proofs.Unchosen.{first-none-right}
 use Rattle.places.specs.declared.walk.Aim.{Aim}
 use Rattle.places.specs.declared.walk.Walk.{Walk}
 use Rattle.places.specs.Measuring.{nodeIn}
 use Rattle.places.specs.Walking.{place, WalkEnds, Ends, From, WalkBodyReady, WalkItemReady, WalksItem, WalksBody, Leads, OnItsWay}
 use Rattle.places.proofs.Measures.{FirstOf, first-of}
-use Rattle.places.proofs.Walks.{onward-first, first-assoc}
 
 -- ONE AFTER ANOTHER
 module _ (a : Aim) (before : def.Row) (held : Bool) (x : Walk) (R Q : def.Row) (ps : List Placed) (s : Slots) (q : ℕ) (h : WalkEnds a before held x R ps s q) (r : Walk) where

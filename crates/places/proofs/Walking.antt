@@ -1,14 +1,15 @@
 -- The item at a walk's place, as the code has it open: what is asked of it, and what the walk comes to past it. Assumes nothing.
 use Prim.Native.Nat.{ℕ, _+_, _-_, _<_, _≤_, min}
 use mathlib.Core.Path.{_≡_, refl, sym, _∙_}
-use mathlib.Core.Bool.{Bool, true, false, cond, true≢false}
+use mathlib.Core.Bool.{Bool, true, false, cond, or-true, true≢false}
 use mathlib.Core.List.{List}
 use lib.Dec.{eqb}
 use lib.ListN.{length, set, length-set}
 use borrow.Author.Tests.{ne-eqb}
 use native.Mathlib.Omega.{arith}
-use Rattle.meaning.specs.Description.{fieldsAt, nested}
-use Rattle.meaning.specs.Layout.{leafOctets, numberAt}
+use Rattle.meaning.specs.declared.Inner.{Inner}
+use Rattle.meaning.specs.Description.{fieldsAt, isChoice, nests, nested}
+use Rattle.meaning.specs.Layout.{branchesIn, branchesOf, taken, leafOctets, numberAt}
 use Rattle.meaning.specs.Ranges.{FieldsRange}
 use Rattle.meaning.proofs.Ranges.{fields-range}
 use Rattle.items.specs.declared.Cursor.{Cursor}
@@ -17,13 +18,13 @@ use Rattle.items.specs.Read.{readAt}
 use Rattle.laying.specs.Rows.{itemRow}
 use Rattle.laying.specs.Rows as def
 use Rattle.laying.specs.Sizes.{value, itemSize}
-use Rattle.places.specs.declared.measure.Inner.{Inner}
+use Rattle.laying.proofs.Nodes.{choice-no-array}
 use Rattle.places.specs.declared.measure.Sized.{Sized}
 use Rattle.places.specs.declared.measure.Span.{Span}
 use Rattle.places.specs.declared.rows.Row.{Row}
 use Rattle.places.specs.declared.walk.Aim.{Aim}
 use Rattle.places.specs.declared.walk.Walk.{Walk}
-use Rattle.places.specs.Measuring.{numbersIn, nodeIn, chosenOf, innerOf, overStands, leafSpan, SpanAs, ItemAs}
+use Rattle.places.specs.Measuring.{numbersIn, nodeIn, innerOf, overStands, leafSpan, SpanAs, ItemAs}
 use Rattle.places.specs.Rows.{alone}
 use Rattle.places.specs.Walking.{noted, StepReady, stepOf, elsewhere, pastChoice, WalkBodyReady, WalkItemReady, WalksItem, WalksBody}
 use Rattle.places.proofs.Measures.{leaf-measured}
@@ -76,14 +77,14 @@ module _ {d img : List ℕ} {a : Aim} {w : Walk} {k : ℕ} {r : Read} {x : ℕ} 
       comes)
 
   -- A UINT, BLOCK OR SET
-  module _ (six : r .fields .kind ≡ 6 → ⊥) (five : r .fields .kind ≡ 5 → ⊥) {p : ℕ} {s : Span} (place : p ≡ w .next .at)
+  module _ {choice : Bool} (is : choice ≡ isChoice (r .fields)) (no : choice ≡ false) (five : r .fields .kind ≡ 5 → ⊥) {p : ℕ} {s : Span} (place : p ≡ w .next .at)
       (e : s ≡ leafSpan (r .fields) x p (a .wanted)) where
+    other : nests (fieldsAt d (w .next .at)) ≡ false
+    other = let n : nests (r .fields) ≡ false = rw (ne-eqb (r .fields .kind) 5 five, sym is ∙ no) in rw (o .fields) at n
+
     leaf-said : let t = nodeIn k d (w .next .at) in SpanAs 4 s (itemSize t (numbersIn (w .numbers))) (itemRow t (numbersIn (w .numbers)) (a .wanted))
     leaf-said =
-        let six = rw (o .fields) at six in
-        let five = rw (o .fields) at five in
-        rw (e, place, o .fields, o .says)
-        (span-wider (ready .ready .deep) (leaf-measured d (w .numbers) (w .next .at) k (a .wanted) (o .ready) (rw (ne-eqb _ 5 five, ne-eqb _ 6 six))))
+        rw (e, place, o .fields, o .says) (span-wider (ready .ready .deep) (leaf-measured d (w .numbers) (w .next .at) k (a .wanted) (o .ready) other))
 
     pub leaf-ready : StepReady img a w s (r .fields .sets)
     unfolding leafSpan leafOctets
@@ -100,7 +101,7 @@ module _ {d img : List ℕ} {a : Aim} {w : Walk} {k : ℕ} {r : Read} {x : ℕ} 
 
     pub leaf-walks : {y : Walk} → y ≡ stepOf img a w s (r .fields .sets) after → WalksItem d img a w k y
     leaf-walks =
-        stepped s (r .fields .sets) (rw (o .fields) (leaf-comes d img a w k after ready (rw (o .fields) at six) (rw (o .fields) at five) s leaf-said))
+        stepped s (r .fields .sets) (rw (o .fields) (leaf-comes d img a w k after ready other s leaf-said))
 
   -- AN ARRAY
   module _ (five : r .fields .kind ≡ 5) {s : Sized} (m : ItemAs d (w .numbers) (w .next .at) k (a .wanted) s) where
@@ -120,19 +121,20 @@ module _ {d img : List ℕ} {a : Aim} {w : Walk} {k : ℕ} {r : Read} {x : ℕ} 
   -- A CHOICE
   -- it takes c, from a place on, where the walk goes on as `before`
   pub record Choosing (c : Inner) (from : Cursor) (before : Walk) : Type 0 where
-    pub choice : fieldsAt d (w .next .at) .kind ≡ 6
-    pub takes : c ≡ chosenOf (fieldsAt d (w .next .at)) (value (numbersIn (w .numbers)) (fieldsAt d (w .next .at)))
+    pub choice : isChoice (fieldsAt d (w .next .at)) ≡ true
+    pub takes : c ≡ taken (branchesOf d (w .next .at)) (value (numbersIn (w .numbers)) (fieldsAt d (w .next .at)))
     pub enters : Entered o c (from .at)
     pub goes : before ≡ elsewhere w from
 
-  pub choosing : {c : Inner} {from : Cursor} {before : Walk} → r .fields .kind ≡ 6 → c ≡ chosenOf (r .fields) x
+  pub choosing : {b : Bool} {c : Inner} {from : Cursor} {before : Walk} → b ≡ isChoice (r .fields) → b ≡ true → c ≡ taken (branchesIn d (r .fields) (r .next .at)) x
       → from .at ≡ min (r .next .at + c .skip) 18446744073709551615 → before ≡ elsewhere w from → Choosing c from before
   unfolding innerOf
-  choosing six c p e =
+  choosing is taken c p e =
+      let choice = sym is ∙ taken in
       record {
-        choice = rw (o .fields) at six;
-        takes = c ∙ rw (o .fields, o .says);
-        enters = entered o {b = true} (rw six) refl (c ∙ rw six) p;
+        choice = rw (o .fields) at choice;
+        takes = c ∙ rw (o .fields, o .next, o .says);
+        enters = entered o {b = true} (sym (rw (choice, or-true))) refl (c ∙ rw (choice-no-array _ choice)) p;
         goes = e;
       }
 
@@ -140,7 +142,7 @@ module _ {d img : List ℕ} {a : Aim} {w : Walk} {k : ℕ} {r : Read} {x : ℕ} 
     {c : Inner} {from : Cursor} {before : Walk} (g : Choosing h c from before) where
   -- the body taken, as the definitions have it
   abbrev chosen : Inner
-  chosen = chosenOf (fieldsAt d (w .next .at)) (value (numbersIn (w .numbers)) (fieldsAt d (w .next .at)))
+  chosen = taken (branchesOf d (w .next .at)) (value (numbersIn (w .numbers)) (fieldsAt d (w .next .at)))
 
   starts : from .at ≡ w .next .at + 1 + chosen .skip
   starts = g .enters .starts ∙ rw (← g .enters .takes, g .takes)
@@ -174,10 +176,10 @@ module _ {d img : List ℕ} {a : Aim} {w : Walk} {k : ℕ} {r : Read} {x : ℕ} 
           ends = choice-short d img a w k after (h .ready) (g .choice) from inner starts walked e;
         }
 
-    pub choice-walks : {over : Row} {y : Walk} → inner .short ≡ false → over ≡ alone (overStands d (r .next .at) (nested (r .fields)) c (a .wanted))
+    pub choice-walks : {over : Row} {y : Walk} → inner .short ≡ false → over ≡ alone (overStands (r .next .at) (nested (r .fields)) (a .wanted))
         → y ≡ pastChoice inner over after → WalksItem d img a w k y
     choice-walks e v y =
-        rw (y, v, h .item .fields, h .item .next, g .takes)
+        rw (y, v, h .item .fields, h .item .next)
         (record {
           walked = record { inside = b .walked .inside; slots = b .walked .slots };
           moved = λ z. h .item .past;

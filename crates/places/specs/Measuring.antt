@@ -1,19 +1,18 @@
 -- WHAT THE FUNCTIONS THAT MEASURE PROMISE, by sizes and rows. Assumes nothing.
 use Prim.Native.Nat.{ℕ, _+_, _-_, _*_, _≤_}
 use mathlib.Core.Path.{_≡_}
-use mathlib.Core.Bool.{Bool, _&&_}
 use mathlib.Core.List.{List}
 use lib.ListN.{length, getD}
-use Rattle.meaning.specs.Basics.{if_then_else_, _=?_, _≤?_, _<?_}
+use Rattle.meaning.specs.Basics.{if_then_else_, _=?_}
 use Rattle.meaning.specs.declared.Fields.{Fields}
-use Rattle.meaning.specs.Description.{itemCount, fieldsAt, isElement, isArray, nested}
-use Rattle.meaning.specs.Layout.{Node, leafOctets, bodyAt}
-use Rattle.laying.specs.Rows.{firstRow, onward, bodyRow, itemRow}
+use Rattle.meaning.specs.declared.Inner.{Inner}
+use Rattle.meaning.specs.Description.{itemCount, fieldsAt, isArray, nested}
+use Rattle.meaning.specs.Layout.{Node, branchesIn, taken, onlyBody, leafOctets, bodyAt}
+use Rattle.laying.specs.Rows.{firstRow, onward, among, bodyRow, itemRow}
 use Rattle.laying.specs.Rows as def
 use Rattle.laying.specs.Sizes.{Numbers, bodySize, itemSize}
 use Rattle.laying.specs.Sound.{FitBody, FitNode}
 use Rattle.laying.specs.Tree.{nodeAt}
-use Rattle.places.specs.declared.measure.Inner.{Inner}
 use Rattle.places.specs.declared.measure.Sized.{Sized}
 use Rattle.places.specs.declared.measure.Span.{Span}
 use Rattle.places.specs.declared.rows.Stands.{Stands}
@@ -24,28 +23,13 @@ use Rattle.places.specs.Rows.{cut, RowAs, alone, firstOf, onwardBy, with
 abbrev pub numbersIn : List ℕ → Numbers
 numbersIn l = λ k. getD l k 0
 
--- the body that an item takes, for its reference's value
-unfoldable pub chosenOf : Fields → (value : ℕ) → Inner
-chosenOf f x = if x =? 0 then record { skip = f .first; items = f .second } else record { skip = 0; items = f .first }
+-- the body that an ARRAY or a choice that is f takes, with its items from item `first` on, for its reference's value
+unfoldable pub innerOf : (description : List ℕ) → Fields → (first value : ℕ) → Inner
+innerOf d f first x = if isArray f then onlyBody f else taken (branchesIn d f first) x
 
-unfoldable pub innerOf : Fields → (value : ℕ) → Inner
-innerOf f x = if isArray f then record { skip = 0; items = f .first } else chosenOf f x
-
--- item i stands among n items from `at` on
-abbrev pub among : (at n i : ℕ) → Bool
-among at n i = at ≤? i && i <? at + n
-
--- an item among the items in a choice, but not in the body taken, stands in a branch not chosen, if it is an element's
-unfoldable pub overStands : (description : List ℕ) → (at n : ℕ) → Inner → (i : ℕ) → Stands
-overStands d at n c i =
-    if among at n i then (if among (at + c .skip) (c .items) i then Nowhere else if isElement (fieldsAt d i) then NotChosen else Nowhere)
-    else Nowhere
-
--- before that is asked of the n items from `at` on
-pub record OverReady (d : List ℕ) (at n : ℕ) (c : Inner) : Type 0 where
-  pub few : itemCount d ≤ 512
-  pub there : at + n ≤ itemCount d
-  pub within : c .skip + c .items ≤ n
+-- an item that stands among the n items of a choice, from `at` on, but isn't found in the body taken
+unfoldable pub overStands : (at n i : ℕ) → Stands
+overStands at n i = if among at n i then NotChosen else Nowhere
 
 unfoldable pub leafSpan : Fields → (value at i : ℕ) → Span
 leafSpan f x at i = record { size = cut (leafOctets f x); row = alone (if at =? i then There 0 (leafOctets f x) else Nowhere) }
@@ -56,8 +40,8 @@ joined a b = record { size = cut (a .size + b .size); row = firstOf (a .row) (on
 abbrev pub arraySpan : (count : ℕ) → Span → Span
 arraySpan c b = record { size = cut (c * b .size); row = withArray c (b .size) (b .row) }
 
-abbrev pub choiceSpan : (description : List ℕ) → (at n : ℕ) → Inner → (i : ℕ) → Span → Span
-choiceSpan d at n c i b = record { size = b .size; row = firstOf (b .row) (alone (overStands d at n c i)) }
+abbrev pub choiceSpan : (at n i : ℕ) → Span → Span
+choiceSpan at n i b = record { size = b .size; row = firstOf (b .row) (alone (overStands at n i)) }
 
 -- a size and a row, cut
 pub record SpanAs (k : ℕ) (r : Span) (size : ℕ) (row : def.Row) : Type 0 where

@@ -11,38 +11,22 @@ use crate::rows::first_row;
 use crate::rows::in_array;
 use crate::rows::onward;
 use basics::bit_range;
-use basics::both;
-use basics::either;
 use items::Cursor;
+use items::nests;
 use meaning::Fields;
+use meaning::Inner;
 ghost use mathlib.Core.Path.{_≡_};
 ghost use Prim.Native.Nat.{_+_, _<_, _≤_};
 ghost use lib.ListN.{length};
-ghost use Rattle.meaning.specs.Description.{isElement, nests};
-ghost use Rattle.meaning.specs.Layout.{leafOctets};
+ghost use Rattle.meaning.specs.Layout.{branchesIn, taken, leafOctets};
 ghost use Rattle.meaning.specs.Ranges.{FieldsRange};
 ghost use Rattle.laying.specs.Sizes.{value};
 ghost use Rattle.places.specs.Rows.{Few, alone};
-ghost use Rattle.places.specs.Measuring.{numbersIn, chosenOf, innerOf, overStands, OverReady, leafSpan, joined, arraySpan, choiceSpan, BodyReady, ItemReady, BodyAs, ItemAs};
+ghost use Rattle.places.specs.Measuring.{numbersIn, innerOf, overStands, leafSpan, joined, arraySpan, choiceSpan, BodyReady, ItemReady, BodyAs, ItemAs};
 
-// The kinds of items with bodies.
 const ARRAY: u32 = 5;
 
-const IF: u32 = 6;
-
 // WHAT AN ITEM COMES TO
-fn is_element(f: Fields) -> bool
-    ensures { λ r. ⌜ r ≡ isElement f ⌝ }
-{
-    both(2 <= f.kind, f.kind <= 4)
-}
-
-fn nests(f: Fields) -> bool
-    ensures { λ r. ⌜ r ≡ nests f ⌝ }
-{
-    either(f.kind == ARRAY, f.kind == IF)
-}
-
 // The value of an item's reference, where slots have these numbers; 0 for an item without one.
 pub(crate) fn value(numbers: [u32; 64], f: Fields) -> usize
     requires { ⌜ FieldsRange f × (length numbers ≡ 64) ⌝ }
@@ -69,31 +53,26 @@ fn leaf_octets(f: Fields, value: usize) -> usize
     (value + 7) / 8
 }
 
-// A body inside an item: how many of the items in it come before that body, and how many it has.
-pub struct Inner {
-    pub skip: usize,
-    pub items: usize,
-}
-
-// The body that a choice takes: the items if true, or those if false, which follow them.
-pub(crate) fn chosen(f: Fields, value: usize) -> Inner
-    ensures { λ r. ⌜ r ≡ chosenOf f value ⌝ }
+// The branch that a choice takes, whose items come next. IF: the items if true, or those if false, which
+// follow them; it tells so by its fields, and no other item of the description is looked at.
+pub(crate) fn chosen(d: &[u8], f: Fields, next: Cursor, value: usize) -> Inner
+    ensures { λ r. ⌜ r ≡ taken (branchesIn (now (d .entry)) f (next .at)) value ⌝ }
 {
-    if value == 0 {
+    if 0 < value {
         return Inner {
-            skip: f.first,
-            items: f.second,
+            skip: 0,
+            items: f.first,
         };
     }
     Inner {
-        skip: 0,
-        items: f.first,
+        skip: f.first,
+        items: f.second,
     }
 }
 
 // The body that an ARRAY or a choice takes.
-fn inner_of(f: Fields, value: usize) -> Inner
-    ensures { λ r. ⌜ r ≡ innerOf f value ⌝ }
+fn inner_of(d: &[u8], f: Fields, next: Cursor, value: usize) -> Inner
+    ensures { λ r. ⌜ r ≡ innerOf (now (d .entry)) f (next .at) value ⌝ }
 {
     if f.kind == ARRAY {
         return Inner {
@@ -101,7 +80,7 @@ fn inner_of(f: Fields, value: usize) -> Inner
             items: f.first,
         };
     }
-    chosen(f, value)
+    chosen(d, f, next, value)
 }
 
 // SIZES
@@ -159,44 +138,29 @@ fn array_span(count: usize, body: Span) -> Span
     }
 }
 
-// The row of an item that stands in a choice, whose items come next, but not in the body taken: it
-// is in a branch not chosen, if it is an element's.
-pub(crate) fn passed_over(d: &[u8], next: Cursor, inside: usize, taken: Inner, wanted: usize) -> Row
-    requires { ⌜ OverReady (now d) (next .at) inside taken ⌝ }
-    ensures { λ r. ⌜ r ≡ alone (overStands (now (d .entry)) (next .at) inside taken wanted) ⌝ }
+// The row of an item that stands in a choice, whose items come next, but isn't found in the body taken: it is
+// in a branch not chosen.
+pub(crate) fn passed_over(next: Cursor, inside: usize, wanted: usize) -> Row
+    ensures { λ r. ⌜ r ≡ alone (overStands (next .at) inside wanted) ⌝ }
 {
     let first = next.item();
-    let from = first + taken.skip;
-    if either(wanted < first, first + inside <= wanted) {
+    if wanted < first {
         return alone(Stands::Nowhere);
     }
-    if both(from <= wanted, wanted < from + taken.items) {
-        return alone(Stands::Nowhere);
-    }
-    let place = next.past(wanted - first);
-    let read = place.read(d);
-    if is_element(read.fields) {
+    if wanted - first < inside {
         return alone(Stands::NotChosen);
     }
     alone(Stands::Nowhere)
 }
 
 // A choice takes only the body chosen.
-fn choice_span(
-    d: &[u8],
-    next: Cursor,
-    inside: usize,
-    taken: Inner,
-    wanted: usize,
-    body: Span,
-) -> Span
-    requires { ⌜ OverReady (now d) (next .at) inside taken ⌝ }
-    ensures { λ r. ⌜ r ≡ choiceSpan (now (d .entry)) (next .at) inside taken wanted body ⌝ }
+fn choice_span(next: Cursor, inside: usize, wanted: usize, body: Span) -> Span
+    ensures { λ r. ⌜ r ≡ choiceSpan (next .at) inside wanted body ⌝ }
 {
     let row = body.row;
     Span {
         size: body.size,
-        row: first_row(row, passed_over(d, next, inside, taken, wanted)),
+        row: first_row(row, passed_over(next, inside, wanted)),
     }
 }
 
@@ -251,7 +215,7 @@ pub(crate) fn item_size(
     let inside = f.first + f.second;
     let after = next.past(inside);
     if nests(f) {
-        let taken = inner_of(f, value);
+        let taken = inner_of(d, f, next, value);
         let body = body_size(
             d,
             numbers,
@@ -267,7 +231,7 @@ pub(crate) fn item_size(
             };
         }
         return Sized {
-            span: choice_span(d, next, inside, taken, wanted, body),
+            span: choice_span(next, inside, wanted, body),
             next: after,
         };
     }

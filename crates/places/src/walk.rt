@@ -16,6 +16,7 @@ use crate::rows::onward;
 use basics::both;
 use basics::either;
 use items::Cursor;
+use items::is_choice;
 use meaning::Fields;
 use offsets::ImageOffset;
 use offsets::TableOffset;
@@ -28,10 +29,7 @@ ghost use Rattle.laying.specs.Sizes.{value};
 ghost use Rattle.places.specs.Measuring.{numbersIn};
 ghost use Rattle.places.specs.Walking.{Readable, noted, meets, StepReady, stepOf, elsewhere, pastChoice, WalkItemReady, WalksItem, WalkBodyReady, WalksBody};
 
-// The kinds of items that aren't stepped over as they stand.
 const ARRAY: u32 = 5;
-
-const IF: u32 = 6;
 
 // The numbers of the slots with the one that a dimension sets.
 fn noted(
@@ -190,14 +188,14 @@ fn walk_item(d: &[u8], image: &[u8], aim: Aim, w: Walk, depth: usize) -> Walk
     let value = value_here(w, f);
     let inside = f.first + f.second;
     let after = next.past(inside);
-    if f.kind == IF {
-        let taken = chosen(f, value);
+    if is_choice(f) {
+        let taken = chosen(d, f, next, value);
         let before = elsewhere(w, next.past(taken.skip));
         let inner = walk_body(d, image, aim, before, taken.items, depth - 1);
         if inner.short {
             return inner;
         }
-        let over = passed_over(d, next, inside, taken, aim.wanted);
+        let over = passed_over(next, inside, aim.wanted);
         return past_choice(inner, over, after);
     }
     if f.kind == ARRAY {

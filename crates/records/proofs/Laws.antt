@@ -6,7 +6,6 @@ use mathlib.Core.List.{List, _∷_}
 use lib.ListN.{length, take, drop, length-drop}
 use lib.Seq.{length-take-le}
 use native.Mathlib.Omega.{arith}
-use borrow.Author.Tests.{lt-ltb, le-ltb}
 use Rattle.meaning.specs.Basics.{_=?_, _≤?_, part, numberIn}
 use Rattle.meaning.specs.Calendar.{tripleAt, triples, entryIf, orLater, latest, realTime, yearOf, recordReal, recordDay, action, counts, switchMinute, switchEntry}
 use Rattle.meaning.specs.declared.Chosen.{Chosen}
@@ -43,19 +42,6 @@ unfolding action
 action-is r = from-bit-0 (r .octet) 32
 
 -- A DATE
--- the year of two digits
-pub year-this : (y : ℕ) → y < 90 → 2000 + y ≡ yearOf y
-unfolding yearOf
-year-this y h = rw (lt-ltb y 90 h)
-
-pub year-last : (y : ℕ) → 90 ≤ y → y < 100 → 1900 + y ≡ yearOf y
-unfolding yearOf
-year-last y g h = rw (le-ltb y 90 g, lt-ltb y 100 h)
-
-pub year-none : (y : ℕ) → 90 ≤ y → 100 ≤ y → 0 ≡ yearOf y
-unfolding yearOf
-year-none y g h = rw (le-ltb y 90 g, le-ltb y 100 h)
-
 -- a record's date, by its three fields
 pub date-is : (r : Triple) (y : ℕ) (d : Day) → y ≡ yearOf (r .word % 128) → d ≡ dayOf y (r .word / 128 % 16) (r .word / 2048 % 32) → d ≡ recordDate r
 unfolding recordDate
@@ -104,10 +90,6 @@ module _ (o : ℕ) (xs : List ℕ) (w : Wanted) where
       let z : left ≡ 0 = omega arith in
       let n : length xs / 3 - 0 ≡ length xs / 3 = omega arith in
       s .is ∙ rw (z, n)
-
-  -- a record that is left lies inside
-  pub record-inside : (left : ℕ) (chosen : Chosen) → Searching o xs w left chosen → 0 < left → 3 * (left - 1) + 3 ≤ length xs
-  record-inside left chosen s h = omega (arith, s .within)
 
 -- RECORDS OF A TABLE, cut out of it
 module _ (o : ℕ) (t : List ℕ) (at m : ℕ) (inside : at + m ≤ length t) where

@@ -13,7 +13,7 @@ use Rattle.meaning.specs.declared.Fields.{Fields}
 use Rattle.meaning.specs.declared.Round.{Round}
 use Rattle.meaning.specs.Description.{itemCount, fieldsAt, isTable, nests, inside, round, slotOctets, lowestBroken, ruleBroken, breaks1}
 use Rattle.meaning.specs.Passed.{Keeps}
-use Rattle.meaning.proofs.Rules.{slot-none, slot-step, round-none, beyond, in-first, in-second, keeps, bodies, length-allowed}
+use Rattle.meaning.proofs.Rules.{slot-none, slot-step, round-none, beyond, in-first, in-second, keeps, length-allowed}
 use Rattle.meaning.proofs.Ranges.{fields-range}
 use Rattle.meaning.proofs.Nesting.{one-more}
 use Rattle.items.specs.declared.Read.{Read}
@@ -75,7 +75,7 @@ deeper : (d : List ℕ) (at : ℕ) (r : Round) (levels : ℕ) → LevelsLeft r l
     → (0 < levels) × ((e : ℕ) → LevelsLeft (inside (fieldsAt d at) e r) (levels - 1))
 unfolding inside
 deeper d at r levels l k some =
-    let one = bodies (fieldsAt d at) (fields-range d at) some in
+    let one = fields-range d at .encloses (omega (arith, some)) in
     let more = one-more (isTable (fieldsAt d at)) (nests (fieldsAt d at)) _ _ one (k .top) (k .within) (k .shallow) (l .round .one) (l .round .four) in
     (omega arith, λ e. record { left = omega arith; round = record { one = more .0; four = more .1 } })
 

@@ -7,6 +7,7 @@ use basics::both;
 use basics::either;
 use basics::wide;
 use items::Cursor;
+use items::nests;
 use meaning::Fields;
 use meaning::Refusal;
 use meaning::Round;
@@ -32,12 +33,6 @@ fn is_table(f: Fields) -> bool
     ensures { λ r. ⌜ r ≡ isTable f ⌝ }
 {
     f.kind == 1
-}
-
-fn nests(f: Fields) -> bool
-    ensures { λ r. ⌜ r ≡ nests f ⌝ }
-{
-    either(f.kind == 5, f.kind == 6)
 }
 
 fn is_dimension(f: Fields) -> bool

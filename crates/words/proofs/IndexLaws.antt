@@ -1,7 +1,7 @@
 -- What looking a name up leans on: `Looked` says that it is none of the first k words. Assumes nothing.
 use mathlib.Core.Path.{_≡_, sym, _∙_}
 use mathlib.Core.List.{List, []}
-use mathlib.Core.Bool.{true, false, cond}
+use mathlib.Core.Bool.{Bool, true, false, cond}
 use Prim.Native.Nat.{ℕ, suc, _+_, _≤_, _<_, zero-le}
 use native.Mathlib.Numerals.{add-one}
 use native.Mathlib.Nat.{zero-add, add-zero}
@@ -18,17 +18,16 @@ pub looked-none : (name : List ℕ) (words : List (List ℕ)) → Looked name wo
 looked-none name words = record { within = zero-le; left = sym (zero-add _) }
 
 module _ {name : List ℕ} {words : List (List ℕ)} {k : ℕ} (l : Looked name words k) where
-  next-word : k < length words → wordIndex name (drop k words) ≡ cond (isName name (getD words k [])) 0 (suc (wordIndex name (drop (k + 1) words)))
+  next-word : {t : Bool} → k < length words → isName name (getD words k []) ≡ t
+      → wordIndex name words ≡ k + cond t 0 (suc (wordIndex name (drop (k + 1) words)))
   unfolding wordIndex
-  next-word h = rw (drop-cons words k [] h, add-one k)
+  next-word h e = l .left ∙ rw (drop-cons words k [] h, add-one k, e)
 
   pub looked-here : k < length words → isName name (getD words k []) ≡ true → k ≡ wordIndex name words
-  looked-here h e = sym (l .left ∙ rw (next-word h, e) (add-zero k))
+  looked-here h e = sym (next-word h e ∙ add-zero k)
 
   pub looked-on : k < length words → isName name (getD words k []) ≡ false → Looked name words (k + 1)
-  looked-on h e =
-      let f : wordIndex name (drop k words) ≡ suc (wordIndex name (drop (k + 1) words)) = rw (next-word h, e) in
-      record { within = omega arith; left = l .left ∙ omega arith }
+  looked-on h e = record { within = omega arith; left = next-word h e ∙ omega arith }
 
   pub looked-all : length words ≤ k → length words ≡ wordIndex name words
   unfolding wordIndex

@@ -2,18 +2,19 @@
 -- when the octets before place i have been read. Assumes nothing.
 use mathlib.Core.Path.{_≡_, refl, sym, ap, _∙_}
 use mathlib.Core.List.{List, [], _∷_, _++_}
-use mathlib.Core.Bool.{Bool, true, false, cond, _&&_, and-false, and-assoc}
+use mathlib.Core.Bool.{true, false, _&&_, and-false, and-assoc}
 use Prim.Native.Nat.{ℕ, zero, suc, _+_, _-_, _*_, _/_, _%_, _^_, _≤_, _<_, zero-le, suc-le-suc}
 use native.Mathlib.Nat.{pow-suc, mul-assoc, not-suc-le-zero, le-of-suc-le-suc, add-le-add, pow-le-pow-right, mul-le-mul-left, mod-eq-of-lt, mod-lt, one-le-pow}
 use native.Mathlib.Numerals.{add-one}
-use native.Mathlib.Omega.{arith}
-use borrow.Author.Tests.{le-leb, lt-leb, lt-ltb, le-ltb, leb-true, leb-false}
-use lib.Dec.{leb, ltb}
+use native.Mathlib.Omega.{arith, by-contra}
+use borrow.Author.Tests.{le-leb, lt-leb, lt-ltb, le-ltb}
+use lib.Dec.{ltb}
 use lib.ListN.{length, getD, take, drop, length-append, take-append-drop}
 use lib.Seq.{take-suc, take-all}
 use Rattle.words.specs.declared.types.Number.the-variants.{Is, Not}
 use Rattle.words.specs.Number.{isDigit, allDigits, valueOf, isNumber, numberOf, digitsOf, decimalText}
 use Rattle.io.specs.Digits.{digits, Fewest}
+use Rattle.words.proofs.Cases.{by-test}
 
 -- one digit more at the end: ten times the value, and the digit
 pub value-more : (xs : List ℕ) (b : ℕ) → valueOf (xs ++ (b ∷ [])) ≡ valueOf xs * 10 + (b - 48)
@@ -39,14 +40,6 @@ digits-append (x ∷ xs) ys = rw (digits-append xs ys) (sym (and-assoc (isDigit 
 pub digit : (b : ℕ) → 48 ≤ b → b ≤ 57 → isDigit b ≡ true
 unfolding isDigit
 digit b h k = simp (le-leb _ _ h, le-leb _ _ k)
-
-pub too-low : (b : ℕ) → b < 48 → isDigit b ≡ false
-unfolding isDigit
-too-low b h = simp (lt-leb _ _ h)
-
-pub too-high : (b : ℕ) → 57 < b → isDigit b ≡ false
-unfolding isDigit
-too-high b h = rw (lt-leb _ _ h) (and-false (leb 48 b))
 
 -- a word with another octet than a digit
 not-all : (word : List ℕ) (i : ℕ) → i < length word → isDigit (getD word i 0) ≡ false → allDigits word ≡ false
@@ -128,14 +121,11 @@ text-is (suc f) (suc (suc k)) n h l b g =
 
 -- no number under 2^64 needs more than 20 digits
 few : (n k : ℕ) → n < 2 ^ 64 → Fewest 10 1 n k → k ≤ 20
-few n k h f = go (leb k 20) refl
-  where
-    go : (t : Bool) → leb k 20 ≡ t → k ≤ 20
-    go true e = leb-true k 20 e
-    go false e =
-        let long : 20 < k = leb-false k 20 e in
-        let more : 10 ^ 20 ≤ 10 ^ (k - 1) = pow-le-pow-right (omega arith) {i = 20} {j = k - 1} (omega arith) in
-        absurd (omega (arith, f .2 (omega arith)))
+few n k h f =
+    by-contra k 20
+    (λ long.
+    let more : 10 ^ 20 ≤ 10 ^ (k - 1) = pow-le-pow-right (omega arith) {i = 20} {j = k - 1} (omega arith) in
+    omega (arith, f .2 (omega arith)))
 
 pub spelled : (n k : ℕ) → n < 2 ^ 64 → Fewest 10 1 n k → digits 10 k n ≡ decimalText n
 unfolding decimalText
@@ -145,12 +135,9 @@ spelled n k h f = text-is 20 k n (f .0) (few n k h f) (f .1) (f .2)
 digits-few : (f n : ℕ) → length (digitsOf f n) ≤ f
 unfolding digitsOf
 digits-few zero n = zero-le
-digits-few (suc f) n = go (ltb n 10) (digits-few f (n / 10))
-  where
-    go : (t : Bool) → length (digitsOf f (n / 10)) ≤ f
-        → length (cond t ((48 + n) ∷ []) (digitsOf f (n / 10) ++ ((48 + n % 10) ∷ []))) ≤ suc f
-    go true h = suc-le-suc zero-le
-    go false h = omega (arith, length-append (digitsOf f (n / 10)) ((48 + n % 10) ∷ []))
+digits-few (suc f) n =
+    by-test (ltb n 10) (λ e. rw e (suc-le-suc zero-le))
+    (λ e. rw e (omega (arith, digits-few f (n / 10), length-append (digitsOf f (n / 10)) ((48 + n % 10) ∷ []))))
 
 pub text-short : (n : ℕ) → length (decimalText n) ≤ 20
 unfolding decimalText

@@ -1,17 +1,16 @@
 -- What putting a text leans on: `Pasted` says what is known of `out` when the first j octets of a text stand in it, and one store
 -- takes it from j to j + 1. Every loop that writes goes by it. Assumes nothing.
-use mathlib.Core.Path.{_≡_, refl, sym, ap, _∙_}
+use mathlib.Core.Path.{_≡_, refl, ap, _∙_}
 use mathlib.Core.List.{List, _++_, append-assoc}
-use mathlib.Core.Bool.{Bool, true, false}
 use Prim.Native.Nat.{ℕ, _+_, _≤_, _<_, zero-le}
 use native.Mathlib.Numerals.{add-one}
 use native.Mathlib.Nat.{le-antisymm}
 use native.Mathlib.Omega.{arith}
 use borrow.Author.Tests.{le-leb, lt-leb, leb-true}
-use lib.Dec.{leb}
 use lib.ListN.{length, getD, set, take, drop, length-set, length-append, length-drop}
-use lib.Seq.{paste, paste-zero, paste-suc, take-length, take-at, drop-at, drop-drop, length-take-le}
+use lib.Seq.{paste, paste-zero, paste-suc, take-length, take-append-seam, drop-append-add, drop-drop, length-take-le}
 use Rattle.words.specs.Put.{fits, laid, IsPut}
+use Rattle.words.proofs.Cases.{by-test}
 
 -- the first j octets of the text stand in `now`, which is `out` otherwise; the whole text fits
 pub record Pasted (out : List ℕ) (at : ℕ) (text now : List ℕ) (j : ℕ) : Type 0 where
@@ -60,11 +59,7 @@ module _ {out : List ℕ} {at : ℕ} {text later : List ℕ} {next : ℕ} (p : I
 
   pub put-within : at ≤ length out → next ≤ length out
   unfolding fits
-  put-within h = go (leb (at + length text) (length out)) refl
-    where
-      go : (t : Bool) → leb (at + length text) (length out) ≡ t → next ≤ length out
-      go true e = let l : at + length text ≤ length out = leb-true _ _ e in omega (arith, put-next l)
-      go false e = let q : next ≡ at = p .reply ∙ rw e in omega arith
+  put-within h = rw (p .reply) (by-test (fits out at text) (λ e. rw e (leb-true _ _ e)) (λ e. rw e h))
 
 laid-long : (out : List ℕ) (at : ℕ) (text : List ℕ) → at + length text ≤ length out → length (laid out at text) ≡ length out
 unfolding laid
@@ -75,11 +70,7 @@ laid-long out at text h =
 -- FOR CALLERS: memory is as long as it was
 pub put-long : {out : List ℕ} {at : ℕ} {text later : List ℕ} {next : ℕ} → IsPut out at text later next → length later ≡ length out
 unfolding fits
-put-long {out} {at} {text} {later} {next} p = go (leb (at + length text) (length out)) refl
-  where
-    go : (t : Bool) → leb (at + length text) (length out) ≡ t → length later ≡ length out
-    go true e = let l : at + length text ≤ length out = leb-true _ _ e in ap length (put-memory p l) ∙ laid-long out at text l
-    go false e = let q : later ≡ out = p .memory ∙ rw e in ap length q
+put-long {out} {at} {text} p = rw (p .memory) (by-test (fits out at text) (λ e. rw e (laid-long out at text (leb-true _ _ e))) (λ e. rw e))
 
 -- FOR CALLERS: two texts put one after the other, with room for both, are their join
 laid-twice : (out : List ℕ) (at : ℕ) (a b : List ℕ) → at + length a + length b ≤ length out
@@ -87,16 +78,9 @@ laid-twice : (out : List ℕ) (at : ℕ) (a b : List ℕ) → at + length a + le
 unfolding laid
 laid-twice out at a b h =
     let front : List ℕ = take at out ++ a in
-    let l : length front ≡ at + length a =
-    length-append (take at out) a ∙ ap (λ (k : ℕ). k + length a) (length-take-le at out (omega arith)) in
-    let t : take (at + length a) (front ++ drop (at + length a) out) ≡ front = take-at front (drop (at + length a) out) (at + length a) l in
-    let d : drop (at + length a) (front ++ drop (at + length a) out) ≡ drop (at + length a) out = drop-at front (drop (at + length a) out) (at + length a) l in
-    let e : drop (at + length a + length b) (front ++ drop (at + length a) out) ≡ drop (at + length a + length b) out =
-    sym (drop-drop (length b) (at + length a) (front ++ drop (at + length a) out))
-    ∙ ap (drop (length b)) d
-    ∙ drop-drop (length b) (at + length a) out in
+    let l : length front ≡ at + length a = simp (length-append, length-take-le at out (omega arith)) in
     let n : at + length (a ++ b) ≡ at + length a + length b = omega (arith, length-append a b) in
-    rw (t, e, n, append-assoc (take at out) a b)
+    rw (n, ← l, take-append-seam, drop-append-add, drop-drop, append-assoc (take at out) a b)
 
 pub put-then : {out : List ℕ} {at : ℕ} {a mid : List ℕ} {next : ℕ} {b later : List ℕ} {last : ℕ} → IsPut out at a mid next → IsPut mid next b later last
     → at + length a + length b ≤ length out → IsPut out at (a ++ b) later last

@@ -15,26 +15,19 @@ loop-holds : tie.Need-loop-holds Inv-loop μ-loop
 loop-holds c = passing-first _ _ (c .before .before .before .before .pre) _ _ (c .before .before .first .ensures) (c .before .read .ensures)
 
 loop-less : tie.Need-loop-less Inv-loop μ-loop
-loop-less c = passing-less _ _ (c .before .before .before .before .before .before .before .before .before .before .pre) _ _ _ (c .before .before .before .before .before .loop .inv) (rw (c .before .before .before .before .item .ensures) at (c .before .before .before .if1 .taken))
+loop-less c =
+    let start = c .before .before .before .before .before .before .before .before .before .before in
+    passing-less _ _ (start .pre) _ _ _ (c .before .before .before .before .before .loop .inv) (rw (c .before .before .before .before .item .ensures) at (c .before .before .before .if1 .taken))
 
 loop-again : tie.Need-loop-again Inv-loop μ-loop
-loop-again c = passing-next _ _ (c .before .before .before .before .before .before .before .before .before .before .pre) _ _ _ (c .before .before .before .before .before .loop .inv) (rw (c .before .before .before .before .item .ensures) at (c .before .before .before .if1 .taken)) _ (c .before .latest .ensures) _ (c .read2 .ensures)
+loop-again c =
+    let start = c .before .before .before .before .before .before .before .before .before .before in
+    passing-next _ _ (start .pre) _ _ _ (c .before .before .before .before .before .loop .inv) (rw (c .before .before .before .before .item .ensures) at (c .before .before .before .if1 .taken)) _ (c .before .latest .ensures) _ (c .read2 .ensures)
 
 returns : tie.Need-returns Inv-loop μ-loop
-returns c = passing-seen _ _ (c .before .before .before .before .before .before .before .before .pre) _ _ _ (c .before .before .before .loop .inv) (rw (c .before .before .item .ensures) at (c .before .if1 .left))
+returns c =
+    let start = c .before .before .before .before .before .before .before .before in
+    passing-seen _ _ (start .pre) _ _ _ (c .before .before .before .loop .inv) (rw (c .before .before .item .ensures) at (c .before .if1 .left))
 
 pub around-spec : {M : Type 1} → statement M
-around-spec =
-    tie.close
-    (tie.spec
-    Inv-loop
-    μ-loop
-    (λ c κs. search needs)
-    (λ c κs. search needs)
-    loop-holds
-    (λ c κs. search needs)
-    (λ c κs. search needs)
-    (λ c κs. search needs)
-    loop-less
-    loop-again
-    returns)
+around-spec {M} = tie.close (search (tie.spec {M = M} Inv-loop μ-loop, loop-holds, loop-less, loop-again, returns, needs))

@@ -6,12 +6,6 @@ use Rattle.access.proofs.Inside.{read-integer}
 use Rattle.access.proofs.element_number.Statement.{statement}
 use Rattle.access.proofs.element_number.Tie as tie
 
-returns : tie.Need-returns
-returns c = number-refused _ _ _ _ _ (c .before .before .before .integer-place .ensures) (c .before .place .given .1)
-
-returns-2 : tie.Need-returns-2
-returns-2 c = number-is _ _ _ _ _ _ _ (c .before .before .before .before .integer-place .ensures) (c .before .before .place2 .given .1) (c .number-at .ensures .0 ∙ read-integer _ _ _ _ _ (sym (c .before .before .before .before .integer-place .ensures) ∙ c .before .before .place2 .given .1))
-
 pub element-number-spec : {M : Type 1} → statement M
 element-number-spec =
     tie.close
@@ -20,5 +14,6 @@ element-number-spec =
     (λ c. search needs)
     (λ c. search needs)
     (λ c κs. search needs)
-    returns
-    returns-2)
+    (λ c. number-refused _ _ _ _ _ (c .before .before .before .integer-place .ensures) (c .before .place .given .1))
+    (λ c.
+    number-is _ _ _ _ _ _ _ (c .before .before .before .before .integer-place .ensures) (c .before .before .place2 .given .1) (c .number-at .ensures .0 ∙ read-integer _ _ _ _ _ (sym (c .before .before .before .before .integer-place .ensures) ∙ c .before .before .place2 .given .1))))

@@ -5,9 +5,6 @@ use Rattle.meaning.specs.Refusals.{elementPartReply}
 use Rattle.access.proofs.element_part.Statement.{statement}
 use Rattle.access.proofs.element_part.Tie as tie
 
-returns : tie.Need-returns
-unfolding elementPartReply
-returns c = c .part-at .ensures ∙ rw (c .before .element-place .ensures)
-
 pub element-part-spec : {M : Type 1} → statement M
-element-part-spec = tie.close (tie.spec (λ c κs. search needs) (λ c κs. search needs) returns)
+unfolding elementPartReply
+element-part-spec = tie.close (tie.spec (λ c κs. search needs) (λ c κs. search needs) (λ c. c .part-at .ensures ∙ rw (c .before .element-place .ensures)))

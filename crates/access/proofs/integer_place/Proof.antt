@@ -7,18 +7,6 @@ use Rattle.access.proofs.Inside.{stands}
 use Rattle.access.proofs.integer_place.Statement.{statement}
 use Rattle.access.proofs.integer_place.Tie as tie
 
-around-requires : tie.Need-around-requires
-around-requires c κs = stands _ _ _ _ _ (sym (c .before .before .element-place .ensures) ∙ c .enum-told2 .given .1) .there
-
-returns : tie.Need-returns
-returns c = is-integer _ _ _ _ _ (c .before .before .before .before .enum-told2 .given .1) (kind-is _ _ 2 _ (c .before .before .before .around .ensures .fields) (c .if1 .taken)) ∙ ap (integerPlace _ _) (c .before .before .before .before .before .before .element-place .ensures)
-
-returns-2 : tie.Need-returns-2
-returns-2 c = integer-refused _ _ _ _ (c .enum-told .given .1) ∙ ap (integerPlace _ _) (c .before .before .element-place .ensures)
-
-returns-3 : tie.Need-returns-3
-returns-3 c = no-integer _ _ _ _ _ (c .before .before .before .before .enum-told2 .given .1) (kind-not _ _ 2 _ (c .before .before .before .around .ensures .fields) (c .if1 .left)) ∙ ap (integerPlace _ _) (c .before .before .before .before .before .before .element-place .ensures)
-
 pub integer-place-spec : {M : Type 1} → statement M
 integer-place-spec =
     tie.close
@@ -26,7 +14,11 @@ integer-place-spec =
     (λ c κs. search needs)
     (λ c. search needs)
     (λ c. search needs)
-    around-requires
-    returns
-    returns-2
-    returns-3)
+    (λ c κs. stands _ _ _ _ _ (sym (c .before .before .element-place .ensures) ∙ c .enum-told2 .given .1) .there)
+    (λ c.
+    let element-place = c .before .before .before .before .before .before .element-place in
+    is-integer _ _ _ _ _ (c .before .before .before .before .enum-told2 .given .1) (kind-is _ _ 2 _ (c .before .before .before .around .ensures .fields) (c .if1 .taken)) ∙ ap (integerPlace _ _) (element-place .ensures))
+    (λ c. integer-refused _ _ _ _ (c .enum-told .given .1) ∙ ap (integerPlace _ _) (c .before .before .element-place .ensures))
+    (λ c.
+    let element-place = c .before .before .before .before .before .before .element-place in
+    no-integer _ _ _ _ _ (c .before .before .before .before .enum-told2 .given .1) (kind-not _ _ 2 _ (c .before .before .before .around .ensures .fields) (c .if1 .left)) ∙ ap (integerPlace _ _) (element-place .ensures)))

@@ -6,19 +6,6 @@ use Rattle.access.proofs.Inside.{stands}
 use Rattle.access.proofs.number_place.Statement.{statement}
 use Rattle.access.proofs.number_place.Tie as tie
 
-around-requires : tie.Need-around-requires
-around-requires c κs = stands _ _ _ _ _ (sym (c .before .before .before .element-place .ensures) ∙ c .before .found .given .1) .there
-
-returns : tie.Need-returns
-returns c = c .fitted .ensures ∙ rw (c .before .before .element-allowed .ensures, c .before .fits-in .ensures)
-    (number-there-is _ _ _ _ (c .before .before .before .before .before .before .before .before .before .before .element-place .ensures) _ _ (c .before .before .before .before .before .before .before .before .found .given .1) _ (c .before .before .before .before .before .before .around .ensures) _ (kind-is _ _ 2 _ (c .before .before .before .before .before .before .around .ensures .fields) (c .before .before .before .if1 .taken)))
-
-returns-2 : tie.Need-returns-2
-returns-2 c = number-none _ _ _ _ (c .before .before .element-place .ensures) _ _ (c .enum-told .given .1)
-
-returns-3 : tie.Need-returns-3
-returns-3 c = number-not _ _ _ _ (c .before .before .before .before .before .before .before .element-place .ensures) _ _ (c .before .before .before .before .before .found .given .1) _ (c .before .before .before .around .ensures) _ (kind-not _ _ 2 _ (c .before .before .before .around .ensures .fields) (c .if1 .left))
-
 pub number-place-spec : {M : Type 1} → statement M
 number-place-spec =
     tie.close
@@ -26,10 +13,17 @@ number-place-spec =
     (λ c κs. search needs)
     (λ c. search needs)
     (λ c. search needs)
-    around-requires
+    (λ c κs. stands _ _ _ _ _ (sym (c .before .before .before .element-place .ensures) ∙ c .before .found .given .1) .there)
     (λ c κs. search needs)
     (λ c κs. search needs)
     (λ c κs. search needs)
-    returns
-    returns-2
-    returns-3)
+    (λ c.
+    let around = c .before .before .before .before .before .before .around in
+    let found = c .before .before .before .before .before .before .before .before .found in
+    let element-place = c .before .before .before .before .before .before .before .before .before .before .element-place in
+    c .fitted .ensures ∙ rw (c .before .before .element-allowed .ensures, c .before .fits-in .ensures)
+    (number-there-is _ _ _ _ (element-place .ensures) _ _ (found .given .1) _ (around .ensures) _ (kind-is _ _ 2 _ (around .ensures .fields) (c .before .before .before .if1 .taken))))
+    (λ c. number-none _ _ _ _ (c .before .before .element-place .ensures) _ _ (c .enum-told .given .1))
+    (λ c.
+    let element-place = c .before .before .before .before .before .before .before .element-place in
+    number-not _ _ _ _ (element-place .ensures) _ _ (c .before .before .before .before .before .found .given .1) _ (c .before .before .before .around .ensures) _ (kind-not _ _ 2 _ (c .before .before .before .around .ensures .fields) (c .if1 .left))))

@@ -6,15 +6,6 @@ use Rattle.access.proofs.Inside.{stands}
 use Rattle.access.proofs.octets_place.Statement.{statement}
 use Rattle.access.proofs.octets_place.Tie as tie
 
-around-requires : tie.Need-around-requires
-around-requires c κs = stands _ _ _ _ _ (sym (c .before .before .before .element-place .ensures) ∙ c .before .found .given .1) .there
-
-returns : tie.Need-returns
-returns c = octets-refused _ _ _ _ (c .before .before .element-place .ensures) _ _ (c .enum-told .given .1)
-
-returns-2 : tie.Need-returns-2
-returns-2 c = c .fitted .ensures ∙ rw (c .before .element-allowed .ensures) (octets-there _ _ _ _ (c .before .before .before .before .before .before .element-place .ensures) _ _ (c .before .before .before .before .found .given .1) _ (c .before .before .around .ensures) _)
-
 pub octets-place-spec : {M : Type 1} → statement M
 octets-place-spec =
     tie.close
@@ -22,8 +13,10 @@ octets-place-spec =
     (λ c κs. search needs)
     (λ c. search needs)
     (λ c. search needs)
-    around-requires
+    (λ c κs. stands _ _ _ _ _ (sym (c .before .before .before .element-place .ensures) ∙ c .before .found .given .1) .there)
     (λ c κs. search needs)
     (λ c κs. search needs)
-    returns
-    returns-2)
+    (λ c. octets-refused _ _ _ _ (c .before .before .element-place .ensures) _ _ (c .enum-told .given .1))
+    (λ c.
+    let element-place = c .before .before .before .before .before .before .element-place in
+    c .fitted .ensures ∙ rw (c .before .element-allowed .ensures) (octets-there _ _ _ _ (element-place .ensures) _ _ (c .before .before .before .before .found .given .1) _ (c .before .before .around .ensures) _)))

@@ -5,15 +5,8 @@ use Rattle.meaning.specs.Refusals.{placePart}
 use Rattle.access.proofs.part_at.Statement.{statement}
 use Rattle.access.proofs.part_at.Tie as tie
 
-returns : tie.Need-returns
-unfolding placePart
-returns c = rw (c .before .enum-told .given .1)
-
-returns-2 : tie.Need-returns-2
-unfolding placePart
-returns-2 c = c .part .ensures ∙ rw (c .before .before .place .given .1)
-
 pub part-at-spec : {M : Type 1} → statement M
+unfolding placePart
 part-at-spec =
     tie.close
     (tie.spec
@@ -23,5 +16,5 @@ part-at-spec =
     (λ c. search needs)
     (λ c. search needs)
     (λ c κs. search needs)
-    returns
-    returns-2)
+    (λ c. rw (c .before .enum-told .given .1))
+    (λ c. c .part .ensures ∙ rw (c .before .before .place .given .1)))

@@ -5,9 +5,6 @@ use Rattle.meaning.specs.Refusals.{tablePartReply}
 use Rattle.access.proofs.table_part.Statement.{statement}
 use Rattle.access.proofs.table_part.Tie as tie
 
-returns : tie.Need-returns
-unfolding tablePartReply
-returns c = c .part-at .ensures ∙ rw (c .before .table-place .ensures)
-
 pub table-part-spec : {M : Type 1} → statement M
-table-part-spec = tie.close (tie.spec (λ c κs. search needs) (λ c κs. search needs) returns)
+unfolding tablePartReply
+table-part-spec = tie.close (tie.spec (λ c κs. search needs) (λ c κs. search needs) (λ c. c .part-at .ensures ∙ rw (c .before .table-place .ensures)))

@@ -8,15 +8,8 @@ use Rattle.access.proofs.Inside.{number-fits}
 use Rattle.access.proofs.write_number.Statement.{statement}
 use Rattle.access.proofs.write_number.Tie as tie
 
-returns : tie.Need-returns
-unfolding writeNumberReply writeNumberImage
-returns c = rw (← c .before .before .before .number-place .ensures) (number-kept _ _ _ _ (c .before .place .given .1))
-
-returns-2 : tie.Need-returns-2
-unfolding writeNumberReply writeNumberImage
-returns-2 c = rw (← c .before .before .before .before .before .before .before .number-place .ensures) (number-there _ _ _ _ _ _ (c .before .before .before .before .before .place2 .given .1) (subst (Inside _) (c .before .before .before .before .before .place2 .given .1) (number-fits _ _ _ _ _ (c .before .before .before .before .before .before .before .number-place .ensures))) (c .before .before .put-number .ensures))
-
 pub write-number-spec : {M : Type 1} → statement M
+unfolding writeNumberImage writeNumberReply
 write-number-spec =
     tie.close
     (tie.spec
@@ -25,6 +18,8 @@ write-number-spec =
     (λ c. search needs)
     (λ c κs. search needs)
     (λ c. search needs)
-    returns
+    (λ c. rw (← c .before .before .before .number-place .ensures) (number-kept _ _ _ _ (c .before .place .given .1)))
     (λ c. search needs)
-    returns-2)
+    (λ c.
+    let number-place = c .before .before .before .before .before .before .before .number-place in
+    rw (← number-place .ensures) (number-there _ _ _ _ _ _ (c .before .before .before .before .before .place2 .given .1) (subst (Inside _) (c .before .before .before .before .before .place2 .given .1) (number-fits _ _ _ _ _ (number-place .ensures))) (c .before .before .put-number .ensures))))

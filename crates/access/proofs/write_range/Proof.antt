@@ -6,12 +6,9 @@ use Rattle.access.proofs.Inside.{range-fits}
 use Rattle.access.proofs.write_range.Statement.{statement}
 use Rattle.access.proofs.write_range.Tie as tie
 
-write-at-requires : tie.Need-write-at-requires
-write-at-requires c κs = range-fits _ _ _ _ _ _ _ (c .before .range-place .ensures)
-
 returns : tie.Need-returns
 unfolding writeRangeReply writeRangeImage
 returns c = (c .before .before .write-at .ensures .0 ∙ rw (c .before .before .before .before .range-place .ensures), c .before .before .write-at .ensures .1 ∙ rw (c .before .before .before .before .range-place .ensures))
 
 pub write-range-spec : {M : Type 1} → statement M
-write-range-spec = tie.close (tie.spec (λ c κs. search needs) write-at-requires (λ c. search needs) returns)
+write-range-spec = tie.close (tie.spec (λ c κs. search needs) (λ c κs. range-fits _ _ _ _ _ _ _ (c .before .range-place .ensures)) (λ c. search needs) returns)

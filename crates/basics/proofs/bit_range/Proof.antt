@@ -9,25 +9,16 @@ use borrow.Author.Needs.{needs}
 use Rattle.basics.proofs.bit_range.Statement.{statement}
 use Rattle.basics.proofs.bit_range.Tie as tie
 
-returns : tie.Need-returns
-returns c = none-past (c .before .args .number) (c .before .args .low) (c .before .args .width) (omega arith) (c .if1 .taken)
-
-cast-result : tie.Need-cast-result
-cast-result c = omega (arith, div-le-self (c .before .before .args .number) (2 ^ c .before .before .args .low))
-
-returns-2 : tie.Need-returns-2
-returns-2 c = all-kept (c .before .before .args .number) (c .before .before .args .low) (c .before .before .args .width) (omega arith) (c .if2 .taken)
-
-rem-result : tie.Need-rem-result
-rem-result c = rw (shifted (c .before .before .args .width) (omega arith)) (pow-pos (c .before .before .args .width))
-
-cast-result-2 : tie.Need-cast-result-2
-cast-result-2 c = rw (shifted (c .before .before .args .width) (omega arith)) (omega (arith, bits-most (c .before .before .args .number) (c .before .before .args .low) (2 ^ c .before .before .args .width)))
-
-returns-3 : tie.Need-returns-3
-returns-3 c = rw (shifted (c .before .before .args .width) (omega arith))
-
 pub bit-range-spec : {M : Type 1} → statement M
 bit-range-spec =
     tie.close
-    (tie.spec returns (λ c. search needs) cast-result returns-2 (λ c. search needs) rem-result cast-result-2 returns-3)
+    (tie.spec
+    (λ c. none-past (c .before .args .number) (c .before .args .low) (c .before .args .width) (omega arith) (c .if1 .taken))
+    (λ c. search needs)
+    (λ c. omega (arith, div-le-self (c .before .before .args .number) (2 ^ c .before .before .args .low)))
+    (λ c. all-kept (c .before .before .args .number) (c .before .before .args .low) (c .before .before .args .width) (omega arith) (c .if2 .taken))
+    (λ c. search needs)
+    (λ c. rw (shifted (c .before .before .args .width) (omega arith)) (pow-pos (c .before .before .args .width)))
+    (λ c.
+    rw (shifted (c .before .before .args .width) (omega arith)) (omega (arith, bits-most (c .before .before .args .number) (c .before .before .args .low) (2 ^ c .before .before .args .width))))
+    (λ c. rw (shifted (c .before .before .args .width) (omega arith))))

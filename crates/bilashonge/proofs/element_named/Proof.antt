@@ -9,11 +9,4 @@ unfolding elementNamed
 returns c = rw (c .before .before .before .subscript .ensures, c .before .before .subscript2 .ensures, c .before .subscript3 .ensures, c .subscript4 .ensures)
 
 pub element-named-spec : {M : Type 1} → statement M
-element-named-spec =
-    tie.close
-    (tie.spec
-    (λ c κs. search needs)
-    (λ c κs. search needs)
-    (λ c κs. search needs)
-    (λ c κs. search needs)
-    returns)
+element-named-spec = tie.close (search (tie.spec, returns, needs))

@@ -7,18 +7,8 @@ use borrow.Author.Needs.{needs}
 use Rattle.calendar.proofs.column_on.Statement.{statement}
 use Rattle.calendar.proofs.column_on.Tie as tie
 
-add-result : tie.Need-add-result
-add-result c = omega (arith, c .day-columns .ensures, days-most (c .before .before .before .before .args .controls))
-
-returns : tie.Need-returns
-unfolding columnOn
-returns c = c .day-column .ensures ∙ rw (c .before .weekday .ensures, c .before .before .enum-told .given .1)
-
-returns-2 : tie.Need-returns-2
-unfolding columnOn
-returns-2 c = rw (c .day-columns .ensures, c .before .before .special .given .1)
-
 pub column-on-spec : {M : Type 1} → statement M
+unfolding columnOn
 column-on-spec =
     tie.close
     (tie.spec
@@ -28,6 +18,6 @@ column-on-spec =
     (λ c. search needs)
     (λ c κs. search needs)
     (λ c. search needs)
-    add-result
-    returns
-    returns-2)
+    (λ c. omega (arith, c .day-columns .ensures, days-most (c .before .before .before .before .args .controls)))
+    (λ c. c .day-column .ensures ∙ rw (c .before .weekday .ensures, c .before .before .enum-told .given .1))
+    (λ c. rw (c .day-columns .ensures, c .before .before .special .given .1)))

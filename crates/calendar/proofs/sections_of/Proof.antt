@@ -1,48 +1,35 @@
 -- `calendar::sections_of`: as defined; no sum passes what can be counted, as the counts are small. Assumes nothing.
 use native.Mathlib.Omega.{arith}
-use Rattle.calendar.proofs.Laws.{records-few, columns-few, cells-few, sections-are}
+use Rattle.meaning.specs.Calendar.{switchesAt, matrixAt, rowWidth, table54Size}
+use Rattle.calendar.specs.Sections.{sectionsOf}
+use Rattle.calendar.proofs.Laws.{records-few, columns-few, cells-few}
 use borrow.Author.Needs.{needs}
 use Rattle.calendar.proofs.sections_of.Statement.{statement}
 use Rattle.calendar.proofs.sections_of.Tie as tie
 
-add-switches : tie.Need-add-switches
-add-switches c = omega (arith, records-few (c .before .before .args .controls) _ (c .before .before .pre) (c .before .dates-at .ensures))
-
-add-switches-2 : tie.Need-add-switches-2
-add-switches-2 c = omega (arith, records-few (c .before .before .before .args .controls) _ (c .before .before .before .pre) (c .before .before .dates-at .ensures))
-
-add-matrix : tie.Need-add-matrix
-add-matrix c = omega
-    (arith, records-few (c .before .before .before .before .args .controls) _ (c .before .before .before .before .pre) (c .before .before .before .dates-at .ensures))
-
-add-width : tie.Need-add-width
-add-width c = omega
-    (arith, columns-few (c .before .before .before .before .before .before .args .controls) _ (c .before .before .before .before .before .before .pre) (c .before .day-columns .ensures))
-
-mul-size : tie.Need-mul-size
-mul-size c = omega
-    (arith, cells-few (c .before .before .before .before .before .before .before .args .controls) _ (c .before .before .before .before .before .before .before .pre) (c .before .before .day-columns .ensures))
-
-add-size : tie.Need-add-size
-add-size c = omega
-    (arith, records-few (c .before .before .before .before .before .before .before .args .controls) _ (c .before .before .before .before .before .before .before .pre) (c .before .before .before .before .before .before .dates-at .ensures), cells-few (c .before .before .before .before .before .before .before .args .controls) _ (c .before .before .before .before .before .before .before .pre) (c .before .before .day-columns .ensures))
-
-returns : tie.Need-returns
-returns c = sections-are _ _ _ (c .before .before .before .before .before .before .dates-at .ensures) (c .before .before .day-columns .ensures)
-
 pub sections-of-spec : {M : Type 1} → statement M
+unfolding sectionsOf switchesAt matrixAt rowWidth table54Size
 sections-of-spec =
     tie.close
     (tie.spec
     (λ c κs. search needs)
     (λ c. search needs)
-    add-switches
+    (λ c. omega (arith, records-few (c .before .before .pre) (c .before .dates-at .ensures)))
     (λ c. search needs)
-    add-switches-2
+    (λ c. omega (arith, records-few (c .before .before .before .pre) (c .before .before .dates-at .ensures)))
     (λ c. search needs)
-    add-matrix
+    (λ c. omega (arith, records-few (c .before .before .before .before .pre) (c .before .before .before .dates-at .ensures)))
     (λ c κs. search needs)
-    add-width
-    mul-size
-    add-size
-    returns)
+    (λ c.
+    let start = c .before .before .before .before .before .before in
+    omega (arith, columns-few (start .pre) (c .before .day-columns .ensures)))
+    (λ c.
+    let start = c .before .before .before .before .before .before .before in
+    omega (arith, cells-few (start .pre) (c .before .before .day-columns .ensures)))
+    (λ c.
+    let dates-at = c .before .before .before .before .before .before .dates-at in
+    let pre = c .before .before .before .before .before .before .before .pre in
+    omega (arith, records-few pre (dates-at .ensures), cells-few pre (c .before .before .day-columns .ensures)))
+    (λ c.
+    let dates-at = c .before .before .before .before .before .before .dates-at in
+    rw (dates-at .ensures, c .before .before .day-columns .ensures)))

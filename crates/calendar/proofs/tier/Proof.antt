@@ -2,25 +2,13 @@
 use mathlib.Core.Path.{_∙_, subst}
 use Rattle.meaning.specs.Calendar.{tierIn, tierReply}
 use Rattle.calendar.specs.Sections.{Stands}
-use Rattle.calendar.proofs.Laws.{refused-told, found-told}
+use Rattle.calendar.proofs.Laws.{asked}
 use borrow.Author.Needs.{needs}
 use Rattle.calendar.proofs.tier.Statement.{statement}
 use Rattle.calendar.proofs.tier.Tie as tie
 
-tier-in-requires : tie.Need-tier-in-requires
-tier-in-requires c κs = rw (c .part .ensures)
-    (subst (Stands (c .before .before .before .before .before .before .before .before .args .image .now)) (c .before .before .before .calendar2 .given .1) (c .before .before .before .before .before .calendar-at .ensures .1))
-
-returns : tie.Need-returns
-unfolding tierReply tierIn
-returns c = refused-told (tierIn _ _) _ _ _ (c .before .before .before .calendar-at .ensures .0) _ (c .before .calendar .given .1)
-
-returns-2 : tie.Need-returns-2
-unfolding tierReply
-returns-2 c = c .tier-in .ensures ∙ rw (c .before .before .data-order .ensures, c .before .part .ensures)
-    (found-told (tierIn _ _) _ _ _ (c .before .before .before .before .before .before .calendar-at .ensures .0) _ _ _ (c .before .before .before .before .calendar2 .given .1))
-
 pub tier-spec : {M : Type 1} → statement M
+unfolding tierIn tierReply
 tier-spec =
     tie.close
     (tie.spec
@@ -29,6 +17,12 @@ tier-spec =
     (λ c. search needs)
     (λ c κs. search needs)
     (λ c κs. search needs)
-    tier-in-requires
-    returns
-    returns-2)
+    (λ c κs.
+    let start = c .before .before .before .before .before .before .before .before in
+    rw (c .part .ensures)
+    (subst (Stands (start .args .image .now)) (c .before .before .before .calendar2 .given .1) (c .before .before .before .before .before .calendar-at .ensures .1)))
+    (λ c. asked (tierIn _ _) _ _ _ (c .before .before .before .calendar-at .ensures .0) (c .before .calendar .given .1))
+    (λ c.
+    let calendar-at = c .before .before .before .before .before .before .calendar-at in
+    c .tier-in .ensures ∙ rw (c .before .before .data-order .ensures, c .before .part .ensures)
+    (asked (tierIn _ _) _ _ _ (calendar-at .ensures .0) (c .before .before .before .before .calendar2 .given .1))))

@@ -1,46 +1,50 @@
 -- `calendar::tier_in`: no time, no date, a season change armed, a day. Assumes nothing.
+use mathlib.Core.Bool.{and-false}
+use mathlib.Core.Path.{sym, _∙_}
 use native.Mathlib.Omega.{arith}
-use Rattle.calendar.proofs.Laws.{no-time, no-date, armed-so, on-day, few-minutes}
+use Rattle.meaning.specs.Calendar.{tierIn}
+use Rattle.dates.specs.declared.Day.{Day}
+use Rattle.dates.proofs.Laws.{told}
+use Rattle.calendar.proofs.Laws.{few-minutes}
 use borrow.Author.Tests.{not-true, not-false}
 use borrow.Author.Needs.{needs}
 use Rattle.calendar.proofs.tier_in.Statement.{statement}
 use Rattle.calendar.proofs.tier_in.Tie as tie
 
-returns : tie.Need-returns
-returns c = no-time _ _ _ _ _ _ (c .before .is-time .ensures) (not-true _ (c .if1 .taken))
-
-returns-2 : tie.Need-returns-2
-returns-2 c = armed-so _ _ _ _ _ _ (c .before .before .before .before .before .before .is-time .ensures) _ (c .before .before .before .before .day-of .ensures) _
-    (c .before .before .day .given .1) (not-false _ (c .before .before .before .before .before .if1 .left)) (c .if2 .taken)
-
-mul-minute : tie.Need-mul-minute
-mul-minute c = omega
-    (arith, few-minutes (c .before .before .before .before .before .before .before .before .before .args .moment) _ (c .before .before .before .before .before .before .before .is-time .ensures) (not-false _ (c .before .before .before .before .before .before .if1 .left)))
-
-add-minute : tie.Need-add-minute
-add-minute c = omega
-    (arith, few-minutes (c .before .before .before .before .before .before .before .before .before .before .args .moment) _ (c .before .before .before .before .before .before .before .before .is-time .ensures) (not-false _ (c .before .before .before .before .before .before .before .if1 .left)))
-
-returns-3 : tie.Need-returns-3
-returns-3 c = no-date _ _ _ _ _ _ (c .before .before .before .before .is-time .ensures) _ (c .before .before .day-of .ensures) (c .enum-told .given .1)
-
-returns-4 : tie.Need-returns-4
-returns-4 c = on-day _ _ _ _ _ _ (c .before .before .before .before .before .before .before .before .before .is-time .ensures) _
-    (c .before .before .before .before .before .before .before .day-of .ensures) _ (c .before .before .before .before .before .day .given .1)
-    (not-false _ (c .before .before .before .before .before .before .before .before .if1 .left)) (c .before .before .before .if2 .left) _ (c .tier-day .ensures)
-
 pub tier-in-spec : {M : Type 1} → statement M
+unfolding tierIn
 tier-in-spec =
     tie.close
     (tie.spec
     (λ c κs. search needs)
-    returns
+    (λ c. rw (← c .before .is-time .ensures, not-true (c .before .is-time .result) (c .if1 .taken), and-false))
     (λ c κs. search needs)
     (λ c. search needs)
     (λ c. search needs)
-    returns-2
-    mul-minute
-    add-minute
+    (λ c.
+    let is-time = c .before .before .before .before .before .before .is-time in
+    let real = told _ _ _ (Day.Number _) (sym (c .before .before .before .before .day-of .ensures) ∙ c .before .before .day .given .1) in
+    let time = not-false (is-time .result) (c .before .before .before .before .before .if1 .left) in
+    rw (real .0, ← is-time .ensures, time, c .if2 .taken))
+    (λ c.
+    let if1 = c .before .before .before .before .before .before .if1 in
+    let is-time = c .before .before .before .before .before .before .before .is-time in
+    let start = c .before .before .before .before .before .before .before .before .before in
+    omega
+    (arith, few-minutes (start .args .moment) _ (is-time .ensures) (not-false _ (if1 .left))))
+    (λ c.
+    let if1 = c .before .before .before .before .before .before .before .if1 in
+    let is-time = c .before .before .before .before .before .before .before .before .is-time in
+    let start = c .before .before .before .before .before .before .before .before .before .before in
+    omega
+    (arith, few-minutes (start .args .moment) _ (is-time .ensures) (not-false _ (if1 .left))))
     (λ c κs. search needs)
-    returns-3
-    returns-4)
+    (λ c. rw (told _ _ _ Day.NotReal (sym (c .before .before .day-of .ensures) ∙ c .enum-told .given .1)))
+    (λ c.
+    let day-of = c .before .before .before .before .before .before .before .day-of in
+    let if1 = c .before .before .before .before .before .before .before .before .if1 in
+    let day = sym (day-of .ensures) ∙ c .before .before .before .before .before .day .given .1 in
+    let real = told _ _ _ (Day.Number _) day in
+    let is = c .before .before .before .before .before .before .before .before .before .is-time in
+    let time = not-false (is .result) (if1 .left) in
+    c .tier-day .ensures ∙ rw (real .0, ← is .ensures, time, c .before .before .before .if2 .left, real .1)))

@@ -4,9 +4,6 @@ use borrow.Author.Needs.{needs}
 use Rattle.dates.proofs.is_leap.Statement.{statement}
 use Rattle.dates.proofs.is_leap.Tie as tie
 
-returns : tie.Need-returns
-unfolding leap
-returns c = cc
-
 pub is-leap-spec : {M : Type 1} → statement M
-is-leap-spec = tie.close (tie.spec (λ c κs. search needs) (λ c κs. search needs) returns)
+unfolding leap
+is-leap-spec = tie.close (tie.spec (λ c κs. search needs) (λ c κs. search needs) (λ c. cc))

@@ -4,11 +4,6 @@ use borrow.Author.Needs.{needs}
 use Rattle.dates.proofs.is_real.Statement.{statement}
 use Rattle.dates.proofs.is_real.Tie as tie
 
-returns : tie.Need-returns
-unfolding realDate
-returns c = cc
-
 pub is-real-spec : {M : Type 1} → statement M
-is-real-spec =
-    tie.close
-    (tie.spec (λ c κs. search needs) (λ c κs. search needs) (λ c κs. search needs) (λ c κs. search needs) returns)
+unfolding realDate
+is-real-spec = tie.close (tie.spec (λ c κs. search needs) (λ c κs. search needs) (λ c κs. search needs) (λ c κs. search needs) (λ c. cc))

@@ -4,9 +4,6 @@ use borrow.Author.Needs.{needs}
 use Rattle.dates.proofs.is_time.Statement.{statement}
 use Rattle.dates.proofs.is_time.Tie as tie
 
-returns : tie.Need-returns
-unfolding realTime
-returns c = cc
-
 pub is-time-spec : {M : Type 1} → statement M
-is-time-spec = tie.close (tie.spec (λ c κs. search needs) returns)
+unfolding realTime
+is-time-spec = tie.close (tie.spec (λ c κs. search needs) (λ c. cc))

@@ -15,31 +15,19 @@ Inv-loop year month days₀ k₀ days k = (k ≤ month) × (days ≡ monthDays y
 abbrev μ-loop : tie.MeasureT-loop
 μ-loop year month days₀ k₀ days k = month - k
 
-loop-holds : tie.Need-loop-holds Inv-loop μ-loop
-loop-holds c = (omega arith, months-zero _)
-
-add-days : tie.Need-add-days Inv-loop μ-loop
-add-days c =
-    let k = c .before .before .loop .k in
-    let y = c .before .before .before .args .year in
-    omega (arith, c .month-length .ensures, month-most y k, months-most y k)
-
-loop-again : tie.Need-loop-again Inv-loop μ-loop
-loop-again c = (omega arith, rw (c .before .before .loop .inv .1, c .month-length .ensures) (months-more _ _))
-
-returns : tie.Need-returns Inv-loop μ-loop
-returns c = c .before .loop .inv .1 ∙ ap (monthDays _) (le-antisymm (c .before .loop .inv .0) (c .loop-test .left))
-
 pub month-days-spec : {M : Type 1} → statement M
 month-days-spec =
     tie.close
     (tie.spec
     Inv-loop
     μ-loop
-    loop-holds
+    (λ c. (omega arith, months-zero _))
     (λ c κs. search needs)
-    add-days
+    (λ c.
+    let k = c .before .before .loop .k in
+    let y = c .before .before .before .args .year in
+    omega (arith, c .month-length .ensures, month-most y k, months-most y k))
     (λ c. omega arith)
     (λ c. omega arith)
-    loop-again
-    returns)
+    (λ c. (omega arith, rw (c .before .before .loop .inv .1, c .month-length .ensures) (months-more _ _)))
+    (λ c. c .before .loop .inv .1 ∙ ap (monthDays _) (le-antisymm (c .before .loop .inv .0) (c .loop-test .left))))

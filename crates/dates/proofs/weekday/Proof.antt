@@ -5,9 +5,6 @@ use borrow.Author.Needs.{needs}
 use Rattle.dates.proofs.weekday.Statement.{statement}
 use Rattle.dates.proofs.weekday.Tie as tie
 
-returns : tie.Need-returns
-unfolding weekdayOf
-returns c = omega arith
-
 pub weekday-spec : {M : Type 1} → statement M
-weekday-spec = tie.close (tie.spec (λ c. search needs) returns)
+unfolding weekdayOf
+weekday-spec = tie.close (tie.spec (λ c. search needs) (λ c. omega arith))

@@ -17,15 +17,6 @@ Inv-loop years days₀ k₀ days k = (k ≤ years) × (days ≡ yearDays k)
 abbrev μ-loop : tie.MeasureT-loop
 μ-loop years days₀ k₀ days k = years - k
 
-loop-holds : tie.Need-loop-holds Inv-loop μ-loop
-loop-holds c = (omega arith, years-zero)
-
-add-days : tie.Need-add-days Inv-loop μ-loop
-add-days c = omega (arith, years-most (c .before .before .before .loop .k))
-
-add-days-2 : tie.Need-add-days-2 Inv-loop μ-loop
-add-days-2 c = omega (arith, years-most (c .before .before .before .loop .k))
-
 loop-again : tie.Need-loop-again Inv-loop μ-loop
 loop-again c =
     let l = c .before .before .before .loop in
@@ -35,21 +26,18 @@ loop-again c =
           (λ w. w .1 ∙ rw (l .inv .1) (years-more (l .k) false (sym e ∙ w .0 .left))) (c .if1 .came),
     )
 
-returns : tie.Need-returns Inv-loop μ-loop
-returns c = c .before .loop .inv .1 ∙ ap yearDays (le-antisymm (c .before .loop .inv .0) (c .loop-test .left))
-
 pub year-days-spec : {M : Type 1} → statement M
 year-days-spec =
     tie.close
     (tie.spec
     Inv-loop
     μ-loop
-    loop-holds
+    (λ c. (omega arith, years-zero))
     (λ c. omega arith)
     (λ c κs. search needs)
-    add-days
-    add-days-2
+    (λ c. omega (arith, years-most (c .before .before .before .loop .k)))
+    (λ c. omega (arith, years-most (c .before .before .before .loop .k)))
     (λ c. omega arith)
     (λ c. omega arith)
     loop-again
-    returns)
+    (λ c. c .before .loop .inv .1 ∙ ap yearDays (le-antisymm (c .before .loop .inv .0) (c .loop-test .left))))

@@ -4,17 +4,6 @@ use Rattle.meaning.specs.Description.{arrayOf}
 use Rattle.items.proofs.array_of.Statement.{statement}
 use Rattle.items.proofs.array_of.Tie as tie
 
-returns : tie.Need-returns
-unfolding arrayOf
-returns c = cc
-
 pub array-of-spec : {M : Type 1} → statement M
-array-of-spec =
-    tie.close
-    (tie.spec
-    (λ c κs. search needs)
-    (λ c κs. search needs)
-    (λ c κs. search needs)
-    (λ c κs. search needs)
-    (λ c κs. search needs)
-    returns)
+unfolding arrayOf
+array-of-spec = tie.close (tie.spec (λ c κs. search needs) (λ c κs. search needs) (λ c κs. search needs) (λ c κs. search needs) (λ c κs. search needs) (λ c. cc))

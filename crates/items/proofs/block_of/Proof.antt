@@ -4,11 +4,8 @@ use Rattle.meaning.specs.Description.{blockOf}
 use Rattle.items.proofs.block_of.Statement.{statement}
 use Rattle.items.proofs.block_of.Tie as tie
 
-returns : tie.Need-returns
-unfolding blockOf
-returns c = cc
-
 pub block-of-spec : {M : Type 1} → statement M
+unfolding blockOf
 block-of-spec =
     tie.close
     (tie.spec
@@ -18,4 +15,4 @@ block-of-spec =
     (λ c. search needs)
     (λ c κs. search needs)
     (λ c κs. search needs)
-    returns)
+    (λ c. cc))

@@ -9,13 +9,4 @@ unfolding ifOf
 returns c = cc
 
 pub if-of-spec : {M : Type 1} → statement M
-if-of-spec =
-    tie.close
-    (tie.spec
-    (λ c κs. search needs)
-    (λ c κs. search needs)
-    (λ c κs. search needs)
-    (λ c κs. search needs)
-    (λ c κs. search needs)
-    (λ c κs. search needs)
-    returns)
+if-of-spec = tie.close (search (tie.spec, returns, needs))

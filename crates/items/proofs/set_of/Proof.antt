@@ -9,13 +9,4 @@ unfolding setOf
 returns c = cc
 
 pub set-of-spec : {M : Type 1} → statement M
-set-of-spec =
-    tie.close
-    (tie.spec
-    (λ c κs. search needs)
-    (λ c κs. search needs)
-    (λ c κs. search needs)
-    (λ c κs. search needs)
-    (λ c κs. search needs)
-    (λ c κs. search needs)
-    returns)
+set-of-spec = tie.close (search (tie.spec, returns, needs))

@@ -4,11 +4,6 @@ use Rattle.meaning.specs.Description.{tableOf}
 use Rattle.items.proofs.table_of.Statement.{statement}
 use Rattle.items.proofs.table_of.Tie as tie
 
-returns : tie.Need-returns
-unfolding tableOf
-returns c = cc
-
 pub table-of-spec : {M : Type 1} → statement M
-table-of-spec =
-    tie.close
-    (tie.spec (λ c κs. search needs) (λ c κs. search needs) (λ c κs. search needs) (λ c κs. search needs) (λ c. search needs) returns)
+unfolding tableOf
+table-of-spec = tie.close (tie.spec (λ c κs. search needs) (λ c κs. search needs) (λ c κs. search needs) (λ c κs. search needs) (λ c. search needs) (λ c. cc))

@@ -4,11 +4,8 @@ use Rattle.meaning.specs.Description.{uintOf}
 use Rattle.items.proofs.uint_of.Statement.{statement}
 use Rattle.items.proofs.uint_of.Tie as tie
 
-returns : tie.Need-returns
-unfolding uintOf
-returns c = cc
-
 pub uint-of-spec : {M : Type 1} → statement M
+unfolding uintOf
 uint-of-spec =
     tie.close
     (tie.spec
@@ -20,4 +17,4 @@ uint-of-spec =
     (λ c κs. search needs)
     (λ c κs. search needs)
     (λ c κs. search needs)
-    returns)
+    (λ c. cc))

@@ -5,9 +5,6 @@ use Rattle.items.proofs.Laws.{word-is}
 use Rattle.items.proofs.word_at.Statement.{statement}
 use Rattle.items.proofs.word_at.Tie as tie
 
-returns : tie.Need-returns
-returns c = omega (arith, word-is (c .before .before .before .before .before .before .before .before .before .args .description .now) (c .before .before .before .before .before .before .before .before .before .args .item) (c .before .before .before .before .before .before .before .before .before .pre))
-
 pub word-at-spec : {M : Type 1} → statement M
 word-at-spec =
     tie.close
@@ -30,4 +27,6 @@ word-at-spec =
     (λ c. search needs)
     (λ c. search needs)
     (λ c. search needs)
-    returns)
+    (λ c.
+    let start = c .before .before .before .before .before .before .before .before .before in
+    omega (arith, word-is (start .args .description .now) (start .args .item) (start .pre))))

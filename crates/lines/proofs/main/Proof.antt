@@ -1,4 +1,5 @@
--- `lines::main`: the memory is as long as what is lent asks. Assumes nothing.
+-- `lines::main`: the memory is as long as what is lent asks. Each answer has a name, so that nothing of that length is computed again where they are put
+-- together: in the list they took half as much memory again. Assumes nothing.
 use Prim.Native.Nat.{ℕ}
 use mathlib.Core.Path.{sym}
 use native.Mathlib.Omega.{arith}

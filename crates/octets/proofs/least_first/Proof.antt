@@ -15,35 +15,17 @@ Inv-loop octets₀ value rest₀ i₀ octets rest i = Filling octets₀ value oc
 abbrev μ-loop : tie.MeasureT-loop
 μ-loop octets₀ value rest₀ i₀ octets rest i = length octets₀ - i
 
-loop-holds : tie.Need-loop-holds Inv-loop μ-loop
-loop-holds c = filled-none _ _
-
-add-i : tie.Need-add-i Inv-loop μ-loop
-add-i c = omega (arith, c .loop-test .taken)
-
-loop-less : tie.Need-loop-less Inv-loop μ-loop
-loop-less c = omega (arith, c .loop-test .taken, c .before .loop .inv .long)
-
-loop-again : tie.Need-loop-again Inv-loop μ-loop
-loop-again c = filled-next _ _ _ _ _ _ (c .before .loop .inv) (omega (arith, c .loop-test .taken, c .before .loop .inv .long)) refl
-
-same-length : tie.Need-same-length Inv-loop μ-loop
-same-length c = c .before .loop .inv .long
-
-returns : tie.Need-returns Inv-loop μ-loop
-returns c = filled-all _ _ _ _ _ (c .before .loop .inv) (omega (arith, c .loop-test .left, c .before .loop .inv .long))
-
 pub least-first-spec : {M : Type 1} → statement M
 least-first-spec =
     tie.close
     (tie.spec
     Inv-loop
     μ-loop
-    loop-holds
+    (λ c. filled-none _ _)
     (λ c. omega arith)
     (λ c. search needs)
-    add-i
-    loop-less
-    loop-again
-    same-length
-    returns)
+    (λ c. omega (arith, c .loop-test .taken))
+    (λ c. omega (arith, c .loop-test .taken, c .before .loop .inv .long))
+    (λ c. filled-next _ _ _ _ _ _ (c .before .loop .inv) (omega (arith, c .loop-test .taken, c .before .loop .inv .long)) refl)
+    (λ c. c .before .loop .inv .long)
+    (λ c. filled-all _ _ _ _ _ (c .before .loop .inv) (omega (arith, c .loop-test .left, c .before .loop .inv .long))))

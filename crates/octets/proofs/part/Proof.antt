@@ -5,9 +5,6 @@ use Rattle.octets.proofs.Laws.{part-cut}
 use Rattle.octets.proofs.part.Statement.{statement}
 use Rattle.octets.proofs.part.Tie as tie
 
-returns : tie.Need-returns
-returns c = let a = c .before .before .before .before .before .args in part-cut (a .image .now) (a .start .0) (a .octets) _ _ (c .before .before .least .ensures ∙ rw (c .before .before .before .octet .ensures)) (c .before .least2 .ensures)
-
 pub part-spec : {M : Type 1} → statement M
 part-spec =
     tie.close
@@ -20,4 +17,5 @@ part-spec =
     (λ c. search needs)
     (λ c. search needs)
     (λ c. search needs)
-    returns)
+    (λ c.
+    let a = c .before .before .before .before .before .args in part-cut (a .image .now) (a .start .0) (a .octets) _ _ (c .before .before .least .ensures ∙ rw (c .before .before .before .octet .ensures)) (c .before .least2 .ensures)))

@@ -6,13 +6,12 @@ use Rattle.octets.specs.Octets.{placeOf}
 use Rattle.octets.proofs.place_of.Statement.{statement}
 use Rattle.octets.proofs.place_of.Tie as tie
 
-returns : tie.Need-returns
-unfolding placeOf
-returns c = (rw (eq-eqb _ _ (c .if1 .taken)), omega (arith, c .before .pre))
-
-returns-2 : tie.Need-returns-2
-unfolding placeOf
-returns-2 c = (rw (ne-eqb _ _ (c .if1 .left)), c .before .pre)
-
 pub place-of-spec : {M : Type 1} → statement M
-place-of-spec = tie.close (tie.spec (λ c. search needs) (λ c. search needs) returns returns-2)
+unfolding placeOf
+place-of-spec =
+    tie.close
+    (tie.spec
+    (λ c. search needs)
+    (λ c. search needs)
+    (λ c. (rw (eq-eqb _ _ (c .if1 .taken)), omega (arith, c .before .pre)))
+    (λ c. (rw (ne-eqb _ _ (c .if1 .left)), c .before .pre)))

@@ -6,20 +6,6 @@ use Rattle.octets.proofs.Laws.{inside-true, number-inside, number-outsi
 use Rattle.octets.proofs.put_number.Statement.{statement}
 use Rattle.octets.proofs.put_number.Tie as tie
 
-add-end : tie.Need-add-end
-add-end c = let a = c .before .before .before .before .before .before .args in let h = inside-true (a .image .now) _ (a .octets) _ (c .before .ends-within .ensures) (c .if1 .taken) in omega (arith, h)
-
-part-fill-end : tie.Need-part-fill-end
-part-fill-end c = let a = c .before .before .before .before .before .before .args in let h = inside-true (a .image .now) _ (a .octets) _ (c .before .ends-within .ensures) (c .if1 .taken) in omega (arith, h)
-
-returns : tie.Need-returns
-returns c = let a = c .before .before .before .before .before .before .before .before .before .before .args in
-    let h = inside-true (a .image .now) _ (a .octets) _ (c .before .before .before .before .before .ends-within .ensures) (c .before .before .before .before .if1 .taken) in
-    rw (← c .before .before .before .before .before .before .octet .ensures) (number-inside (a .image .now) _ (a .octets) _ (a .value) _ h (c .before .before .before .before .before .before .before .data-order .ensures) (c .before .before .fill .ensures))
-
-returns-2 : tie.Need-returns-2
-returns-2 c = let a = c .before .before .before .before .before .before .args in number-outside (a .image .now) (a .start .0) (a .octets) (a .value) (rw (← c .before .before .octet .ensures) (sym (c .before .ends-within .ensures) ∙ c .if1 .left))
-
 pub put-number-spec : {M : Type 1} → statement M
 put-number-spec =
     tie.close
@@ -27,12 +13,20 @@ put-number-spec =
     (λ c κs. search needs)
     (λ c κs. search needs)
     (λ c κs. search needs)
-    add-end
+    (λ c.
+    let a = c .before .before .before .before .before .before .args in let h = inside-true (a .image .now) _ (a .octets) _ (c .before .ends-within .ensures) (c .if1 .taken) in omega (arith, h))
     (λ c. search needs)
     (λ c. search needs)
-    part-fill-end
+    (λ c.
+    let a = c .before .before .before .before .before .before .args in let h = inside-true (a .image .now) _ (a .octets) _ (c .before .ends-within .ensures) (c .if1 .taken) in omega (arith, h))
     (λ c κs. search needs)
     (λ c. search needs)
-    returns
+    (λ c.
+    let octet = c .before .before .before .before .before .before .octet in
+    let data-order = c .before .before .before .before .before .before .before .data-order in
+    let a = c .before .before .before .before .before .before .before .before .before .before .args in
+    let h = inside-true (a .image .now) _ (a .octets) _ (c .before .before .before .before .before .ends-within .ensures) (c .before .before .before .before .if1 .taken) in
+    rw (← octet .ensures) (number-inside (a .image .now) _ (a .octets) _ (a .value) _ h (data-order .ensures) (c .before .before .fill .ensures)))
     (λ c. search needs)
-    returns-2)
+    (λ c.
+    let a = c .before .before .before .before .before .before .args in number-outside (a .image .now) (a .start .0) (a .octets) (a .value) (rw (← c .before .before .octet .ensures) (sym (c .before .ends-within .ensures) ∙ c .if1 .left))))

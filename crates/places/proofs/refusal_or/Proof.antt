@@ -4,13 +4,6 @@ use borrow.Author.Needs.{needs}
 use Rattle.places.proofs.refusal_or.Statement.{statement}
 use Rattle.places.proofs.refusal_or.Tie as tie
 
-returns : tie.Need-returns
-unfolding refusalOr
-returns c = rw (c .before .verdict .given .1)
-
-returns-2 : tie.Need-returns-2
-unfolding refusalOr
-returns-2 c = rw (c .enum-told .given .1)
-
 pub refusal-or-spec : {M : Type 1} → statement M
-refusal-or-spec = tie.close (tie.spec (λ c. search needs) (λ c. search needs) returns returns-2)
+unfolding refusalOr
+refusal-or-spec = tie.close (tie.spec (λ c. search needs) (λ c. search needs) (λ c. rw (c .before .verdict .given .1)) (λ c. rw (c .enum-told .given .1)))

@@ -6,19 +6,8 @@ use borrow.Author.Needs.{needs}
 use Rattle.records.proofs.brought_to.Statement.{statement}
 use Rattle.records.proofs.brought_to.Tie as tie
 
-returns : tie.Need-returns
-unfolding broughtTo seasonEntry dateEntry dueOn
-returns c = c .date-entry .ensures ∙ rw (c .before .before .wanted .given .1)
-
-returns-2 : tie.Need-returns-2
-unfolding broughtTo specialEntry dateEntry dueOn
-returns-2 c = c .date-entry2 .ensures ∙ rw (c .before .before .wanted2 .given .1)
-
-returns-3 : tie.Need-returns-3
-unfolding broughtTo
-returns-3 c = c .switch-entry .ensures ∙ rw (c .before .before .wanted3 .given .1)
-
 pub brought-to-spec : {M : Type 1} → statement M
+unfolding broughtTo dateEntry dueOn seasonEntry specialEntry
 brought-to-spec =
     tie.close
     (tie.spec
@@ -28,6 +17,6 @@ brought-to-spec =
     (λ c κs. search needs)
     (λ c. search needs)
     (λ c κs. search needs)
-    returns
-    returns-2
-    returns-3)
+    (λ c. c .date-entry .ensures ∙ rw (c .before .before .wanted .given .1))
+    (λ c. c .date-entry2 .ensures ∙ rw (c .before .before .wanted2 .given .1))
+    (λ c. c .switch-entry .ensures ∙ rw (c .before .before .wanted3 .given .1)))

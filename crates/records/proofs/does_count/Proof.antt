@@ -5,9 +5,6 @@ use borrow.Author.Needs.{needs}
 use Rattle.records.proofs.does_count.Statement.{statement}
 use Rattle.records.proofs.does_count.Tie as tie
 
-returns : tie.Need-returns
-unfolding counts
-returns c = c .either .ensures ∙ rw (c .before .flagged-for .ensures)
-
 pub does-count-spec : {M : Type 1} → statement M
-does-count-spec = tie.close (tie.spec (λ c κs. search needs) (λ c κs. search needs) returns)
+unfolding counts
+does-count-spec = tie.close (tie.spec (λ c κs. search needs) (λ c κs. search needs) (λ c. c .either .ensures ∙ rw (c .before .flagged-for .ensures)))

@@ -7,22 +7,6 @@ use borrow.Author.Needs.{needs}
 use Rattle.records.proofs.or_later.Statement.{statement}
 use Rattle.records.proofs.or_later.Tie as tie
 
-returns : tie.Need-returns
-returns c = let a = c .before .before .before .before .before .earlier .given in
-    let b = c .before .before .later .given in
-    sym (ap₂ orLater (a .1) (b .1) ∙ later-wins (a .0 .0) _ (b .0 .0) _ (omega (arith, c .if1 .taken)))
-
-returns-2 : tie.Need-returns-2
-returns-2 c = sym (ap₂ orLater (c .enum-told .given .1) refl ∙ none-earlier _)
-
-returns-3 : tie.Need-returns-3
-returns-3 c = sym (ap₂ orLater (c .before .before .before .earlier .given .1) (c .enum-told2 .given .1) ∙ none-later _)
-
-returns-4 : tie.Need-returns-4
-returns-4 c = let a = c .before .before .before .before .before .earlier .given in
-    let b = c .before .before .later .given in
-    sym (ap₂ orLater (a .1) (b .1) ∙ earlier-stays (a .0 .0) _ (b .0 .0) _ (omega (arith, c .if1 .left)))
-
 pub or-later-spec : {M : Type 1} → statement M
 or-later-spec =
     tie.close
@@ -31,7 +15,13 @@ or-later-spec =
     (λ c. search needs)
     (λ c. search needs)
     (λ c. search needs)
-    returns
-    returns-2
-    returns-3
-    returns-4)
+    (λ c.
+    let a = c .before .before .before .before .before .earlier .given in
+    let b = c .before .before .later .given in
+    sym (ap₂ orLater (a .1) (b .1) ∙ later-wins (a .0 .0) _ (b .0 .0) _ (omega (arith, c .if1 .taken))))
+    (λ c. sym (ap₂ orLater (c .enum-told .given .1) refl ∙ none-earlier _))
+    (λ c. sym (ap₂ orLater (c .before .before .before .earlier .given .1) (c .enum-told2 .given .1) ∙ none-later _))
+    (λ c.
+    let a = c .before .before .before .before .before .earlier .given in
+    let b = c .before .before .later .given in
+    sym (ap₂ orLater (a .1) (b .1) ∙ earlier-stays (a .0 .0) _ (b .0 .0) _ (omega (arith, c .if1 .left)))))

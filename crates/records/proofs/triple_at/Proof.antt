@@ -7,14 +7,8 @@ use borrow.Author.Needs.{needs}
 use Rattle.records.proofs.triple_at.Statement.{statement}
 use Rattle.records.proofs.triple_at.Tie as tie
 
-cast-word : tie.Need-cast-word
-cast-word c = omega (arith, word-fits _ _ _ _ refl (c .before .before .before .pre) (c .number-in .ensures .1))
-
-returns : tie.Need-returns
-unfolding tripleAt
-returns c = rw (word-is _ _ _ _ _ refl (c .before .before .before .before .before .pre) (c .before .before .number-in .ensures .0), c .wide .ensures .0)
-
 pub triple-at-spec : {M : Type 1} → statement M
+unfolding tripleAt
 triple-at-spec =
     tie.close
     (tie.spec
@@ -23,7 +17,7 @@ triple-at-spec =
     (λ c. search needs)
     (λ c. search needs)
     (λ c κs. search needs)
-    cast-word
+    (λ c. omega (arith, word-fits _ _ _ _ refl (c .before .before .before .pre) (c .number-in .ensures .1)))
     (λ c. search needs)
     (λ c κs. search needs)
-    returns)
+    (λ c. rw (word-is _ _ _ _ _ refl (c .before .before .before .before .before .pre) (c .before .before .number-in .ensures .0), c .wide .ensures .0)))

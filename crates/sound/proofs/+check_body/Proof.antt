@@ -46,107 +46,70 @@ turn : (t : ℕ) (c : check-body-lts.After-struct-known2 (body-cs t) (check-body
 turn t c = let j = c .before .before .before .before .before in
     record { going = j .before .before .before .before .before .loop .inv; more = omega arith; judged = j .judge .ensures; passed = c .before .before .before .before .if2 .left; set = c .before .noted .ensures }
 
-check-body-loop-holds : (t : ℕ) → check-body-lts.Need-loop-holds (body-cs t) (check-body-at t) check-body.Post check-body-Inv-loop check-body-μ-loop
-check-body-loop-holds t c = record { now = c .before .pre .1; quiet = λ i h. refl }
-
-check-body-judge-requires : (t : ℕ) → check-body-lts.Need-judge-requires (body-cs t) (check-body-at t) check-body.Post check-body-Inv-loop check-body-μ-loop
-check-body-judge-requires t c κs = (omega arith, c .before .before .before .before .loop .inv .now .known)
-
-check-body-returns : (t : ℕ) → check-body-lts.Need-returns (body-cs t) (check-body-at t) check-body.Post check-body-Inv-loop check-body-μ-loop
-check-body-returns t c = let j = c .before in
-    record { passed = λ e. absurd (c .if2 .taken e); refused = λ x. broke (j .before .before .before .before .before .loop .inv .now) (omega arith) (j .judge .ensures) }
-
-check-body-noted-requires : (t : ℕ) → check-body-lts.Need-noted-requires (body-cs t) (check-body-at t) check-body.Post check-body-Inv-loop check-body-μ-loop
-check-body-noted-requires t c κs = let j = c .before .before .before in (j .judge .ensures .range, j .before .before .before .before .before .loop .inv .now .known .size)
-
-check-body-add-if3 : (t : ℕ) → check-body-lts.Need-add-if3 (body-cs t) (check-body-at t) check-body.Post check-body-Inv-loop check-body-μ-loop
-check-body-add-if3 t c = let h = c .before .before .before .before .before .judge .ensures .range in omega arith
-
-check-body-loop-less : (t : ℕ) → check-body-lts.Need-loop-less (body-cs t) (check-body-at t) check-body.Post check-body-Inv-loop check-body-μ-loop
-check-body-loop-less t c = let u = turn t (c .before) in let h = further u (entered-none (enter u) (c .if3 .taken)) in omega arith
-
-check-body-loop-again : (t : ℕ) → check-body-lts.Need-loop-again (body-cs t) (check-body-at t) check-body.Post check-body-Inv-loop check-body-μ-loop
-check-body-loop-again t c = let u = turn t (c .before) in leave u (entered-none (enter u) (c .if3 .taken))
-
-check-body-add-middle : (t : ℕ) → check-body-lts.Need-add-middle (body-cs t) (check-body-at t) check-body.Post check-body-Inv-loop check-body-μ-loop
-check-body-add-middle t c = let h = enter (turn t (c .before .before .before)) .there .few in omega arith
-
-check-body-inside-requires : (t : ℕ) → check-body-lts.Need-inside-requires (body-cs t) (check-body-at t) check-body.Post check-body-Inv-loop check-body-μ-loop
-check-body-inside-requires t c κs = let h = turn t (c .before .before .before) .going .now .levels-left in omega arith
-
-check-body-sub-check-body : (t : ℕ) → check-body-lts.Need-sub-check-body (body-cs t) (check-body-at t) check-body.Post check-body-Inv-loop check-body-μ-loop
-check-body-sub-check-body t c = let s = c .before .before .before in let h = enter (turn t (s .before)) .deeper (s .if3 .left) .0 in omega arith
-
-check-body-check-body-requires : (t : ℕ) → check-body-lts.Need-check-body-requires (body-cs t) (check-body-at t) check-body.Post check-body-Inv-loop check-body-μ-loop
-check-body-check-body-requires t c κs = let s = c .before .before .before in let e = enter (turn t (s .before)) in let h = e .deeper (s .if3 .left) .0 in
-    (omega (arith, s .before .before .before .before .before .before .before .before .before .before .before .before .before .pre .0), first-before e (s .if3 .left) (rw (c .before .before .item2 .ensures) at (c .inside .ensures)))
-
-check-body-returns-2 : (t : ℕ) → check-body-lts.Need-returns-2 (body-cs t) (check-body-at t) check-body.Post check-body-Inv-loop check-body-μ-loop
-check-body-returns-2 t c = record { passed = λ e. absurd (c .if4 .taken e); refused = c .before .before .check-body .ensures .refused }
-
-check-body-add-inside : (t : ℕ) → check-body-lts.Need-add-inside (body-cs t) (check-body-at t) check-body.Post check-body-Inv-loop check-body-μ-loop
-check-body-add-inside t c = let h = enter (turn t (c .before .before .before .before .before .before .before .before .before .before)) .there .few in omega arith
-
-check-body-inside-requires-2 : (t : ℕ) → check-body-lts.Need-inside-requires-2 (body-cs t) (check-body-at t) check-body.Post check-body-Inv-loop check-body-μ-loop
-check-body-inside-requires-2 t c κs = let h = turn t (c .before .before .before .before .before .before .before .before .before .before) .going .now .levels-left in omega arith
-
-check-body-sub-check-body-2 : (t : ℕ) → check-body-lts.Need-sub-check-body-2 (body-cs t) (check-body-at t) check-body.Post check-body-Inv-loop check-body-μ-loop
-check-body-sub-check-body-2 t c = let s = c .before .before .before .before .before .before .before .before .before .before in let h = enter (turn t (s .before)) .deeper (s .if3 .left) .0 in omega arith
-
-check-body-check-body-requires-2 : (t : ℕ) → check-body-lts.Need-check-body-requires-2 (body-cs t) (check-body-at t) check-body.Post check-body-Inv-loop check-body-μ-loop
-check-body-check-body-requires-2 t c κs = let b = c .before .before .before .before .before .before in let i = b .before .before .before in let s = i .before in
-    let e = enter (turn t (s .before)) in let h = e .deeper (s .if3 .left) .0 in
-    let first = rw (i .item2 .ensures) at (b .before .inside .ensures) in
-    let second = rw (i .item2 .ensures) at (c .inside2 .ensures) in
-    (omega (arith, s .before .before .before .before .before .before .before .before .before .before .before .before .before .pre .0), second-before e first (b .check-body .ensures .passed (c .before .before .before .before .if4 .left)) (s .if3 .left) second)
-
-check-body-returns-3 : (t : ℕ) → check-body-lts.Need-returns-3 (body-cs t) (check-body-at t) check-body.Post check-body-Inv-loop check-body-μ-loop
-check-body-returns-3 t c = record { passed = λ e. absurd (c .if5 .taken e); refused = c .before .before .check-body2 .ensures .refused }
-
 -- both bodies of its item are clear
 cleared : (t : ℕ) (c : check-body-lts.Else5 (body-cs t) (check-body-at t) check-body.Post check-body-Inv-loop check-body-μ-loop)
-    → let s = c .before .before .before .before .before .before .before .before .before .before .before .before .before in let j = s .before .before .before .before .before .before .judge .result in let x = c .before .before .check-body2 .result in
-    Clear (s .before .before .before .before .before .before .before .before .before .before .before .before .before .args .d .now) (j .next .at) (j .next .at + j .fields .first + j .fields .second) (x .place .at) (x .slots)
+    → let s = c .before .before .before .before .before .before .before .before .before .before .before .before .before in
+    let j = s .before .before .before .before .before .before .judge .result in
+    let start = s .before .before .before .before .before .before .before .before .before .before .before .before .before in
+    let x = c .before .before .check-body2 .result in
+    Clear (start .args .d .now) (j .next .at) (j .next .at + j .fields .first + j .fields .second) (x .place .at) (x .slots)
 cleared t c =
     let q = c .before .before in let b = q .before .before .before .before .before .before .before in let i = b .before .before .before in
     let first = rw (i .item2 .ensures) at (b .before .inside .ensures) in
     let second = rw (i .item2 .ensures) at (q .before .inside2 .ensures) in
     joined (enter (turn t (i .before .before))) first (b .check-body .ensures .passed (q .before .before .before .before .before .if4 .left)) second (q .check-body2 .ensures .passed (c .if5 .left))
 
-check-body-loop-less-2 : (t : ℕ) → check-body-lts.Need-loop-less-2 (body-cs t) (check-body-at t) check-body.Post check-body-Inv-loop check-body-μ-loop
-check-body-loop-less-2 t c = let u = turn t (c .before .before .before .before .before .before .before .before .before .before .before .before .before .before .before .before) in let h = further u (cleared t (c .before .before)) in omega arith
-
-check-body-loop-again-2 : (t : ℕ) → check-body-lts.Need-loop-again-2 (body-cs t) (check-body-at t) check-body.Post check-body-Inv-loop check-body-μ-loop
-check-body-loop-again-2 t c = let u = turn t (c .before .before .before .before .before .before .before .before .before .before .before .before .before .before .before .before) in leave u (cleared t (c .before .before))
-
-check-body-returns-4 : (t : ℕ) → check-body-lts.Need-returns-4 (body-cs t) (check-body-at t) check-body.Post check-body-Inv-loop check-body-μ-loop
-check-body-returns-4 t c = record { passed = λ e. ended (c .before .before .before .loop .inv) (omega arith); refused = λ x. absurd (x refl) }
-
 pub +check-body-spec : {M : Type 1} → statement M
-+check-body-spec = close μ-check-body λ t. check-body-lts.spec (body-cs t)
++check-body-spec =
+    close
+    μ-check-body
+    (λ t.
+    check-body-lts.spec
+    (body-cs t)
     (check-body-at t)
     check-body.Post
     check-body-Inv-loop
     check-body-μ-loop
-    (check-body-loop-holds t)
+    (λ c. record { now = c .before .pre .1; quiet = λ i h. refl })
     (λ c κs. search needs)
-    (check-body-judge-requires t)
-    (check-body-returns t)
-    (check-body-noted-requires t)
-    (check-body-add-if3 t)
-    (check-body-loop-less t)
-    (check-body-loop-again t)
+    (λ c κs. (omega arith, c .before .before .before .before .loop .inv .now .known))
+    (λ c.
+    let j = c .before in
+    record { passed = λ e. absurd (c .if2 .taken e); refused = λ x. broke (j .before .before .before .before .before .loop .inv .now) (omega arith) (j .judge .ensures) })
+    (λ c κs. let j = c .before .before .before in (j .judge .ensures .range, j .before .before .before .before .before .loop .inv .now .known .size))
+    (λ c. let h = c .before .before .before .before .before .judge .ensures .range in omega arith)
+    (λ c. let u = turn t (c .before) in let h = further u (entered-none (enter u) (c .if3 .taken)) in omega arith)
+    (λ c. let u = turn t (c .before) in leave u (entered-none (enter u) (c .if3 .taken)))
     (λ c κs. search needs)
-    (check-body-add-middle t)
-    (check-body-inside-requires t)
-    (check-body-sub-check-body t)
-    (check-body-check-body-requires t)
-    (check-body-returns-2 t)
-    (check-body-add-inside t)
-    (check-body-inside-requires-2 t)
-    (check-body-sub-check-body-2 t)
-    (check-body-check-body-requires-2 t)
-    (check-body-returns-3 t)
-    (check-body-loop-less-2 t)
-    (check-body-loop-again-2 t)
-    (check-body-returns-4 t)
+    (λ c. let h = enter (turn t (c .before .before .before)) .there .few in omega arith)
+    (λ c κs. let h = turn t (c .before .before .before) .going .now .levels-left in omega arith)
+    (λ c. let s = c .before .before .before in let h = enter (turn t (s .before)) .deeper (s .if3 .left) .0 in omega arith)
+    (λ c κs.
+    let s = c .before .before .before in let e = enter (turn t (s .before)) in let h = e .deeper (s .if3 .left) .0 in
+    let start = s .before .before .before .before .before .before .before .before .before .before .before .before .before in
+    (omega (arith, start .pre .0), first-before e (s .if3 .left) (rw (c .before .before .item2 .ensures) at (c .inside .ensures))))
+    (λ c. record { passed = λ e. absurd (c .if4 .taken e); refused = c .before .before .check-body .ensures .refused })
+    (λ c.
+    let there = c .before .before .before .before .before .before .before .before .before .before in
+    let h = enter (turn t there) .there .few in omega arith)
+    (λ c κs.
+    let there = c .before .before .before .before .before .before .before .before .before .before in
+    let h = turn t there .going .now .levels-left in omega arith)
+    (λ c.
+    let s = c .before .before .before .before .before .before .before .before .before .before in
+    let h = enter (turn t (s .before)) .deeper (s .if3 .left) .0 in omega arith)
+    (λ c κs.
+    let b = c .before .before .before .before .before .before in let i = b .before .before .before in let s = i .before in
+    let e = enter (turn t (s .before)) in let h = e .deeper (s .if3 .left) .0 in
+    let first = rw (i .item2 .ensures) at (b .before .inside .ensures) in
+    let second = rw (i .item2 .ensures) at (c .inside2 .ensures) in
+    let start = s .before .before .before .before .before .before .before .before .before .before .before .before .before in
+    (omega (arith, start .pre .0), second-before e first (b .check-body .ensures .passed (c .before .before .before .before .if4 .left)) (s .if3 .left) second))
+    (λ c. record { passed = λ e. absurd (c .if5 .taken e); refused = c .before .before .check-body2 .ensures .refused })
+    (λ c.
+    let there = c .before .before .before .before .before .before .before .before .before .before .before .before .before .before .before .before in
+    let u = turn t there in let h = further u (cleared t (c .before .before)) in omega arith)
+    (λ c.
+    let there = c .before .before .before .before .before .before .before .before .before .before .before .before .before .before .before .before in
+    let u = turn t there in leave u (cleared t (c .before .before)))
+    (λ c. record { passed = λ e. ended (c .before .before .before .loop .inv) (omega arith); refused = λ x. absurd (x refl) }))

@@ -4,9 +4,6 @@ use Rattle.meaning.specs.Description.{breaks1}
 use Rattle.sound.proofs.breaks1.Statement.{statement}
 use Rattle.sound.proofs.breaks1.Tie as tie
 
-returns : tie.Need-returns
-unfolding breaks1
-returns c = cc
-
 pub breaks1-spec : {M : Type 1} → statement M
-breaks1-spec = tie.close (tie.spec (λ c κs. search needs) (λ c κs. search needs) returns)
+unfolding breaks1
+breaks1-spec = tie.close (tie.spec (λ c κs. search needs) (λ c κs. search needs) (λ c. cc))

@@ -3,9 +3,6 @@ use Rattle.meaning.specs.Description.{breaks2}
 use Rattle.sound.proofs.breaks2.Statement.{statement}
 use Rattle.sound.proofs.breaks2.Tie as tie
 
-returns : tie.Need-returns
-unfolding breaks2
-returns c = cc
-
 pub breaks2-spec : {M : Type 1} → statement M
-breaks2-spec = tie.close (tie.spec returns)
+unfolding breaks2
+breaks2-spec = tie.close (tie.spec (λ c. cc))

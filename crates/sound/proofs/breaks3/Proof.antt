@@ -9,14 +9,4 @@ unfolding breaks3
 returns c = cc
 
 pub breaks3-spec : {M : Type 1} → statement M
-breaks3-spec =
-    tie.close
-    (tie.spec
-    (λ c κs. search needs)
-    (λ c κs. search needs)
-    (λ c κs. search needs)
-    (λ c κs. search needs)
-    (λ c κs. search needs)
-    (λ c κs. search needs)
-    (λ c κs. search needs)
-    returns)
+breaks3-spec = tie.close (search (tie.spec, returns, needs))

@@ -4,9 +4,6 @@ use Rattle.meaning.specs.Description.{breaks4}
 use Rattle.sound.proofs.breaks4.Statement.{statement}
 use Rattle.sound.proofs.breaks4.Tie as tie
 
-returns : tie.Need-returns
-unfolding breaks4
-returns c = cc
-
 pub breaks4-spec : {M : Type 1} → statement M
-breaks4-spec = tie.close (tie.spec (λ c. search needs) (λ c. search needs) (λ c. search needs) returns)
+unfolding breaks4
+breaks4-spec = tie.close (tie.spec (λ c. search needs) (λ c. search needs) (λ c. search needs) (λ c. cc))

@@ -4,9 +4,6 @@ use Rattle.meaning.specs.Description.{breaks5}
 use Rattle.sound.proofs.breaks5.Statement.{statement}
 use Rattle.sound.proofs.breaks5.Tie as tie
 
-returns : tie.Need-returns
-unfolding breaks5
-returns c = cc
-
 pub breaks5-spec : {M : Type 1} → statement M
-breaks5-spec = tie.close (tie.spec (λ c κs. search needs) (λ c κs. search needs) returns)
+unfolding breaks5
+breaks5-spec = tie.close (tie.spec (λ c κs. search needs) (λ c κs. search needs) (λ c. cc))

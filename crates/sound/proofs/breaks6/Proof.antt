@@ -8,11 +8,8 @@ use Rattle.sound.proofs.Laws.{known-test}
 use Rattle.sound.proofs.breaks6.Statement.{statement}
 use Rattle.sound.proofs.breaks6.Tie as tie
 
-returns : tie.Need-returns
-unfolding breaks6
-returns c = c .either .ensures ∙ rw (c .before .table-twice .ensures, c .before .before .both .ensures, c .before .before .before .before .is-dimension .ensures, c .before .before .before .octets-of-slot .ensures .0, known-test _ _ _ (c .before .before .before .before .before .before .args .f .sets) (c .before .before .before .before .before .before .pre .2) (c .before .before .before .before .before .before .pre .1 .sets) (λ (x : ℕ). ltb 0 x))
-
 pub breaks6-spec : {M : Type 1} → statement M
+unfolding breaks6
 breaks6-spec =
     tie.close
     (tie.spec
@@ -21,4 +18,6 @@ breaks6-spec =
     (λ c κs. search needs)
     (λ c κs. search needs)
     (λ c κs. search needs)
-    returns)
+    (λ c.
+    let start = c .before .before .before .before .before .before in
+    c .either .ensures ∙ rw (c .before .table-twice .ensures, c .before .before .both .ensures, c .before .before .before .before .is-dimension .ensures, c .before .before .before .octets-of-slot .ensures .0, known-test _ _ _ (start .args .f .sets) (start .pre .2) (start .pre .1 .sets) (λ (x : ℕ). ltb 0 x))))

@@ -6,29 +6,19 @@ use Rattle.sound.proofs.Laws.{whole}
 use Rattle.sound.proofs.check.Statement.{statement}
 use Rattle.sound.proofs.check.Tie as tie
 
-returns : tie.Need-returns
-returns c = sym (sound-length _ (sym (c .before .breaks1 .ensures) ∙ c .if1 .taken))
-
-check-body-requires : tie.Need-check-body-requires
-check-body-requires c κs = rw (c .first .ensures) (whole _ (sym (c .before .before .breaks1 .ensures) ∙ c .before .if1 .left))
-
-returns-2 : tie.Need-returns-2
-returns-2 c = let p = c .before .before .before in
-    sym (sound-passed _ (sym (p .before .breaks1 .ensures) ∙ p .if1 .left) (c .before .check-body .ensures .passed (c .if2 .taken) .fine))
-
-returns-3 : tie.Need-returns-3
-returns-3 c = let p = c .before .before .before .before .before in let k = c .before .before in let b = k .before .check-body .ensures .refused (k .if2 .left) in
-    rw (c .item .ensures) (sym (sound-refused _ _ _ (sym (p .before .breaks1 .ensures) ∙ p .if1 .left) (b .fine) (b .breaks) (b .there) (k .if2 .left)))
-
 pub check-spec : {M : Type 1} → statement M
 check-spec =
     tie.close
     (tie.spec
     (λ c κs. search needs)
-    returns
+    (λ c. sym (sound-length _ (sym (c .before .breaks1 .ensures) ∙ c .if1 .taken)))
     (λ c κs. search needs)
-    check-body-requires
-    returns-2
+    (λ c κs. rw (c .first .ensures) (whole _ (sym (c .before .before .breaks1 .ensures) ∙ c .before .if1 .left)))
+    (λ c.
+    let p = c .before .before .before in
+    sym (sound-passed _ (sym (p .before .breaks1 .ensures) ∙ p .if1 .left) (c .before .check-body .ensures .passed (c .if2 .taken) .fine)))
     (λ c. search needs)
     (λ c κs. search needs)
-    returns-3)
+    (λ c.
+    let p = c .before .before .before .before .before in let k = c .before .before in let b = k .before .check-body .ensures .refused (k .if2 .left) in
+    rw (c .item .ensures) (sym (sound-refused _ _ _ (sym (p .before .breaks1 .ensures) ∙ p .if1 .left) (b .fine) (b .breaks) (b .there) (k .if2 .left)))))

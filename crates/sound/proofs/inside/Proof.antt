@@ -4,18 +4,7 @@ use Rattle.meaning.specs.Description.{inside}
 use Rattle.sound.proofs.inside.Statement.{statement}
 use Rattle.sound.proofs.inside.Tie as tie
 
-returns : tie.Need-returns
-unfolding inside
-returns c = cc
-
 pub inside-spec : {M : Type 1} → statement M
+unfolding inside
 inside-spec =
-    tie.close
-    (tie.spec
-    (λ c κs. search needs)
-    (λ c κs. search needs)
-    (λ c. search needs)
-    (λ c κs. search needs)
-    (λ c κs. search needs)
-    (λ c. search needs)
-    returns)
+    tie.close (tie.spec (λ c κs. search needs) (λ c κs. search needs) (λ c. search needs) (λ c κs. search needs) (λ c κs. search needs) (λ c. search needs) (λ c. cc))

@@ -4,9 +4,6 @@ use Rattle.meaning.specs.Description.{isDataOrder}
 use Rattle.sound.proofs.is_data_order.Statement.{statement}
 use Rattle.sound.proofs.is_data_order.Tie as tie
 
-returns : tie.Need-returns
-unfolding isDataOrder
-returns c = cc
-
 pub is-data-order-spec : {M : Type 1} → statement M
-is-data-order-spec = tie.close (tie.spec (λ c κs. search needs) (λ c κs. search needs) returns)
+unfolding isDataOrder
+is-data-order-spec = tie.close (tie.spec (λ c κs. search needs) (λ c κs. search needs) (λ c. cc))

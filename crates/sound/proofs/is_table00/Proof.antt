@@ -4,9 +4,6 @@ use Rattle.meaning.specs.Description.{isTable00}
 use Rattle.sound.proofs.is_table00.Statement.{statement}
 use Rattle.sound.proofs.is_table00.Tie as tie
 
-returns : tie.Need-returns
-unfolding isTable00
-returns c = cc
-
 pub is-table00-spec : {M : Type 1} → statement M
-is-table00-spec = tie.close (tie.spec (λ c κs. search needs) (λ c κs. search needs) returns)
+unfolding isTable00
+is-table00-spec = tie.close (tie.spec (λ c κs. search needs) (λ c κs. search needs) (λ c. cc))

@@ -5,11 +5,8 @@ use Rattle.meaning.specs.Description.{lowestBroken}
 use Rattle.sound.proofs.lowest_broken.Statement.{statement}
 use Rattle.sound.proofs.lowest_broken.Tie as tie
 
-returns : tie.Need-returns
-unfolding lowestBroken
-returns c = c .lowest .ensures ∙ rw (c .before .before .before .before .before .before .breaks2 .ensures, c .before .before .before .before .before .breaks3 .ensures, c .before .before .before .before .breaks4 .ensures, c .before .before .before .breaks5 .ensures, c .before .before .breaks6 .ensures, c .before .breaks7 .ensures)
-
 pub lowest-broken-spec : {M : Type 1} → statement M
+unfolding lowestBroken
 lowest-broken-spec =
     tie.close
     (tie.spec
@@ -20,4 +17,6 @@ lowest-broken-spec =
     (λ c κs. search needs)
     (λ c κs. search needs)
     (λ c κs. search needs)
-    returns)
+    (λ c.
+    let breaks2 = c .before .before .before .before .before .before .breaks2 in
+    c .lowest .ensures ∙ rw (breaks2 .ensures, c .before .before .before .before .before .breaks3 .ensures, c .before .before .before .before .breaks4 .ensures, c .before .before .before .breaks5 .ensures, c .before .before .breaks6 .ensures, c .before .breaks7 .ensures)))

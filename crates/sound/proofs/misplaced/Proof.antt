@@ -9,15 +9,4 @@ unfolding misplaced
 returns c = cc
 
 pub misplaced-spec : {M : Type 1} → statement M
-misplaced-spec =
-    tie.close
-    (tie.spec
-    (λ c κs. search needs)
-    (λ c κs. search needs)
-    (λ c κs. search needs)
-    (λ c κs. search needs)
-    (λ c κs. search needs)
-    (λ c κs. search needs)
-    (λ c κs. search needs)
-    (λ c κs. search needs)
-    returns)
+misplaced-spec = tie.close (search (tie.spec, returns, needs))

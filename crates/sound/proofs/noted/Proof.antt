@@ -6,16 +6,12 @@ use Rattle.sound.specs.Walk.{noted}
 use Rattle.sound.proofs.noted.Statement.{statement}
 use Rattle.sound.proofs.noted.Tie as tie
 
-returns : tie.Need-returns
-unfolding noted
-returns c = rw (eq-eqb _ _ (c .if1 .taken))
-
-cast-later : tie.Need-cast-later
-cast-later c = let h = c .before .before .before .pre .0 .few-octets (omega arith) in omega arith
-
-returns-2 : tie.Need-returns-2
-unfolding noted
-returns-2 c = rw (ne-eqb _ _ (c .before .if1 .left))
-
 pub noted-spec : {M : Type 1} → statement M
-noted-spec = tie.close (tie.spec returns cast-later (λ c. search needs) returns-2)
+unfolding noted
+noted-spec =
+    tie.close
+    (tie.spec
+    (λ c. rw (eq-eqb _ _ (c .if1 .taken)))
+    (λ c. let h = c .before .before .before .pre .0 .few-octets (omega arith) in omega arith)
+    (λ c. search needs)
+    (λ c. rw (ne-eqb _ _ (c .before .if1 .left))))

@@ -31,17 +31,4 @@ returns : tie.Need-returns Inv-loop μ-loop
 returns c = let l = c .before .before in let e : (l .loop .place .at) ≡ (l .before .before .before .args .end) = omega arith in cc
 
 pub table-given-spec : {M : Type 1} → statement M
-table-given-spec =
-    tie.close
-    (tie.spec
-    Inv-loop
-    μ-loop
-    (λ c κs. search needs)
-    loop-holds
-    (λ c κs. search needs)
-    (λ c κs. search needs)
-    (λ c κs. search needs)
-    (λ c κs. search needs)
-    loop-less
-    loop-again
-    returns)
+table-given-spec {M} = tie.close (search (tie.spec {M = M} Inv-loop μ-loop, loop-holds, loop-less, loop-again, returns, needs))

@@ -5,15 +5,14 @@ use Rattle.items.specs.Read.{readAt}
 use Rattle.items.proofs.Cursor.read.Statement.{statement}
 use Rattle.items.proofs.Cursor.read.Tie as tie
 
-returns : tie.Need-returns
-unfolding readAt
-returns c = rw (lt-ltb _ _ (c .before .before .if1 .taken)) (cc)
-
-returns-2 : tie.Need-returns-2
-unfolding readAt
-returns-2 c = rw (le-ltb _ _ (c .before .if1 .left)) (cc)
-
 pub read-spec : {M : Type 1} → statement M
+unfolding readAt
 read-spec =
     tie.close
-    (tie.spec (λ c κs. search needs) (λ c κs. search needs) (λ c. search needs) returns (λ c κs. search needs) returns-2)
+    (tie.spec
+    (λ c κs. search needs)
+    (λ c κs. search needs)
+    (λ c. search needs)
+    (λ c. rw (lt-ltb _ _ (c .before .before .if1 .taken)) (cc))
+    (λ c κs. search needs)
+    (λ c. rw (le-ltb _ _ (c .before .if1 .left)) (cc)))

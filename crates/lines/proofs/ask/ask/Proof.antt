@@ -8,12 +8,6 @@ use Rattle.lines.proofs.ask.ask.Statement.{statement}
 use Rattle.lines.proofs.ask.ask.Tie as tie
 
 -- a row that is none of the twelve
-returns-13 : tie.Need-returns-13
-unfolding rows
-returns-13 c =
-    let start = c .before .before .before .before .before .before .before .before .before .before .before .before .before .before .before .before in
-    beyond (start .pre .0) (search (past 0, past 1, past 2, past 3, past 4, past 5, past 6, past 7, past 8, past 9, past 10, past 11, zero≤) depth 15)
-
 pub ask-spec : {M : Type 1} → statement M
 unfolding rows rowAt formOf limits asked toldTo replyTo octetsTo imageAfter outcomeOf
 ask-spec =
@@ -52,23 +46,27 @@ ask-spec =
     (λ c κs. search needs)
     (λ c. search needs)
     (λ c.
+    let table2 = c .before .before .before .before .before .before .table2 in
+    let if8 = c .before .before .before .before .before .before .before .if8 in
     let written = c .before .before .before .write-range .ensures in
-    asks 7 (c .before .before .before .before .before .before .before .if8 .taken) (rw (c .verdict-told2 .ensures, written .0, c .before .before .before .before .before .new .ensures, c .before .before .before .before .before .before .table2 .ensures)) (rw (written .1, c .before .before .before .before .before .new .ensures, c .before .before .before .before .before .before .table2 .ensures)) refl)
+    asks 7 (if8 .taken) (rw (c .verdict-told2 .ensures, written .0, c .before .before .before .before .before .new .ensures, table2 .ensures)) (rw (written .1, c .before .before .before .before .before .new .ensures, table2 .ensures)) refl)
     (λ c κs. search needs)
     (λ c κs. search needs)
     (λ c κs. search needs)
     (λ c. search needs)
     (λ c.
+    let if9 = c .before .before .before .before .before .before .if9 in
     let written = c .before .before .before .write-octets .ensures in
-    asks 8 (c .before .before .before .before .before .before .if9 .taken) (rw (c .verdict-told3 .ensures, written .0, c .before .before .before .before .element3 .ensures)) (rw (written .1, c .before .before .before .before .element3 .ensures)) refl)
+    asks 8 (if9 .taken) (rw (c .verdict-told3 .ensures, written .0, c .before .before .before .before .element3 .ensures)) (rw (written .1, c .before .before .before .before .element3 .ensures)) refl)
     (λ c. search needs)
     (λ c κs. search needs)
     (λ c κs. search needs)
     (λ c κs. search needs)
     (λ c. search needs)
     (λ c.
+    let if10 = c .before .before .before .before .before .before .if10 in
     let written = c .before .before .before .write-number .ensures in
-    asks 9 (c .before .before .before .before .before .before .if10 .taken) (rw (c .verdict-told4 .ensures, written .0, c .before .before .before .before .element4 .ensures)) (rw (written .1, c .before .before .before .before .element4 .ensures)) refl)
+    asks 9 (if10 .taken) (rw (c .verdict-told4 .ensures, written .0, c .before .before .before .before .element4 .ensures)) (rw (written .1, c .before .before .before .before .element4 .ensures)) refl)
     (λ c. search needs)
     (λ c κs. search needs)
     (λ c κs. search (fits-all 10 tierLimits refl))
@@ -81,4 +79,6 @@ ask-spec =
     (λ c. search needs)
     (λ c. asks 11 (c .before .before .before .if12 .taken) (rw (c .verdict-told5 .ensures, c .before .matrix-verdict .ensures)) refl refl)
     (λ c κs. search needs)
-    returns-13)
+    (λ c.
+    let start = c .before .before .before .before .before .before .before .before .before .before .before .before .before .before .before .before in
+    beyond (start .pre .0) (search (past 0, past 1, past 2, past 3, past 4, past 5, past 6, past 7, past 8, past 9, past 10, past 11, zero≤) depth 15)))

@@ -3,37 +3,42 @@ use mathlib.Core.Path.{_≡_, refl}
 use native.Mathlib.Omega.{arith}
 use lib.ListN.{length}
 use borrow.Author.Needs.{needs}
+use Rattle.meaning.specs.Refusals.{tablePartReply, elementPartReply}
 use Rattle.meaning.specs.Questions.{toldTo, replyTo, octetsTo, imageAfter, outcomeOf}
 use Rattle.lines.specs.Answer.{rows, rowAt, formOf, limits, asked}
-use Rattle.lines.proofs.AskLaws.{parted, not-parted, table-short, element-short, fits-at}
+use Rattle.lines.proofs.AskLaws.{parted, not-parted, place-short, fits-at}
 use Rattle.lines.proofs.ask.put_part.Statement.{statement}
 use Rattle.lines.proofs.ask.put_part.Tie as tie
 
 pub put-part-spec : {M : Type 1} → statement M
-unfolding rows rowAt formOf limits asked toldTo replyTo octetsTo imageAfter outcomeOf
+unfolding rows rowAt formOf limits asked toldTo replyTo octetsTo imageAfter outcomeOf tablePartReply elementPartReply
 put-part-spec =
     tie.close
     (tie.spec
     (λ c κs. (search (fits-at 3 0 1 refl), search (fits-at 3 1 65535 refl)))
     (λ c κs. search needs)
-    (λ c κs. let short = table-short _ _ _ _ _ (c .table-part .ensures) in omega arith)
+    (λ c κs. let short = place-short _ _ _ (c .table-part .ensures) in omega arith)
     (λ c. search needs)
     (λ c.
-    let short = table-short _ _ _ _ _ (c .before .before .before .table-part .ensures) in
-    parted 3 _ (c .before .before .before .before .before .before .if1 .taken) refl (rw (c .before .before .before .table-part .ensures, c .before .before .before .before .before .table .ensures)) (omega arith) (c .before .before .put-octets .ensures))
+    let if1 = c .before .before .before .before .before .before .if1 in
+    let short = place-short _ _ _ (c .before .before .before .table-part .ensures) in
+    parted 3 _ (if1 .taken) refl (rw (c .before .before .before .table-part .ensures, c .before .before .before .before .before .table .ensures)) (omega arith) (c .before .before .put-octets .ensures))
     (λ c κs. search needs)
     (λ c κs. search needs)
-    (λ c κs. let short = element-short _ _ _ _ (c .element-part .ensures) in omega arith)
+    (λ c κs. let short = place-short _ _ _ (c .element-part .ensures) in omega arith)
     (λ c. search needs)
     (λ c.
-    let short = element-short _ _ _ _ (c .before .before .before .element-part .ensures) in
-    parted 5 _ (c .before .before .before .before .before .before .if2 .taken) refl (rw (c .before .before .before .element-part .ensures, c .before .before .before .before .element .ensures)) (omega arith) (c .before .before .put-octets2 .ensures))
+    let if2 = c .before .before .before .before .before .before .if2 in
+    let short = place-short _ _ _ (c .before .before .before .element-part .ensures) in
+    parted 5 _ (if2 .taken) refl (rw (c .before .before .before .element-part .ensures, c .before .before .before .before .element .ensures)) (omega arith) (c .before .before .put-octets2 .ensures))
     (λ c κs. search needs)
     (λ c κs. search needs)
     (λ c. search needs)
     (λ c κs. search needs)
     (λ c. search needs)
     (λ c.
+    let matrix = c .before .before .before .before .before .before .matrix in
+    let if3 = c .before .before .before .before .before .before .before .if3 in
     let long : length (c .before .before .before .before .before .cells .result) ≡ 330 = search needs in
-    parted 11 _ (c .before .before .before .before .before .before .before .if3 .taken) refl (rw (c .before .before .before .before .before .cells .ensures, c .before .before .before .before .before .before .matrix .ensures)) (omega arith) (c .before .before .put-octets3 .ensures))
+    parted 11 _ (if3 .taken) refl (rw (c .before .before .before .before .before .cells .ensures, matrix .ensures)) (omega arith) (c .before .before .put-octets3 .ensures))
     (λ c. not-parted (search needs) (c .before .before .if1 .left) (c .before .if2 .left) (c .if3 .left) (omega arith)))

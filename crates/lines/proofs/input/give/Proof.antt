@@ -8,23 +8,17 @@ use Rattle.words.proofs.PutLaws.{put-within}
 use Rattle.lines.proofs.input.give.Statement.{statement}
 use Rattle.lines.proofs.input.give.Tie as tie
 
-slice-reshare-prefix-write-all : tie.Need-slice-reshare-prefix-write-all
-slice-reshare-prefix-write-all c =
-    let a = c .before .before .before .before .before .before .before .before .answer in
-    omega (arith, put-within (a .ensures .put) zero-le, a .kept .1 .0)
-
-slice-aggregate-write-all : tie.Need-slice-aggregate-write-all
-slice-aggregate-write-all c =
-    let a = c .before .before .before .before .before .before .before .before .before .answer in
-    sym (length-take-le _ _ (omega (arith, put-within (a .ensures .put) zero-le, a .kept .1 .0)))
-
 pub give-spec : {M : Type 1} → statement M
 give-spec =
     tie.close
     (tie.spec
     (λ c κs. search needs)
-    slice-reshare-prefix-write-all
-    slice-aggregate-write-all
+    (λ c.
+    let a = c .before .before .before .before .before .before .before .before .answer in
+    omega (arith, put-within (a .ensures .put) zero-le, a .kept .1 .0))
+    (λ c.
+    let a = c .before .before .before .before .before .before .before .before .before .answer in
+    sym (length-take-le _ _ (omega (arith, put-within (a .ensures .put) zero-le, a .kept .1 .0))))
     (λ c κs. search needs)
     (λ c. search needs)
     (λ c. search needs)

@@ -5,11 +5,6 @@ use lib.Seq.{length-take-le}
 use Rattle.lines.proofs.input.read_some.Statement.{statement}
 use Rattle.lines.proofs.input.read_some.Tie as tie
 
-slice-aggregate-give : tie.Need-slice-aggregate-give
-slice-aggregate-give c =
-    let pre = c .before .before .before .before .before .before .before .before .before .before .before .before .before .before .before .pre in
-    sym (length-take-le _ _ (pre .0))
-
 pub read-some-spec : {M : Type 1} → statement M
 read-some-spec =
     tie.close
@@ -17,7 +12,9 @@ read-some-spec =
     (λ c κs. search needs)
     (λ c κs. search needs)
     (λ c. search needs)
-    slice-aggregate-give
+    (λ c.
+    let pre = c .before .before .before .before .before .before .before .before .before .before .before .before .before .before .before .pre in
+    sym (length-take-le _ _ (pre .0)))
     (λ c κs. search needs)
     (λ c. search needs)
     (λ c. search needs)

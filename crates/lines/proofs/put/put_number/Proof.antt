@@ -11,4 +11,6 @@ put-number-spec =
     (λ c κs. search needs)
     (λ c κs. search needs)
     (λ c. search needs)
-    (λ c. number-put _ (search needs) (c .before .before .before .before .before .before .put-space .ensures) (c .before .before .put-number .ensures)))
+    (λ c.
+    let put-space = c .before .before .before .before .before .before .put-space in
+    number-put _ (search needs) (put-space .ensures) (c .before .before .put-number .ensures)))

@@ -13,24 +13,19 @@ Inv-loop out₀ count numbers at₀ i₀ out at i = Counted out₀ numbers count
 abbrev μ-loop : tie.MeasureT-loop
 μ-loop out₀ count numbers at₀ i₀ out at i = count - i
 
-loop-holds : tie.Need-loop-holds Inv-loop μ-loop
-loop-holds c = counted-none _ _ _ (search needs) (search needs) (search needs)
-
-loop-again : tie.Need-loop-again Inv-loop μ-loop
-loop-again c = counted-more (c .before .before .before .before .before .loop .inv) (c .before .before .before .before .loop-test .taken) (c .before .before .put-number .ensures)
-
 pub put-numbers-spec : {M : Type 1} → statement M
 put-numbers-spec =
     tie.close
     (tie.spec
     Inv-loop
     μ-loop
-    loop-holds
+    (λ c. counted-none _ _ _ (search needs) (search needs) (search needs))
     (λ c. omega arith)
     (λ c. omega arith)
     (λ c κs. counted-room (c .before .before .loop .inv) (c .before .loop-test .taken))
     (λ c. omega arith)
     (λ c. omega arith)
-    loop-again
+    (λ c.
+    counted-more (c .before .before .before .before .before .loop .inv) (c .before .before .before .before .loop-test .taken) (c .before .before .put-number .ensures))
     (λ c. put-long (c .before .loop .inv .is))
     (λ c. counted-all (c .before .loop .inv) (c .loop-test .left)))

@@ -11,4 +11,6 @@ put-octets-spec =
     (λ c κs. search needs)
     (λ c κs. search needs)
     (λ c. search needs)
-    (λ c. octets-put _ (search needs) (c .before .before .before .before .before .before .put-space .ensures) (c .before .before .put-octets .ensures)))
+    (λ c.
+    let put-space = c .before .before .before .before .before .before .put-space in
+    octets-put _ (search needs) (put-space .ensures) (c .before .before .put-octets .ensures)))

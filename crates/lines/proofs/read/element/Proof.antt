@@ -4,18 +4,7 @@ use Rattle.lines.specs.Answer.{elementOf}
 use Rattle.lines.proofs.read.element.Statement.{statement}
 use Rattle.lines.proofs.read.element.Tie as tie
 
-returns : tie.Need-returns
-unfolding elementOf
-returns c = search needs
-
 pub element-spec : {M : Type 1} → statement M
+unfolding elementOf
 element-spec =
-    tie.close
-    (tie.spec
-    (λ c. search needs)
-    (λ c. search needs)
-    (λ c. search needs)
-    (λ c. search needs)
-    (λ c. search needs)
-    (λ c. search needs)
-    returns)
+    tie.close (tie.spec (λ c. search needs) (λ c. search needs) (λ c. search needs) (λ c. search needs) (λ c. search needs) (λ c. search needs) (λ c. search needs))

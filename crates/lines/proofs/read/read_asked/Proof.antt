@@ -6,14 +6,6 @@ use Rattle.lines.proofs.ReadLaws.{asked-read}
 use Rattle.lines.proofs.read.read_asked.Statement.{statement}
 use Rattle.lines.proofs.read.read_asked.Tie as tie
 
-add-read-octets : tie.Need-add-read-octets
-add-read-octets c = omega (arith, c .before .before .before .before .before .before .before .before .before .before .before .before .before .before .pre .1 .1 .1 .1 .1 .few)
-
-read-octets-requires-3 : tie.Need-read-octets-requires-3
-read-octets-requires-3 c κs =
-    let pre = c .before .before .before .before .before .before .before .before .before .before .before .before .before .before .before .pre in
-    (pre .0, (pre .1 .0, pre .1 .1 .1 .1 .0))
-
 returns : tie.Need-returns
 returns c =
     let d = c .before .before .before .before .before .before .before .before .before .before .before .before .before .before .before .before .before .before .before .read-octets in
@@ -31,8 +23,12 @@ read-asked-spec =
     (λ c κs. search needs)
     (λ c κs. search needs)
     (λ c κs. search needs)
-    add-read-octets
-    read-octets-requires-3
+    (λ c.
+    let start = c .before .before .before .before .before .before .before .before .before .before .before .before .before .before in
+    omega (arith, start .pre .1 .1 .1 .1 .1 .few))
+    (λ c κs.
+    let pre = c .before .before .before .before .before .before .before .before .before .before .before .before .before .before .before .pre in
+    (pre .0, (pre .1 .0, pre .1 .1 .1 .1 .0)))
     (λ c κs. search needs)
     (λ c κs. search needs)
     (λ c κs. search needs)

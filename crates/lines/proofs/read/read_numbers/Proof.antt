@@ -15,9 +15,6 @@ Inv-loop line split count most values₀ i₀ values i = SoFar (lineWords line) 
 abbrev μ-loop : tie.MeasureT-loop
 μ-loop line split count most values₀ i₀ values i = count - i
 
-loop-holds : tie.Need-loop-holds Inv-loop μ-loop
-loop-holds c = so-far-none _ _
-
 loop-again : tie.Need-loop-again Inv-loop μ-loop
 loop-again c =
     let pre = c .before .before .before .before .before .before .before .before .pre in
@@ -26,21 +23,13 @@ loop-again c =
     let w = word-at _ _ (pre .0) _ _ (c .before .before .before .before .word .ensures) in
     so-far-more (pre .1) s (omega arith) w (number .ensures) _ (c .before .read .given .1)
 
-returns : tie.Need-returns Inv-loop μ-loop
-returns c =
-    let w = word-at _ _ (c .before .before .before .before .before .before .before .pre .0) _ _ (c .before .before .before .word .ensures) in
-    so-far-not (c .before .before .before .before .before .before .before .pre .1) (c .before .before .before .before .before .loop .inv) (omega arith) w (c .before .before .number .ensures) (c .enum-told .given .1)
-
-returns-2 : tie.Need-returns-2 Inv-loop μ-loop
-returns-2 c = so-far-all (c .before .loop .inv) (omega (arith, limits-long (c .before .before .before .pre .1)))
-
 pub read-numbers-spec : {M : Type 1} → statement M
 read-numbers-spec =
     tie.close
     (tie.spec
     Inv-loop
     μ-loop
-    loop-holds
+    (λ c. so-far-none _ _)
     (λ c. omega arith)
     (λ c κs. search needs)
     (λ c. omega arith)
@@ -53,5 +42,8 @@ read-numbers-spec =
     (λ c. omega arith)
     loop-again
     (λ c. search needs)
-    returns
-    returns-2)
+    (λ c.
+    let start = c .before .before .before .before .before .before .before in
+    let w = word-at _ _ (start .pre .0) _ _ (c .before .before .before .word .ensures) in
+    so-far-not (start .pre .1) (c .before .before .before .before .before .loop .inv) (omega arith) w (c .before .before .number .ensures) (c .enum-told .given .1))
+    (λ c. so-far-all (c .before .loop .inv) (omega (arith, limits-long (c .before .before .before .pre .1)))))

@@ -5,24 +5,6 @@ use Rattle.lines.proofs.AskLaws.{told-few, room-for-part, room-for-imag
 use Rattle.lines.proofs.reply.reply.Statement.{statement}
 use Rattle.lines.proofs.reply.reply.Tie as tie
 
-put-part-requires : tie.Need-put-part-requires
-put-part-requires c κs =
-    let start = c .before .before .before .before .before .before .before .before .before .before .before .before .before .before .before .before in
-    let pre = start .pre in
-    let ask = c .before .before .before .before .before .before .before .before .before .ask in
-    (pre .0, (pre .1 .1, room-for-part (c .before .before .before .before .before .before .before .before .before .before .before .form-of .ensures) (pre .0) (c .before .before .before .before .before .before .numbers .ensures) (ask .ensures) (search needs) (pre .1 .0) (c .before .before .before .before .put-numbers .ensures)))
-
-put-octets-if-requires : tie.Need-put-octets-if-requires
-put-octets-if-requires c κs =
-    let pre = c .before .before .before .before .before .before .before .before .before .before .before .before .before .before .before .before .before .before .before .before .before .pre in
-    room-for-image (c .before .before .before .before .before .before .before .before .before .before .before .before .before .before .before .before .form-of .ensures) (pre .0) (c .before .before .before .before .before .before .before .before .before .before .before .numbers .ensures) (c .before .before .before .before .before .before .before .before .before .before .before .before .before .before .ask .ensures) (search needs) (pre .1 .0) (c .before .before .before .before .before .before .before .before .before .put-numbers .ensures) (c .before .before .before .before .put-part .ensures)
-
-returns : tie.Need-returns
-returns c =
-    let pre = c .before .before .before .before .before .before .before .before .before .before .before .before .before .before .before .before .before .before .before .before .before .before .before .before .before .before .before .before .pre in
-    whole-put (c .before .before .before .before .before .before .before .before .before .before .before .before .before .before .before .before .before .before .before .before .before .before .before .form-of .ensures) (pre .0) (c .before .before .before .before .before .before .before .before .before .before .before .before .before .before .before .before .before .before .numbers .ensures) (c .before .before .before .before .before .before .before .before .before .before .before .before .before .before .before .before .before .before .before .before .before .ask .ensures) (search needs) (pre .1 .0) (c .before .before .before .before .before .before .before .before .before .before .before .before .before .before .before .before .put-numbers .ensures) (c .before .before .before .before .before .before .before .before .before .before .before .put-part .ensures)
-    (c .before .before .before .before .before .before .put-octets-if .ensures) (c .before .before .put-octet .ensures)
-
 pub reply-spec : {M : Type 1} → statement M
 reply-spec =
     tie.close
@@ -30,10 +12,33 @@ reply-spec =
     (λ c κs. search needs)
     (λ c κs. search needs)
     (λ c κs. search needs)
-    (λ c κs. (told-few (c .before .before .before .before .before .before .form-of .ensures) (search needs), omega arith))
-    put-part-requires
-    put-octets-if-requires
+    (λ c κs.
+    let form-of = c .before .before .before .before .before .before .form-of in
+    (told-few (form-of .ensures) (search needs), omega arith))
+    (λ c κs.
+    let numbers = c .before .before .before .before .before .before .numbers in
+    let form-of = c .before .before .before .before .before .before .before .before .before .before .before .form-of in
+    let start = c .before .before .before .before .before .before .before .before .before .before .before .before .before .before .before .before in
+    let pre = start .pre in
+    let ask = c .before .before .before .before .before .before .before .before .before .ask in
+    (pre .0, (pre .1 .1, room-for-part (form-of .ensures) (pre .0) (numbers .ensures) (ask .ensures) (search needs) (pre .1 .0) (c .before .before .before .before .put-numbers .ensures))))
+    (λ c κs.
+    let put-numbers = c .before .before .before .before .before .before .before .before .before .put-numbers in
+    let numbers = c .before .before .before .before .before .before .before .before .before .before .before .numbers in
+    let ask-then = c .before .before .before .before .before .before .before .before .before .before .before .before .before .before .ask in
+    let form-of = c .before .before .before .before .before .before .before .before .before .before .before .before .before .before .before .before .form-of in
+    let pre = c .before .before .before .before .before .before .before .before .before .before .before .before .before .before .before .before .before .before .before .before .before .pre in
+    room-for-image (form-of .ensures) (pre .0) (numbers .ensures) (ask-then .ensures) (search needs) (pre .1 .0) (put-numbers .ensures) (c .before .before .before .before .put-part .ensures))
     (λ c κs. search needs)
     (λ c. search needs)
     (λ c. search needs)
-    returns)
+    (λ c.
+    let put-octets-if = c .before .before .before .before .before .before .put-octets-if in
+    let put-part = c .before .before .before .before .before .before .before .before .before .before .before .put-part in
+    let put-numbers = c .before .before .before .before .before .before .before .before .before .before .before .before .before .before .before .before .put-numbers in
+    let numbers = c .before .before .before .before .before .before .before .before .before .before .before .before .before .before .before .before .before .before .numbers in
+    let ask-then = c .before .before .before .before .before .before .before .before .before .before .before .before .before .before .before .before .before .before .before .before .before .ask in
+    let form-of = c .before .before .before .before .before .before .before .before .before .before .before .before .before .before .before .before .before .before .before .before .before .before .before .form-of in
+    let pre = c .before .before .before .before .before .before .before .before .before .before .before .before .before .before .before .before .before .before .before .before .before .before .before .before .before .before .before .before .pre in
+    whole-put (form-of .ensures) (pre .0) (numbers .ensures) (ask-then .ensures) (search needs) (pre .1 .0) (put-numbers .ensures) (put-part .ensures)
+    (put-octets-if .ensures) (c .before .before .put-octet .ensures)))

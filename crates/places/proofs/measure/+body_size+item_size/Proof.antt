@@ -8,7 +8,7 @@ use borrow.Fn.PlainCycle.{Measures, is, falls, and}
 use Rattle.items.proofs.ReadLaws.{range-read}
 use Rattle.places.specs.Measuring.{Going}
 use Rattle.places.proofs.Measures.{started, ended, next-ready, less, counted, stepped-on}
-use Rattle.places.proofs.Opened.{Opened, opened, Entered, entered, leaf-done, level-left, body-ready, rest-ready, array-ready, array-done, choice-done}
+use Rattle.places.proofs.Opened.{Opened, opened, Entered, entered, leaf-done, level-left, body-ready, array-ready, array-done, choice-done}
 use Rattle.places.proofs.measure.body_size.Reads as body-size
 use Rattle.places.proofs.measure.body_size.Kinds as body-size-kinds
 use Rattle.places.proofs.measure.+body_size+item_size.Lts-body_size as body-size-lts
@@ -18,12 +18,12 @@ use Rattle.places.proofs.measure.+body_size+item_size.Lts-item_size as 
 use Rattle.items.proofs.Cursor.item.Reads as item-reads
 use Rattle.items.proofs.Cursor.past.Reads as past-reads
 use Rattle.items.proofs.Cursor.read.Reads as read-reads
+use Rattle.items.proofs.nests.Reads as nests-reads
 use Rattle.places.proofs.measure.array_span.Reads as array-span-reads
 use Rattle.places.proofs.measure.choice_span.Reads as choice-span-reads
 use Rattle.places.proofs.measure.inner_of.Reads as inner-of-reads
 use Rattle.places.proofs.measure.joined.Reads as joined-reads
 use Rattle.places.proofs.measure.leaf_span.Reads as leaf-span-reads
-use Rattle.places.proofs.measure.nests.Reads as nests-reads
 use Rattle.places.proofs.measure.value.Reads as value-reads
 use Rattle.places.proofs.rows.alone.Reads as alone-reads
 use Rattle.places.proofs.measure.+body_size+item_size.{statement}
@@ -113,7 +113,9 @@ pub +body-size+item-size-spec : {M : Type 1} → statement M
     (λ c κs. search needs)
     (λ c κs. (omega arith, next-ready _ _ _ _ _ _ _ _ (c .before .before .loop .inv) (omega arith)))
     (λ c κs. counted _ _ _ _ _ _ _ _ (c .before .before .before .before .loop .inv) (omega arith) _ (c .before .item-size .ensures))
-    (λ c. less _ _ _ _ _ _ _ _ (c .before .before .before .before .before .before .loop .inv) (omega arith) _ (c .before .before .before .item-size .ensures))
+    (λ c.
+    let loop = c .before .before .before .before .before .before .loop in
+    less _ _ _ _ _ _ _ _ (loop .inv) (omega arith) _ (c .before .before .before .item-size .ensures))
     (λ c.
     let b = c .before .before .before in
     rw (c .before .joined .ensures) (stepped-on _ _ _ _ _ _ _ _ (b .before .before .before .loop .inv) (omega arith) _ (b .item-size .ensures)))
@@ -136,7 +138,7 @@ pub +body-size+item-size-spec : {M : Type 1} → statement M
     (λ c.
     let b = c .before .before .before in
     array-done (item-entered t (b .before)) _ (b .body-size .ensures) (c .before .if2 .taken) (c .array-span .ensures))
-    (λ c κs. rest-ready (item-entered t (c .before .before .before)))
+    (λ c κs. search needs)
     (λ c.
     let b = c .before .before .before in
     choice-done (item-entered t (b .before)) _ (b .body-size .ensures) (c .before .if2 .left) (c .choice-span .ensures))

@@ -20,20 +20,6 @@ Inv-loop first depth counts strides subscripts octet₀ j₀ octet j =
 abbrev μ-loop : tie.MeasureT-loop
 μ-loop first depth counts strides subscripts octet₀ j₀ octet j = depth - j
 
-loop-holds : tie.Need-loop-holds Inv-loop μ-loop
-loop-holds c = (omega arith, omega (arith, c .cut .ensures), rw (c .cut .ensures))
-
-returns-2 : tie.Need-returns-2 Inv-loop μ-loop
-returns-2 c =
-    left-past _ _ _ _ _ _ (c .before .loop-test .taken) (omega arith) (c .if2 .taken) ∙ c .before .before .loop .inv .2
-    ∙ reached-all _ _ _ (c .before .before .before .before .if1 .left)
-
-cast-cut : tie.Need-cast-cut Inv-loop μ-loop
-cast-cut c =
-    let a = c .before .before .before .before .before .before .before .before .before .args in
-    let stride : Fits w32 (getD (a .arrays .strides) (c .before .before .loop .j) 0) = search needs in
-    omega arith
-
 -- a subscript below its count and a stride are 32 bits wide
 mul-cut-2 : tie.Need-mul-cut-2 Inv-loop μ-loop
 mul-cut-2 c =
@@ -54,9 +40,6 @@ loop-again c =
           (left-next _ _ _ _ _ _ (c .before .before .before .loop-test .taken) (omega arith) (c .before .before .if2 .left) ∙ rest),
     )
 
-returns-3 : tie.Need-returns-3 Inv-loop μ-loop
-returns-3 c = left-none _ _ _ _ _ _ (omega arith) ∙ c .before .loop .inv .2 ∙ reached-all _ _ _ (c .before .before .before .if1 .left)
-
 pub reached-spec : {M : Type 1} → statement M
 reached-spec =
     tie.close
@@ -65,16 +48,21 @@ reached-spec =
     μ-loop
     (λ c. reached-not _ _ _ (c .if1 .taken))
     (λ c κs. search needs)
-    loop-holds
+    (λ c. (omega arith, omega (arith, c .cut .ensures), rw (c .cut .ensures)))
     (λ c. omega arith)
     (λ c. omega arith)
     (λ c. omega arith)
     (λ c. omega arith)
     (λ c. search needs)
-    returns-2
+    (λ c.
+    left-past _ _ _ _ _ _ (c .before .loop-test .taken) (omega arith) (c .if2 .taken) ∙ c .before .before .loop .inv .2
+    ∙ reached-all _ _ _ (c .before .before .before .before .if1 .left))
     (λ c. omega arith)
     (λ c. omega arith)
-    cast-cut
+    (λ c.
+    let a = c .before .before .before .before .before .before .before .before .before .args in
+    let stride : Fits w32 (getD (a .arrays .strides) (c .before .before .loop .j) 0) = search needs in
+    omega arith)
     mul-cut-2
     (λ c κs. search needs)
     (λ c. omega (arith, c .cut2 .ensures))
@@ -82,4 +70,4 @@ reached-spec =
     (λ c. omega arith)
     (λ c. omega arith)
     loop-again
-    returns-3)
+    (λ c. left-none _ _ _ _ _ _ (omega arith) ∙ c .before .loop .inv .2 ∙ reached-all _ _ _ (c .before .before .before .if1 .left)))

@@ -26,19 +26,25 @@ survey-image-spec =
     (λ c κs. search needs)
     (λ c. (rw (c .alone .ensures) (set-out _ _ _ _ _ (c .before .before .first .ensures) (c .before .first2 .ensures) (c .before .before .before .before .before .pre .passes)), refl))
     (λ c κs. search needs)
-    (λ c κs. record { ready = c .before .before .before .before .before .before .before .before .pre; surveyed = c .before .before .loop .inv .0; more = omega (arith, c .if1 .taken, c .before .item .ensures, c .before .before .loop .inv .1) })
+    (λ c κs.
+    let start = c .before .before .before .before .before .before .before .before in
+    record { ready = start .pre; surveyed = c .before .before .loop .inv .0; more = omega (arith, c .if1 .taken, c .before .item .ensures, c .before .before .loop .inv .1) })
     (λ c. search needs)
     (λ c κs. search needs)
     (λ c. laid-refused _ _ _ _ _ (c .before .before .before .before .survey-table .ensures .stopped _ (c .before .before .verdict .given .1)) (c .refused .ensures))
     (λ c. search needs)
     (λ c.
+    let loop = c .before .before .before .before .before .before .loop in
     let more = c .before .before .before .survey-table .ensures .passed (c .before .enum-told .given .1) .1 in
-    omega (arith, more, c .before .before .before .before .if1 .taken, c .before .before .before .before .before .item .ensures, c .before .before .before .before .before .before .loop .inv .1))
+    omega (arith, more, c .before .before .before .before .if1 .taken, c .before .before .before .before .before .item .ensures, loop .inv .1))
     (λ c. (c .before .before .before .survey-table .ensures .passed (c .before .enum-told .given .1) .0, refl))
     (λ c κs. search needs)
     (λ c κs. search needs)
     (λ c κs. search needs)
     (λ c.
+    let item = c .before .before .before .before .before .before .item in
+    let loop = c .before .before .before .before .before .before .before .loop in
+    let start = c .before .before .before .before .before .before .before .before .before .before .before .before .before in
     let laid = c .before .before .before .before .before .before .before .loop .inv .0 in
-    laid-all _ _ _ _ laid (omega (arith, c .before .before .before .before .before .if1 .left, c .before .before .before .before .before .before .item .ensures, c .before .before .before .before .before .before .before .loop .inv .1)) _
-    (omega (arith, c .octet .ensures, c .before .before .in-image .ensures, c .before .before .before .new .ensures, laid .inside, c .before .before .before .before .before .before .before .before .before .before .before .before .before .pre .small))))
+    laid-all _ _ _ _ laid (omega (arith, c .before .before .before .before .before .if1 .left, item .ensures, loop .inv .1)) _
+    (omega (arith, c .octet .ensures, c .before .before .in-image .ensures, c .before .before .before .new .ensures, laid .inside, start .pre .small))))

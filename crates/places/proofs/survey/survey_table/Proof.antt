@@ -17,9 +17,10 @@ survey-table-spec =
     (λ c κs. search needs)
     (λ c κs. search needs)
     (λ c κs.
+    let read-then = c .before .before .before .before .before .before .before .before .before .before .before .before .read in
     let ready = c .before .before .before .before .before .before .before .before .before .before .before .before .before .before .before .before .pre in
-    let fields = fields-read _ _ (ready .more) (c .before .before .before .before .before .before .before .before .before .before .before .before .read .ensures) in
-    let next = next-read _ _ (ready .more) (c .before .before .before .before .before .before .before .before .before .before .before .before .read .ensures) in
+    let fields = fields-read _ _ (ready .more) (read-then .ensures) in
+    let next = next-read _ _ (ready .more) (read-then .ensures) in
     rw (c .alone .ensures, fields) (table-ready _ _ _ _ ready _ _ _ next (c .before .new .ensures) refl))
     (λ c κs. search needs)
     (λ c κs. search needs)
@@ -33,12 +34,22 @@ survey-table-spec =
     (λ c κs. search needs)
     (λ c κs. search needs)
     (λ c.
+    let after = c .before .before .before .before .before .before .after in
+    let ends-within = c .before .before .before .before .before .before .before .ends-within in
+    let octets2 = c .before .before .before .before .before .before .before .before .octets2 in
+    let item = c .before .before .before .before .before .before .before .before .before .item in
+    let walk-body = c .before .before .before .before .before .before .before .before .before .before .before .before .before .before .walk-body in
+    let alone = c .before .before .before .before .before .before .before .before .before .before .before .before .before .before .before .alone in
+    let new = c .before .before .before .before .before .before .before .before .before .before .before .before .before .before .before .before .new in
+    let is-first2 = c .before .before .before .before .before .before .before .before .before .before .before .before .before .before .before .before .before .is-first2 in
+    let is-first = c .before .before .before .before .before .before .before .before .before .before .before .before .before .before .before .before .before .before .is-first in
+    let read-then = c .before .before .before .before .before .before .before .before .before .before .before .before .before .before .before .before .before .before .before .before .before .before .before .before .before .before .before .read in
     let ready = c .before .before .before .before .before .before .before .before .before .before .before .before .before .before .before .before .before .before .before .before .before .before .before .before .before .before .before .before .before .before .before .pre in
-    let fields = fields-read _ _ (ready .more) (c .before .before .before .before .before .before .before .before .before .before .before .before .before .before .before .before .before .before .before .before .before .before .before .before .before .before .before .read .ensures) in
-    let next = next-read _ _ (ready .more) (c .before .before .before .before .before .before .before .before .before .before .before .before .before .before .before .before .before .before .before .before .before .before .before .before .before .before .before .read .ensures) in
+    let fields = fields-read _ _ (ready .more) (read-then .ensures) in
+    let next = next-read _ _ (ready .more) (read-then .ensures) in
     let length = c .before .before .before .before .before .before .before .before .before .before .before .before .octets .ensures in
-    let walks = rw (c .before .before .before .before .before .before .before .before .before .before .before .before .before .before .before .alone .ensures) at (c .before .before .before .before .before .before .before .before .before .before .before .before .before .before .walk-body .ensures) in
-    table-as _ _ _ _ ready _ _ _ _ next (c .before .before .before .before .before .before .before .before .before .before .before .before .before .before .before .before .new .ensures) (ap (λ (f : Fields). f .first) fields) walks _ refl (c .before .before .before .before .before .before .after .ensures ∙ rw length) (c .before .before .before .before .before .past .ensures)
-    (c .before .before .before .before .seat .ensures ∙ rw (c .before .before .before .before .before .before .before .before .before .before .before .before .before .before .before .before .before .before .is-first .ensures, c .before .before .before .before .before .before .before .before .before .item .ensures, length, fields))
-    (c .before .before .before .seat2 .ensures ∙ rw (c .before .before .before .before .before .before .before .before .before .before .before .before .before .before .before .before .before .is-first2 .ensures, c .before .before .before .before .before .before .before .before .before .item .ensures, length, fields)) (c .before .before .first-standing .ensures)
-    (c .before .held-after .ensures ∙ rw (c .before .before .before .before .before .before .before .before .before .before .before .before .before .before .before .before .before .before .is-first .ensures, c .before .before .before .before .before .before .before .ends-within .ensures, c .before .before .before .before .before .before .before .before .octets2 .ensures, length, fields)) (c .verdict-of .ensures)))
+    let walks = rw (alone .ensures) at (walk-body .ensures) in
+    table-as _ _ _ _ ready _ _ _ _ next (new .ensures) (ap (λ (f : Fields). f .first) fields) walks _ refl (after .ensures ∙ rw length) (c .before .before .before .before .before .past .ensures)
+    (c .before .before .before .before .seat .ensures ∙ rw (is-first .ensures, item .ensures, length, fields))
+    (c .before .before .before .seat2 .ensures ∙ rw (is-first2 .ensures, item .ensures, length, fields)) (c .before .before .first-standing .ensures)
+    (c .before .held-after .ensures ∙ rw (is-first .ensures, ends-within .ensures, octets2 .ensures, length, fields)) (c .verdict-of .ensures)))

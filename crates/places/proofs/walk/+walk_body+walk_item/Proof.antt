@@ -8,7 +8,7 @@ use borrow.Fn.Kinds.{In}
 use borrow.Fn.PlainCycle.{Measures, is, falls, and}
 use Rattle.items.proofs.ReadLaws.{range-read}
 use Rattle.places.specs.Walking.{OnItsWay}
-use Rattle.places.proofs.Opened.{level-left, rest-ready}
+use Rattle.places.proofs.Opened.{level-left}
 use Rattle.places.proofs.Through.{sets-out, arrives, item-ready, stops, further, goes-on}
 use Rattle.places.proofs.Walking.{Here, here, valued, leaf-ready, leaf-walks, array-step, array-walks}
 use Rattle.places.proofs.Walking.{Choosing, choosing, through-ready, choice-stops, choice-walks}
@@ -21,6 +21,7 @@ use Rattle.places.proofs.walk.+walk_body+walk_item.Lts-walk_item as wal
 use Rattle.items.proofs.Cursor.item.Reads as item-reads
 use Rattle.items.proofs.Cursor.past.Reads as past-reads
 use Rattle.items.proofs.Cursor.read.Reads as read-reads
+use Rattle.items.proofs.is_choice.Reads as is-choice-reads
 use Rattle.places.proofs.measure.chosen.Reads as chosen-reads
 use Rattle.places.proofs.measure.item_size.Reads as item-size-reads
 use Rattle.places.proofs.measure.leaf_span.Reads as leaf-span-reads
@@ -62,6 +63,8 @@ walk-item-cs t = (
   value-here-reads.Learnt,
   past-reads.Asked,
   past-reads.Learnt,
+  is-choice-reads.Asked,
+  is-choice-reads.Learnt,
   chosen-reads.Asked,
   chosen-reads.Learnt,
   elsewhere-reads.Asked,
@@ -107,7 +110,7 @@ item-choosing : (t : ℕ) (c : walk-item-lts.After-elsewhere (walk-item-cs t) (w
     → Choosing (item-here t (c .before .before .before .before .before)) (c .before .before .chosen .result) (c .before .past2 .result) (c .elsewhere .result)
 item-choosing t c =
     let b = c .before .before in
-    choosing (item-here t (b .before .before .before)) (b .before .if1 .taken) (b .chosen .ensures) (c .before .past2 .ensures) (c .elsewhere .ensures)
+    choosing (item-here t (b .before .before .before)) (b .before .before .is-choice .ensures) (b .before .if1 .taken) (b .chosen .ensures) (c .before .past2 .ensures) (c .elsewhere .ensures)
 
 pub +walk-body+walk-item-spec : {M : Type 1} → statement M
 +walk-body+walk-item-spec =
@@ -146,10 +149,11 @@ pub +walk-body+walk-item-spec : {M : Type 1} → statement M
     (λ c κs. search needs)
     (λ c κs. search needs)
     (λ c κs. search needs)
+    (λ c κs. search needs)
     (λ c. level-left (item-choosing t c .enters))
     (λ c κs. let g = item-choosing t c in (omega (arith, level-left (g .enters), item-start t (c .before .before .before .before .before) .pre .0), through-ready g))
     (λ c. choice-stops (item-choosing t (c .before .before)) (c .before .walk-body .ensures) (c .if2 .taken))
-    (λ c κs. rest-ready (item-choosing t (c .before .before) .enters))
+    (λ c κs. search needs)
     (λ c κs. search needs)
     (λ c.
     let b = c .before .before in
@@ -163,8 +167,8 @@ pub +walk-body+walk-item-spec : {M : Type 1} → statement M
     (λ c κs. valued (item-here t (c .before .before .before .before .before)))
     (λ c κs.
     let b = c .before .before in
-    leaf-ready (item-here t (b .before .before .before .before)) (b .before .before .if1 .left) (b .if3 .left) (c .before .item .ensures) (c .leaf-span .ensures))
+    leaf-ready (item-here t (b .before .before .before .before)) (b .before .before .before .is-choice .ensures) (b .before .before .if1 .left) (b .if3 .left) (c .before .item .ensures) (c .leaf-span .ensures))
     (λ c.
     let b = c .before .before .before in
-    leaf-walks (item-here t (b .before .before .before .before)) (b .before .before .if1 .left) (b .if3 .left) (c .before .before .item .ensures)
+    leaf-walks (item-here t (b .before .before .before .before)) (b .before .before .before .is-choice .ensures) (b .before .before .if1 .left) (b .if3 .left) (c .before .before .item .ensures)
     (c .before .leaf-span .ensures) (c .step2 .ensures)))

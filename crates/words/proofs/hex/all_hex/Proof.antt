@@ -6,7 +6,7 @@ use native.Mathlib.Omega.{arith}
 use borrow.Author.Tests.{not-true, not-false}
 use lib.ListN.{length, drop}
 use Rattle.words.specs.Hex.{allHex}
-use Rattle.words.proofs.HexLaws.{hex-more, hex-stop, hex-end}
+use Rattle.words.proofs.HexLaws.{hex-next, hex-end}
 use Rattle.words.proofs.hex.all_hex.Statement.{statement}
 use Rattle.words.proofs.hex.all_hex.Tie as tie
 
@@ -16,33 +16,21 @@ Inv-loop word i₀ i = (i ≤ length word) × (allHex word ≡ allHex (drop i wo
 abbrev μ-loop : tie.MeasureT-loop
 μ-loop word i₀ i = length word - i
 
-loop-holds : tie.Need-loop-holds Inv-loop μ-loop
-loop-holds c = (omega arith, refl)
-
-returns : tie.Need-returns Inv-loop μ-loop
-returns c =
-    let f = c .before .is-hex in
-    sym (hex-stop _ _ (c .before .before .before .before .loop .inv .1) (omega arith) (sym (f .ensures) ∙ not-true (f .result) (c .if1 .taken)))
-
-loop-again : tie.Need-loop-again Inv-loop μ-loop
-loop-again c =
-    let f = c .before .is-hex in
-    (omega arith, hex-more _ _ (c .before .before .before .before .loop .inv .1) (omega arith) (sym (f .ensures) ∙ not-false (f .result) (c .if1 .left)))
-
-returns-2 : tie.Need-returns-2 Inv-loop μ-loop
-returns-2 c = sym (c .before .loop .inv .1 ∙ hex-end _ (c .before .loop .i) (omega arith))
-
 pub all-hex-spec : {M : Type 1} → statement M
 all-hex-spec =
     tie.close
     (tie.spec
     Inv-loop
     μ-loop
-    loop-holds
+    (λ c. (omega arith, refl))
     (λ c. omega arith)
     (λ c κs. tt)
-    returns
+    (λ c.
+    let f = c .before .is-hex in
+    sym (hex-next _ _ (c .before .before .before .before .loop .inv .1) (omega arith) (sym (f .ensures) ∙ not-true (f .result) (c .if1 .taken))))
     (λ c. omega arith)
     (λ c. omega arith)
-    loop-again
-    returns-2)
+    (λ c.
+    let f = c .before .is-hex in
+    (omega arith, hex-next _ _ (c .before .before .before .before .loop .inv .1) (omega arith) (sym (f .ensures) ∙ not-false (f .result) (c .if1 .left))))
+    (λ c. sym (c .before .loop .inv .1 ∙ hex-end _ (c .before .loop .i) (omega arith))))

@@ -16,31 +16,14 @@ Inv-loop word out₀ count i₀ out i = (length (octetsOf word) ≡ count) × Pa
 abbrev μ-loop : tie.MeasureT-loop
 μ-loop word out₀ count i₀ out i = count - i
 
-loop-holds : tie.Need-loop-holds Inv-loop μ-loop
-loop-holds c =
-    let word = c .before .before .args .word .now in
-    let n : length (octetsOf word) ≡ c .before .before .args .count = omega (arith, octets-length word) in
-    (n, pasted-none _ _ _ (omega arith))
-
-hex-value-requires : tie.Need-hex-value-requires Inv-loop μ-loop
-hex-value-requires c κs = hex-at _ _ (c .before .before .before .before .before .pre .0) (omega arith)
-
-hex-value-requires-2 : tie.Need-hex-value-requires-2 Inv-loop μ-loop
-hex-value-requires-2 c κs = hex-at _ _ (c .before .before .before .before .before .before .before .pre .0) (omega arith)
-
 loop-again : tie.Need-loop-again Inv-loop μ-loop
 loop-again c =
+    let start = c .before .before .before .before .before .before .before .before in
     let l = c .before .before .before .before .before .loop in
-    let v = octet-at (c .before .before .before .before .before .before .before .before .args .word .now) (l .i) (omega arith) in
+    let v = octet-at (start .args .word .now) (l .i) (omega arith) in
     let h = c .before .before .hex-value .ensures .0 in
     let k = c .hex-value2 .ensures .0 in
     (l .inv .0, pasted-more _ _ _ (l .inv .1) (omega arith) (omega arith) (rw (h, k) v) refl)
-
-same-length : tie.Need-same-length Inv-loop μ-loop
-same-length c = c .before .loop .inv .1 .long
-
-returns : tie.Need-returns Inv-loop μ-loop
-returns c = pasted-all (c .before .loop .inv .1) (omega arith)
 
 pub fill-spec : {M : Type 1} → statement M
 fill-spec =
@@ -48,19 +31,24 @@ fill-spec =
     (tie.spec
     Inv-loop
     μ-loop
-    loop-holds
+    (λ c.
+    let word = c .before .before .args .word .now in
+    let n : length (octetsOf word) ≡ c .before .before .args .count = omega (arith, octets-length word) in
+    (n, pasted-none _ _ _ (omega arith)))
     (λ c. omega arith)
     (λ c. omega arith)
-    hex-value-requires
+    (λ c κs. hex-at _ _ (c .before .before .before .before .before .pre .0) (omega arith))
     (λ c. omega arith)
     (λ c. omega arith)
     (λ c. omega arith)
-    hex-value-requires-2
+    (λ c κs.
+    let start = c .before .before .before .before .before .before .before in
+    hex-at _ _ (start .pre .0) (omega arith))
     (λ c. omega arith)
     (λ c. omega arith)
     (λ c. omega arith)
     (λ c. omega arith)
     (λ c. omega arith)
     loop-again
-    same-length
-    returns)
+    (λ c. c .before .loop .inv .1 .long)
+    (λ c. pasted-all (c .before .loop .inv .1) (omega arith)))

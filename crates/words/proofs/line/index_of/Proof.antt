@@ -15,25 +15,6 @@ Inv-loop name text places count k₀ k = Looked name (lineWords text) k
 abbrev μ-loop : tie.MeasureT-loop
 μ-loop name text places count k₀ k = count - k
 
-returns : tie.Need-returns Inv-loop μ-loop
-returns c =
-    let at = c .before .before .before .before in
-    let split = at .before .split .ensures in
-    let word = word-of _ _ _ _ split (c .before .before .word .ensures) in
-    looked-here (at .loop .inv) (omega (arith, count-of _ _ split)) (rw word at (sym (same-is _ _ _ (c .before .same .ensures)) ∙ c .if1 .taken))
-
-loop-again : tie.Need-loop-again Inv-loop μ-loop
-loop-again c =
-    let at = c .before .before .before .before in
-    let split = at .before .split .ensures in
-    let word = word-of _ _ _ _ split (c .before .before .word .ensures) in
-    looked-on (at .loop .inv) (omega (arith, count-of _ _ split)) (rw word at (sym (same-is _ _ _ (c .before .same .ensures)) ∙ c .if1 .left))
-
-returns-2 : tie.Need-returns-2 Inv-loop μ-loop
-returns-2 c =
-    let count = count-of _ _ (c .before .before .split .ensures) in
-    count ∙ looked-all (c .before .loop .inv) (omega arith)
-
 pub index-of-spec : {M : Type 1} → statement M
 index-of-spec =
     tie.close
@@ -44,8 +25,18 @@ index-of-spec =
     (λ c. looked-none _ _)
     (λ c κs. search needs)
     (λ c κs. search needs)
-    returns
+    (λ c.
+    let at = c .before .before .before .before in
+    let split = at .before .split .ensures in
+    let word = word-of _ _ _ _ split (c .before .before .word .ensures) in
+    looked-here (at .loop .inv) (omega (arith, count-of _ _ split)) (rw word at (sym (same-is _ _ _ (c .before .same .ensures)) ∙ c .if1 .taken)))
     (λ c. omega arith)
     (λ c. omega arith)
-    loop-again
-    returns-2)
+    (λ c.
+    let at = c .before .before .before .before in
+    let split = at .before .split .ensures in
+    let word = word-of _ _ _ _ split (c .before .before .word .ensures) in
+    looked-on (at .loop .inv) (omega (arith, count-of _ _ split)) (rw word at (sym (same-is _ _ _ (c .before .same .ensures)) ∙ c .if1 .left)))
+    (λ c.
+    let count = count-of _ _ (c .before .before .split .ensures) in
+    count ∙ looked-all (c .before .loop .inv) (omega arith)))

@@ -4,9 +4,6 @@ use Rattle.words.specs.Line.{placesOf, forty, startsFrom, endsFrom}
 use Rattle.words.proofs.line.no_words.Statement.{statement}
 use Rattle.words.proofs.line.no_words.Tie as tie
 
-returns : tie.Need-returns
-unfolding placesOf forty startsFrom endsFrom
-returns c = refl
-
 pub no-words-spec : {M : Type 1} → statement M
-no-words-spec = tie.close (tie.spec returns)
+unfolding endsFrom forty placesOf startsFrom
+no-words-spec = tie.close (tie.spec (λ c. refl))

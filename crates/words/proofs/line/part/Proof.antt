@@ -6,15 +6,6 @@ use Rattle.words.proofs.LineLaws.{part-of, part-crossed, part-over}
 use Rattle.words.proofs.line.part.Statement.{statement}
 use Rattle.words.proofs.line.part.Tie as tie
 
-returns : tie.Need-returns
-returns c = sym (part-crossed _ _ _ (omega arith))
-
-returns-2 : tie.Need-returns-2
-returns-2 c = sym (part-over _ _ _ (omega arith))
-
-returns-3 : tie.Need-returns-3
-returns-3 c = sym (part-of _ _ _ (omega arith) (omega arith))
-
 pub part-spec : {M : Type 1} → statement M
 part-spec =
     tie.close
@@ -22,11 +13,11 @@ part-spec =
     (λ c. search needs)
     (λ c. search needs)
     (λ c. search needs)
-    returns
+    (λ c. sym (part-crossed _ _ _ (omega arith)))
     (λ c. search needs)
     (λ c. search needs)
     (λ c. search needs)
-    returns-2
+    (λ c. sym (part-over _ _ _ (omega arith)))
     (λ c. search needs)
     (λ c. search needs)
-    returns-3)
+    (λ c. sym (part-of _ _ _ (omega arith) (omega arith))))

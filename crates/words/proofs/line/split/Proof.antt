@@ -13,49 +13,26 @@ Inv-loop line starts₀ ends₀ from₀ n₀ starts ends from n = Splitting line
 abbrev μ-loop : tie.MeasureT-loop
 μ-loop line starts₀ ends₀ from₀ n₀ starts ends from n = 40 - n
 
-loop-holds : tie.Need-loop-holds Inv-loop μ-loop
-loop-holds c = split-none _
-
-find-requires : tie.Need-find-requires Inv-loop μ-loop
-find-requires c κs = (omega arith, omega arith)
-
-returns : tie.Need-returns Inv-loop μ-loop
-returns c =
-    c .no-words .ensures ∙ split-empty _ (c .before .before .before .before .loop .inv) (c .before .before .find .ensures .0) (c .before .if1 .taken)
-
-returns-2 : tie.Need-returns-2 Inv-loop μ-loop
-returns-2 c =
-    split-last _ (c .before .before .before .before .loop .inv) (c .before .before .find .ensures .0) (c .if2 .taken) (c .before .if1 .left) (omega arith)
-
-add-from : tie.Need-add-from Inv-loop μ-loop
-add-from c = omega (arith, c .before .before .find .ensures .1)
-
-loop-again : tie.Need-loop-again Inv-loop μ-loop
-loop-again c =
-    let f = c .before .before .find .ensures in
-    split-more _ (c .before .before .before .before .loop .inv) (f .0) (omega (arith, f .1)) (c .before .if1 .left) (omega arith)
-
-returns-3 : tie.Need-returns-3 Inv-loop μ-loop
-returns-3 c = c .no-words2 .ensures ∙ split-many (c .before .before .loop .inv) (omega arith)
-
 pub split-spec : {M : Type 1} → statement M
 split-spec =
     tie.close
     (tie.spec
     Inv-loop
     μ-loop
-    loop-holds
-    find-requires
+    (λ c. split-none _)
+    (λ c κs. (omega arith, omega arith))
     (λ c κs. tt)
-    returns
+    (λ c. c .no-words .ensures ∙ split-empty _ (c .before .before .before .before .loop .inv) (c .before .before .find .ensures .0) (c .before .if1 .taken))
     (λ c. omega arith)
     (λ c. omega arith)
     (λ c. omega arith)
     (λ c. omega arith)
     (λ c. omega arith)
-    returns-2
-    add-from
+    (λ c. split-last _ (c .before .before .before .before .loop .inv) (c .before .before .find .ensures .0) (c .if2 .taken) (c .before .if1 .left) (omega arith))
+    (λ c. omega (arith, c .before .before .find .ensures .1))
     (λ c. omega arith)
-    loop-again
+    (λ c.
+    let f = c .before .before .find .ensures in
+    split-more _ (c .before .before .before .before .loop .inv) (f .0) (omega (arith, f .1)) (c .before .if1 .left) (omega arith))
     (λ c κs. tt)
-    returns-3)
+    (λ c. c .no-words2 .ensures ∙ split-many (c .before .before .loop .inv) (omega arith)))

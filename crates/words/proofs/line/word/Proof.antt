@@ -7,10 +7,6 @@ use Rattle.words.specs.Line.{wordIn}
 use Rattle.words.proofs.line.word.Statement.{statement}
 use Rattle.words.proofs.line.word.Tie as tie
 
-returns : tie.Need-returns
-unfolding wordIn
-returns c = c .part .ensures
-
 returns-2 : tie.Need-returns-2
 unfolding wordIn
 returns-2 c =
@@ -24,6 +20,7 @@ returns-2 c =
     (c .part2 .ensures)
 
 pub word-spec : {M : Type 1} → statement M
+unfolding wordIn
 word-spec =
     tie.close
     (tie.spec
@@ -32,6 +29,6 @@ word-spec =
     (λ c. search needs)
     (λ c. search needs)
     (λ c κs. search needs)
-    returns
+    (λ c. c .part .ensures)
     (λ c κs. search needs)
     returns-2)

@@ -14,30 +14,18 @@ Inv-loop out₀ at text j₀ out j = Pasted out₀ at text out j
 abbrev μ-loop : tie.MeasureT-loop
 μ-loop out₀ at text j₀ out j = length text - j
 
-loop-holds : tie.Need-loop-holds Inv-loop μ-loop
-loop-holds c = pasted-none _ _ _ (omega arith)
-
-loop-again : tie.Need-loop-again Inv-loop μ-loop
-loop-again c = pasted-more _ _ _ (c .before .before .loop .inv) (omega arith) refl refl refl
-
-same-length : tie.Need-same-length Inv-loop μ-loop
-same-length c = c .before .loop .inv .long
-
-returns : tie.Need-returns Inv-loop μ-loop
-returns c = pasted-all (c .before .loop .inv) (omega arith)
-
 pub copy-at-spec : {M : Type 1} → statement M
 copy-at-spec =
     tie.close
     (tie.spec
     Inv-loop
     μ-loop
-    loop-holds
+    (λ c. pasted-none _ _ _ (omega arith))
     (λ c. omega arith)
     (λ c. omega arith)
     (λ c. omega arith)
     (λ c. omega arith)
     (λ c. omega arith)
-    loop-again
-    same-length
-    returns)
+    (λ c. pasted-more _ _ _ (c .before .before .loop .inv) (omega arith) refl refl refl)
+    (λ c. c .before .loop .inv .long)
+    (λ c. pasted-all (c .before .loop .inv) (omega arith)))

@@ -5,7 +5,7 @@ use Prim.Native.Nat.{_-_, _+_, _*_}
 use native.Mathlib.Omega.{arith}
 use lib.ListN.{length-set, length}
 use Rattle.words.specs.Hex.{hexPairs}
-use Rattle.words.proofs.HexLaws.{pairs-length, pair-high, pair-low}
+use Rattle.words.proofs.HexLaws.{pairs-length, pair-at}
 use Rattle.words.proofs.PutLaws.{Pasted, pasted-none, pasted-more, pasted-all}
 use Rattle.words.proofs.reply.hex_at.Statement.{statement}
 use Rattle.words.proofs.reply.hex_at.Tie as tie
@@ -19,32 +19,14 @@ Inv-loop out₀ at octets i₀ to₀ out i to =
 abbrev μ-loop : tie.MeasureT-loop
 μ-loop out₀ at octets i₀ to₀ out i to = length octets - i
 
-loop-holds : tie.Need-loop-holds Inv-loop μ-loop
-loop-holds c =
-    let n = pairs-length (c .before .before .args .octets .now) in
-    (n, omega arith, pasted-none _ _ _ (omega (arith, n)))
-
-hex-digit-requires : tie.Need-hex-digit-requires Inv-loop μ-loop
-hex-digit-requires c κs = omega (arith, c .shared-slice-known2 .given (c .before .before .loop .i))
-
-slice-write-out-2 : tie.Need-slice-write-out-2 Inv-loop μ-loop
-slice-write-out-2 c = simp length-set (omega arith)
-
 loop-again : tie.Need-loop-again Inv-loop μ-loop
 loop-again c =
     let o = c .before .before .before .before .before .before .before .args .octets .now in
     let l = c .before .before .before .before .loop in
     let h = c .before .hex-digit in
-    let e = h .ensures ∙ pair-high o (l .i) (omega arith) in
-    let f = c .hex-digit2 .ensures ∙ pair-low o (l .i) (omega arith) in
-    let high = pasted-more (l .to) (h .result) (l .i * 2 + 1) (l .inv .2) (omega arith) (omega arith) e refl in
-    (l .inv .0, omega arith, pasted-more _ _ _ high (omega arith) (omega arith) f (omega arith))
-
-same-length : tie.Need-same-length Inv-loop μ-loop
-same-length c = c .before .loop .inv .2 .long
-
-returns : tie.Need-returns Inv-loop μ-loop
-returns c = pasted-all (c .before .loop .inv .2) (omega arith)
+    let pair = pair-at o (l .i) (omega arith) in
+    let high = pasted-more (l .to) (h .result) (l .i * 2 + 1) (l .inv .2) (omega arith) (omega arith) (h .ensures ∙ pair .0) refl in
+    (l .inv .0, omega arith, pasted-more _ _ _ high (omega arith) (omega arith) (c .hex-digit2 .ensures ∙ pair .1) (omega arith))
 
 pub hex-at-spec : {M : Type 1} → statement M
 hex-at-spec =
@@ -52,16 +34,18 @@ hex-at-spec =
     (tie.spec
     Inv-loop
     μ-loop
-    loop-holds
+    (λ c.
+    let n = pairs-length (c .before .before .args .octets .now) in
+    (n, omega arith, pasted-none _ _ _ (omega (arith, n))))
     (λ c. omega arith)
-    hex-digit-requires
+    (λ c κs. omega (arith, c .shared-slice-known2 .given (c .before .before .loop .i)))
     (λ c. omega arith)
     (λ c κs. omega arith)
     (λ c. omega arith)
-    slice-write-out-2
+    (λ c. simp length-set (omega arith))
     (λ c. omega arith)
     (λ c. omega arith)
     (λ c. omega arith)
     loop-again
-    same-length
-    returns)
+    (λ c. c .before .loop .inv .2 .long)
+    (λ c. pasted-all (c .before .loop .inv .2) (omega arith)))

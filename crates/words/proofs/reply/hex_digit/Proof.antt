@@ -1,15 +1,10 @@
--- `words::reply::hex_digit`: a law for each half. Assumes nothing.
-use native.Mathlib.Omega.{arith}
+-- `words::reply::hex_digit`: by its test, each half. Assumes nothing.
 use borrow.Author.Needs.{needs}
-use Rattle.words.proofs.HexLaws.{digit-number, digit-letter}
+use borrow.Author.Tests.{lt-ltb, le-ltb}
+use Rattle.words.specs.Hex.{hexDigit}
 use Rattle.words.proofs.reply.hex_digit.Statement.{statement}
 use Rattle.words.proofs.reply.hex_digit.Tie as tie
 
-returns : tie.Need-returns
-returns c = digit-number _ (omega arith)
-
-returns-2 : tie.Need-returns-2
-returns-2 c = digit-letter _ (omega arith)
-
 pub hex-digit-spec : {M : Type 1} → statement M
-hex-digit-spec = tie.close (tie.spec (λ c. search needs) returns (λ c. search needs) returns-2)
+unfolding hexDigit
+hex-digit-spec = tie.close (tie.spec (λ c. search needs) (λ c. rw (lt-ltb _ 10 (c .if1 .taken))) (λ c. search needs) (λ c. rw (le-ltb _ 10 (c .if1 .left))))

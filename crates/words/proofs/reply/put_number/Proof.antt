@@ -5,12 +5,6 @@ use Rattle.words.proofs.NumberLaws.{spelled}
 use Rattle.words.proofs.reply.put_number.Statement.{statement}
 use Rattle.words.proofs.reply.put_number.Tie as tie
 
-returns : tie.Need-returns
-returns c =
-    let d = c .before .before .before .before .before .decimal in
-    let f = d .ensures in
-    rw (← spelled (c .before .before .before .before .before .before .before .before .args .n) (d .result) (omega arith) (f .1 .0), ← f .1 .1) (c .before .before .put-text .ensures)
-
 pub put-number-spec : {M : Type 1} → statement M
 put-number-spec =
     tie.close
@@ -20,4 +14,8 @@ put-number-spec =
     (λ c. search needs)
     (λ c κs. search needs)
     (λ c. search needs)
-    returns)
+    (λ c.
+    let start = c .before .before .before .before .before .before .before .before in
+    let d = c .before .before .before .before .before .decimal in
+    let f = d .ensures in
+    rw (← spelled (start .args .n) (d .result) (omega arith) (f .1 .0), ← f .1 .1) (c .before .before .put-text .ensures)))

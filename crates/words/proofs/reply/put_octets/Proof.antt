@@ -6,33 +6,21 @@ use Rattle.words.proofs.PutLaws.{put, no-room}
 use Rattle.words.proofs.reply.put_octets.Statement.{statement}
 use Rattle.words.proofs.reply.put_octets.Tie as tie
 
-returns : tie.Need-returns
-returns c = rw (← text-none _ (c .before .before .before .before .if1 .taken)) (c .before .before .put-octet .ensures)
-
-returns-2 : tie.Need-returns-2
-returns-2 c = no-room _ (omega (arith, text-length (c .before .before .before .before .args .octets .now) (omega arith)))
-
-returns-3 : tie.Need-returns-3
-returns-3 c = no-room _ (omega (arith, text-length (c .before .before .before .before .before .args .octets .now) (omega arith)))
-
-returns-4 : tie.Need-returns-4
-returns-4 c =
-    let o = c .before .before .before .before .before .before .before .before .before .args .octets .now in
-    let n = text-length o (omega arith) in
-    put (omega (arith, n)) (rw (← text-some o (omega arith)) (c .before .before .hex-at .ensures)) (omega (arith, n))
-
 pub put-octets-spec : {M : Type 1} → statement M
 put-octets-spec =
     tie.close
     (tie.spec
     (λ c κs. search needs)
     (λ c. search needs)
-    returns
-    returns-2
+    (λ c. rw (← text-none _ (c .before .before .before .before .if1 .taken)) (c .before .before .put-octet .ensures))
+    (λ c. no-room _ (omega (arith, text-length (c .before .before .before .before .args .octets .now) (omega arith))))
     (λ c. search needs)
-    returns-3
+    (λ c. no-room _ (omega (arith, text-length (c .before .before .before .before .before .args .octets .now) (omega arith))))
     (λ c κs. search needs)
     (λ c. search needs)
     (λ c. search needs)
     (λ c. search needs)
-    returns-4)
+    (λ c.
+    let o = c .before .before .before .before .before .before .before .before .before .args .octets .now in
+    let n = text-length o (omega arith) in
+    put (omega (arith, n)) (rw (← text-some o (omega arith)) (c .before .before .hex-at .ensures)) (omega (arith, n))))

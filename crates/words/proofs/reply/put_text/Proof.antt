@@ -6,16 +6,14 @@ use Rattle.words.proofs.PutLaws.{put, no-room}
 use Rattle.words.proofs.reply.put_text.Statement.{statement}
 use Rattle.words.proofs.reply.put_text.Tie as tie
 
-returns : tie.Need-returns
-returns c = no-room _ (omega arith)
-
-returns-2 : tie.Need-returns-2
-returns-2 c = no-room _ (omega arith)
-
-returns-3 : tie.Need-returns-3
-returns-3 c = put (omega arith) (c .before .before .copy-at .ensures) refl
-
 pub put-text-spec : {M : Type 1} → statement M
 put-text-spec =
     tie.close
-    (tie.spec returns (λ c. search needs) returns-2 (λ c κs. search needs) (λ c. search needs) (λ c. search needs) returns-3)
+    (tie.spec
+    (λ c. no-room _ (omega arith))
+    (λ c. search needs)
+    (λ c. no-room _ (omega arith))
+    (λ c κs. search needs)
+    (λ c. search needs)
+    (λ c. search needs)
+    (λ c. put (omega arith) (c .before .before .copy-at .ensures) refl))
