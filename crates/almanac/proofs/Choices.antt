@@ -14,7 +14,8 @@ use Rattle.meaning.specs.Passed.{Exactly}
 use Rattle.meaning.specs.Calendar.{entryIf, latest, recordDay, action, seasonEntry, specialEntry, seasonOn, specialOn, counts, switchMinute, switchEntry}
 use Rattle.almanac.specs.Latest.{_among_}
 use Rattle.almanac.specs.Choices.{LatestOf, SelectsSeason, SeasonSays, SelectsSpecial, SpecialSays, Switches, SwitchSays}
-use Rattle.almanac.proofs.Tests.{all-four, cond-meets}
+use Rattle.almanac.proofs.Tests.{all-four}
+use Rattle.meaning.proofs.Either.{tested}
 use Rattle.almanac.proofs.Latest.{latest-says, entry-some}
 
 -- RECORDS THAT BRING SOMETHING WHERE A CONDITION HOLDS: f brings `brings r` from `when r` on exactly where `Holds r`
@@ -30,9 +31,9 @@ by-test {Holds} test when brings told =
     record {
       something = λ r h. rw (told r .1 h);
       held =
-          λ r w x. cond-meets (λ z. z ≡ Entry w x → Holds r × (when r ≡ w) × (brings r ≡ x)) (test r) (λ t e. (told r .0 t, cc, cc))
+          λ r w x. tested (λ z. z ≡ Entry w x → Holds r × (when r ≡ w) × (brings r ≡ x)) (test r) _ _ (λ t e. (told r .0 t, cc, cc))
           (λ t e. absurd (entry-some (sym e)));
-      nothing = λ r h. cond-meets (λ z. z ≡ Nothing) (test r) (λ t. absurd (h (told r .0 t))) (λ t. refl);
+      nothing = λ r h. tested (λ z. z ≡ Nothing) (test r) _ _ (λ t. absurd (h (told r .0 t))) (λ t. refl);
     }
 
 -- the same, put in other words

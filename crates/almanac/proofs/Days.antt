@@ -12,7 +12,8 @@ use lib.Dec.{leb, ltb}
 use lib.ListN.{length, getD, List·getD-eq-default}
 use Rattle.meaning.specs.Calendar.{leap, monthLength, realDate, yearDays, monthDays}
 use Rattle.almanac.specs.Days.{Real}
-use Rattle.almanac.proofs.Tests.{lt-or-ge, both-true, all-four, cond-meets, cond-most}
+use Rattle.almanac.proofs.Tests.{lt-or-ge, both-true, all-four, cond-most}
+use Rattle.meaning.proofs.Either.{tested}
 
 -- MONTHS
 pub february : (y m : ℕ) (b : Bool) → m ≡ 2 → leap y ≡ b → cond b 29 28 ≡ monthLength y m
@@ -54,7 +55,7 @@ aMonth n = leb 28 n && leb n 31
 month-days : (y k : ℕ) → k < 12 → (28 ≤ monthLength y (suc k)) × (monthLength y (suc k) ≤ 31)
 unfolding monthLength
 month-days y k h =
-    let each = cond-meets (λ n. every aMonth (fromJanuary n) ≡ true) (leap y) {x = 29} {y = 28} (λ t. refl) (λ t. refl) in
+    let each = tested (λ n. every aMonth (fromJanuary n) ≡ true) (leap y) 29 28 (λ t. refl) (λ t. refl) in
     let e = both-true _ _ (every-at aMonth (fromJanuary (cond (leap y) 29 28)) each k h) in (leb-true _ _ (e .0), leb-true _ _ (e .1))
 
 pub month-most : (y m : ℕ) → monthLength y m ≤ 31

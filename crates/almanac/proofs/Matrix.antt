@@ -19,7 +19,8 @@ use Rattle.meaning.specs.Refusals.{Opened, opened, refused, openImage}
 use Rattle.meaning.specs.Calendar.{controlsOf, matrixAt, dayColumns, rowWidth, table54Size, cellAt, Found, found, missing, sized, seatsFound, calendarIn, calendar, matrixCell, matrixOf, matrixIn, matrixReply, matrixVerdictIn, matrixVerdict}
 use Rattle.meaning.specs.Numbers.{notACalendar}
 use Rattle.almanac.specs.Matrix.{cell, Fifteen, Shown, MatrixSays}
-use Rattle.almanac.proofs.Tests.{lt-or-ge, both-true, cond-meets, cond-most}
+use Rattle.almanac.proofs.Tests.{lt-or-ge, both-true, cond-most}
+use Rattle.meaning.proofs.Either.{tested}
 use Rattle.almanac.proofs.Build.{build-long, build-at}
 
 -- A LIST OF LISTS BUILT
@@ -68,7 +69,7 @@ width-most c h = omega (arith, days-most c)
 sized-sized : (o : ℕ) (a b : List ℕ) → AllSized (sized o a b)
 unfolding sized table54Size
 sized-sized o a b =
-    cond-meets AllSized (eqb (length a) 9 && eqb (length b) (table54Size (controlsOf o a))) {x = found o (controlsOf o a) b} {y = missing notACalendar}
+    tested AllSized (eqb (length a) 9 && eqb (length b) (table54Size (controlsOf o a))) (found o (controlsOf o a) b) (missing notACalendar)
     (λ e.
     let n = controls-few o a in
     record { rows = n .0; columns = width-most (controlsOf o a) (n .1); size = eqb-true _ _ (both-true (eqb (length a) 9) _ e .1) }) (λ e. tt)

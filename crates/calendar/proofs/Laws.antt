@@ -20,7 +20,8 @@ use Rattle.meaning.specs.declared.Place.{Place}
 use Rattle.meaning.specs.declared.Quantity.{Quantity}
 use Rattle.meaning.specs.Calendar.{realTime, weekdayOf, datesAt, switchesAt, matrixAt, dayColumns, rowWidth, table54Size, latest, datesOf, dayColumn, columnOn, missingSpecial, switchesOf, tierFrom, tierBySchedule, Found, found, missing, sized, seatsFound, calendarIn, calendar}
 use Rattle.meaning.proofs.Rules.{either-false}
-use Rattle.almanac.proofs.Tests.{both-true, cond-meets, cond-most}
+use Rattle.almanac.proofs.Tests.{both-true, cond-most}
+use Rattle.meaning.proofs.Either.{tested}
 use Rattle.almanac.proofs.Matrix.{row-inside, days-most}
 use Rattle.records.specs.declared.Wanted.{Wanted}
 use Rattle.records.specs.Records.{broughtTo, latestIn}
@@ -81,8 +82,8 @@ module _ (c : Controls) (day : ℕ) where
   weekday-column =
       elim (c .weekdays) as (λ b. cond b ((day + 1) % 7) (cond ((day + 1) % 7 =? 6) 0 (cond ((day + 1) % 7 =? 0) 1 2)) < cond b 7 3) [
         | true ↦ omega arith
-        | false ↦ cond-meets (λ n. n < 3) ((day + 1) % 7 =? 6) (λ e. omega arith)
-            (λ e. cond-meets (λ n. n < 3) ((day + 1) % 7 =? 0) (λ f. omega arith) (λ f. omega arith))
+        | false ↦ tested (λ n. n < 3) ((day + 1) % 7 =? 6) _ _ (λ e. omega arith)
+            (λ e. tested (λ n. n < 3) ((day + 1) % 7 =? 0) _ _ (λ f. omega arith) (λ f. omega arith))
       ]
 
   column-inside : (x : Chosen) → missingSpecial c x ≡ false → columnOn c day x < rowWidth c

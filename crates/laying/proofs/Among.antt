@@ -11,7 +11,7 @@ use native.Mathlib.Omega.{arith}
 use Rattle.meaning.specs.Basics.{_=?_}
 use Rattle.meaning.specs.Layout.{Placed, Seat, sameList, elementNamed, tableNamed}
 use Rattle.laying.specs.Every.{Every}
-use Rattle.laying.proofs.Either.{tested}
+use Rattle.meaning.proofs.Either.{tested}
 use Rattle.laying.proofs.Apart.{named-true}
 use Rattle.laying.proofs.Cover.{Lies, Consecutive, no-more, next, consecutive-fill}
 

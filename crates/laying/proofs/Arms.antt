@@ -11,7 +11,7 @@ use Rattle.laying.specs.Rows.{bodyRow, armsRow, walkBody, walkArms}
 use Rattle.laying.specs.Sizes.{Numbers, bodySize, armsSize}
 use Rattle.laying.specs.Sound.{Known, FitBody, FitArms, SoundBody, SoundArms}
 use Rattle.laying.proofs.Branches.{Within}
-use Rattle.laying.proofs.Either.{tested}
+use Rattle.meaning.proofs.Either.{tested}
 
 -- what is picked by a test, made of what is picked
 picked : {A : Type 0} (f : Inner → A) (b : Bool) (c e : Inner) {x : A} → x ≡ f e → (if b then f c else x) ≡ f (if b then c else e)

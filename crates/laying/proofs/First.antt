@@ -17,7 +17,7 @@ use Rattle.meaning.specs.Layout.{Seat, Layout, laidOut, stoppedAt, before, seat
 use Rattle.meaning.specs.Passed.{Passes, PassedLaws}
 use Rattle.meaning.proofs.Passed.{passed-laws}
 use Rattle.meaning.proofs.Ranges.{fields-range}
-use Rattle.laying.proofs.Either.{tested}
+use Rattle.meaning.proofs.Either.{tested}
 use Rattle.laying.proofs.Nodes.{node-cases}
 
 -- THE ELEMENTS

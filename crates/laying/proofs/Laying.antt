@@ -17,7 +17,7 @@ use Rattle.meaning.specs.Layout.{leafOctets, under, asElement, repeated, layBod
 use Rattle.laying.specs.Every.{Every}
 use Rattle.laying.specs.Names.{Differ, Apart}
 use Rattle.laying.specs.Own.{OfItem}
-use Rattle.laying.proofs.Either.{tested}
+use Rattle.meaning.proofs.Either.{tested}
 use Rattle.laying.proofs.Every.{every-map, every-append}
 use Rattle.laying.proofs.Apart.{apart-append}
 use Rattle.laying.proofs.Cover.{Consecutive, no-more, next, consecutive-append}

@@ -1,5 +1,4 @@
 pub mod Every
-pub mod Either
 pub mod Nodes
 pub mod Rising
 pub mod Steps

@@ -23,7 +23,7 @@ use Rattle.laying.specs.Sizes.{Numbers, value, bodySize, itemSize}
 use Rattle.laying.specs.Slots.{numberOf, octetsOf, numbersOf, Matches}
 use Rattle.laying.specs.Sound.{Known, noneKnown, setKnown, SoundBody, SoundNode, SoundArms, SoundTables, afterNode, afterBody}
 use Rattle.laying.proofs.Bodies.{quiet-body}
-use Rattle.laying.proofs.Either.{tested}
+use Rattle.meaning.proofs.Either.{tested}
 use Rattle.laying.proofs.Rising.{RisesBody, RisesNode, RisesArms, RisesTables, afterTable, rises-tree}
 use Rattle.laying.proofs.Rows.{Other, other-narrower, first-none, onward-none, over-none, over-absent, parted, first-alone}
 use Rattle.laying.proofs.Spots.{orElse, seen-none, seen-append, seen-one, row-onward, row-absent, row-first}

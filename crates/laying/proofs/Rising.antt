@@ -15,7 +15,7 @@ use Rattle.meaning.proofs.Ranges.{fields-range}
 use Rattle.laying.specs.Own.{OfItem}
 use Rattle.laying.specs.Tree.{innerAt, nodeAt}
 use Rattle.laying.proofs.Branches.{Within, branches-within}
-use Rattle.laying.proofs.Either.{tested}
+use Rattle.meaning.proofs.Either.{tested}
 use Rattle.laying.proofs.Nodes.{node-cases}
 
 module _ (d : List ℕ) where

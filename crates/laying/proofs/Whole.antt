@@ -20,7 +20,7 @@ use Rattle.laying.specs.Sizes.{Numbers, value, bodySize, itemSize, armsS
 use Rattle.laying.specs.Slots.{numberOf, octetsOf, numbersOf, Matches}
 use Rattle.laying.specs.Sound.{Known, GoodReference, SoundBody, SoundNode, SoundArms}
 use Rattle.laying.proofs.Bodies.{quiet-node}
-use Rattle.laying.proofs.Either.{tested}
+use Rattle.meaning.proofs.Either.{tested}
 use Rattle.laying.proofs.Every.{every-append}
 use Rattle.laying.proofs.Rising.{RisesBody, RisesNode, RisesArms}
 use Rattle.laying.proofs.Rows.{Other, other-narrower, first-none, onward-none, array-none, over-none, over-absent, parted, first-alone}

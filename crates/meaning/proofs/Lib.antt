@@ -1,3 +1,4 @@
+pub mod Either
 pub mod Computing
 pub mod Examples
 pub mod Unpassed

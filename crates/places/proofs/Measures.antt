@@ -2,17 +2,16 @@
 -- what it comes to. Assumes nothing.
 use Prim.Native.Nat.{ℕ, zero, suc, _+_, _-_, _*_, _<_, _≤_}
 use mathlib.Core.Path.{_≡_, refl, _∙_, ap, ap₂, sym, subst}
-use mathlib.Core.Bool.{Bool, true, false, false≢true}
+use mathlib.Core.Bool.{Bool, true, false}
 use mathlib.Core.List.{List, []}
-use borrow.Author.Tests.{eq-eqb, eqb-false, le-ltb}
+use borrow.Author.Tests.{eq-eqb, le-ltb}
 use native.Mathlib.Omega.{arith}
 use Rattle.meaning.specs.Basics.{if_then_else_, _=?_}
 use Rattle.meaning.specs.declared.Fields.{Fields}
 use Rattle.meaning.specs.declared.Inner.{Inner}
-use Rattle.meaning.specs.Description.{fieldsAt, nests, isArray, isChoice, nested, count}
+use Rattle.meaning.specs.Description.{fieldsAt, nests, isChoice, nested, count}
 use Rattle.meaning.specs.Layout.{Body, done, more, branchesOf, taken, bodyIn, onlyBody, nodeOf, leafOctets, bodyAt}
 use Rattle.meaning.proofs.Ranges.{fields-range}
-use Rattle.meaning.proofs.Rules.{either-false}
 use Rattle.laying.specs.Rows.{row, noRow, firstRow, onward, bodyRow, itemRow}
 use Rattle.laying.specs.Rows as def
 use Rattle.laying.specs.Sizes.{Numbers, value, bodySize, itemSize}
@@ -20,7 +19,7 @@ use Rattle.laying.specs.Sound.{FitBody, FitNode}
 use Rattle.laying.specs.Tree.{innerAt, nodeAt}
 use Rattle.laying.proofs.Arms.{taken-size, taken-row, taken-fit, taken-within}
 use Rattle.laying.proofs.Branches.{branches-within}
-use Rattle.laying.proofs.Nodes.{node-cases, choice-no-array}
+use Rattle.laying.proofs.Nodes.{node-cases, choice-no-array, leaf-is, array-is, choice-is}
 use Rattle.laying.proofs.Rows.{first-none-right, first-assoc, onward-first, onward-twice, onward-nothing}
 use Rattle.laying.proofs.Steps.{body-none, body-step}
 use Rattle.places.specs.declared.measure.Sized.{Sized}
@@ -176,14 +175,8 @@ module _ (d numbers : List ℕ) (at k i : ℕ) (ready : ItemReady d numbers at k
 
   -- a UINT, BLOCK or SET
   pub leaf-measured : nests f ≡ false → SpanAs k (leafSpan f x at i) (itemSize (nodeIn k d at) w) (itemRow (nodeIn k d at) w i)
-  unfolding FitNode itemSize itemRow leafSpan saying cutRow cutArrays levels
-  leaf-measured other =
-      node-cases (λ t. FitNode t → SpanAs k (leafSpan f x at i) (itemSize t w) (itemRow t w i)) (innerAt k d) d at (nested f)
-      (λ lost h. absurd h)
-      (λ l two four h. record { size-is = refl; row-as = go (at =? i) })
-      (λ l five h. absurd (eqb-false (f .kind) 5 (either-false (isArray f) (isChoice f) other .0) five))
-      (λ l choice h. absurd (false≢true (sym (either-false (isArray f) (isChoice f) other .1) ∙ choice)))
-      (ready .fit)
+  unfolding itemSize itemRow leafSpan saying cutRow cutArrays levels
+  leaf-measured other = rw (leaf-is (innerAt k d) d at (nested f) other (ready .fit)) (record { size-is = refl; row-as = go (at =? i) })
     where
       go : (b : Bool) → RowAs k (alone (if b then There 0 (leafOctets f x) else Nowhere)) (if b then row 0 (leafOctets f x) [] else noRow)
       go true = record { says = refl; few = as-none k .few }
@@ -230,31 +223,23 @@ module _ (d numbers : List ℕ) (at k i : ℕ) (ready : ItemReady d numbers at k
       pub array-measured : f .kind ≡ 5 → SpanAs k (arraySpan x b) (itemSize (nodeIn k d at) w) (itemRow (nodeIn k d at) w i)
       unfolding FitNode itemSize itemRow innerOf
       array-measured five =
-          node-cases (λ t. FitNode t → SpanAs k (arraySpan x b) (itemSize t w) (itemRow t w i)) (innerAt k d) d at (nested f)
-          (λ lost g. absurd g)
-          (λ l two four g. absurd (not-leaf two four))
-          (λ l five g.
+          let is = array-is (innerAt k d) d at (nested f) five (ready .fit) in
           let m : BodyAs d numbers (at + 1 + 0) (f .first) (k - 1) i b = rw (eq-eqb (f .kind) 5 five) at h in
           let body = bodyAt (k - 1) d (at + 1 + 0) (f .first) in
-          rw (inner-fit d k _ _ g .1)
+          rw (is, inner-fit d k _ _ (subst FitNode is (ready .fit)) .1)
           (record {
             size-is = ap (λ (s : ℕ). cut (x * s)) (m .size-is) ∙ cut-mul x (bodySize body w);
             row-as = rw (m .size-is) (as-array (k - 1) k x (bodySize body w) (b .row) (bodyRow body w i) (omega (arith, deeper)) (ready .deep) (m .row-as));
-          }))
-          (λ l choice g. absurd (false≢true (rw five at choice)))
-          (ready .fit)
+          })
 
       -- a choice only the body taken
       pub choice-measured : isChoice f ≡ true → SpanAs k (choiceSpan (at + 1) (nested f) i b) (itemSize (nodeIn k d at) w) (itemRow (nodeIn k d at) w i)
       unfolding FitNode itemSize itemRow innerOf
       choice-measured choice =
-          node-cases (λ t. FitNode t → SpanAs k (choiceSpan (at + 1) (nested f) i b) (itemSize t w) (itemRow t w i)) (innerAt k d) d at (nested f)
-          (λ lost g. absurd g)
-          (λ l two four g. absurd (not-leaf two four))
-          (λ l five g. absurd (false≢true (rw five at choice)))
-          (λ l choice g.
           let arms = branchesOf d at in
+          let below = innerAt k d in
+          let is = choice-is below d at (nested f) choice (ready .fit) in
+          let fit = taken-fit below at x arms (subst FitNode is (ready .fit)) in
           let m : BodyAs d numbers (at + 1 + taken arms x .skip) (taken arms x .items) (k - 1) i b = rw (choice-no-array f choice) at h in
-          rw (taken-size (innerAt k d) at x arms w, taken-row (innerAt k d) at x arms w i, inner-fit d k _ _ (taken-fit (innerAt k d) at x arms g) .1)
-          (record { size-is = m .size-is; row-as = as-first k (b .row) _ _ _ (as-wider (k - 1) k (b .row) _ (omega arith) (m .row-as)) (over-as k at f i) }))
-          (ready .fit)
+          rw (is, taken-size below at x arms w, taken-row below at x arms w i, inner-fit d k _ _ fit .1)
+          (record { size-is = m .size-is; row-as = as-first k (b .row) _ _ _ (as-wider (k - 1) k (b .row) _ (omega arith) (m .row-as)) (over-as k at f i) })

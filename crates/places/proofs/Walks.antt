@@ -1,7 +1,7 @@
 -- The walk over a table goes as laying out does: over a piece, through the body that a choice takes, and from item to item of a body. Assumes nothing.
 use Prim.Native.Nat.{ℕ, zero, suc, _+_, _-_, _<_, _≤_, min, max}
 use mathlib.Core.Path.{_≡_, refl, _∙_, ap, ap₂, sym, subst, fun-ext}
-use mathlib.Core.Bool.{Bool, true, false, cond, _&&_, _||_, or-true, true≢false, false≢true}
+use mathlib.Core.Bool.{Bool, true, false, cond, _&&_, _||_, true≢false}
 use mathlib.Core.List.{List, [], _∷_}
 use lib.Dec.{eqb, ltb}
 use lib.ListN.{length, getD, set}
@@ -11,7 +11,7 @@ use native.Mathlib.Omega.{arith}
 use Rattle.meaning.specs.Basics.{_<?_}
 use Rattle.meaning.specs.declared.Fields.{Fields}
 use Rattle.meaning.specs.declared.Inner.{Inner}
-use Rattle.meaning.specs.Description.{fieldsAt, isArray, isChoice, nests, nested, count}
+use Rattle.meaning.specs.Description.{fieldsAt, isChoice, nests, nested}
 use Rattle.meaning.specs.Layout.{Node, branchesOf, taken, bodyIn, bodyAt, Slots, holds, setSlot, numberAt, Placed, fault, short}
 use Rattle.meaning.specs.Layout.{Laid, laid, stopped, inImage, placed, layBody, layNode}
 use Rattle.meaning.specs.Refusals.{anyDimension}
@@ -24,10 +24,9 @@ use Rattle.laying.specs.Slots.{numberOf, numbersOf}
 use Rattle.laying.specs.Sound.{Known, FitNode, SoundNode}
 use Rattle.laying.specs.Tree.{innerAt}
 use Rattle.meaning.proofs.Ranges.{fields-range}
-use Rattle.meaning.proofs.Rules.{either-false}
 use Rattle.places.proofs.Held.{holds-one}
 use Rattle.laying.proofs.Arms.{taken-lay, taken-walk, taken-fit, taken-sound}
-use Rattle.laying.proofs.Nodes.{node-cases}
+use Rattle.laying.proofs.Nodes.{leaf-is, array-is, choice-is}
 use Rattle.laying.proofs.Rising.{RisesNode, rises-at}
 use Rattle.laying.proofs.Rows.{first-assoc, onward-first, onward-twice, over-still}
 use Rattle.laying.proofs.Whole.{Spots, Whole, w-array, w-body, value-is}
@@ -148,20 +147,14 @@ module _ (d img : List ℕ) (a : Aim) (w : Walk) (depth : ℕ) (next : Cursor) (
   -- a UINT, BLOCK or SET
   pub leaf-comes : nests f ≡ false → (piece : Span) → SpanAs 4 piece (itemSize t (numbersIn (w .numbers))) (itemRow t (numbersIn (w .numbers)) (a .wanted))
       → Comes (stepOf img a w piece (f .sets) next)
-  unfolding FitNode SoundNode walkNode layNode itemSize placed
+  unfolding SoundNode walkNode layNode itemSize placed
   leaf-comes other piece said s κ free before from sound =
-      node-cases (λ t. FitNode t → SoundNode free κ t → SpanAs 4 piece (itemSize t (numbersIn (w .numbers))) (itemRow t (numbersIn (w .numbers)) (a .wanted))
-      → Ends a before (w .held) (stepOf img a w piece (f .sets) next) (walkNode t img s (place a w) (a .wanted)) (layNode t img false s (place a w)))
-      (innerAt depth d) d at (nested f)
-      (λ lost g. absurd g)
-      (λ l two four g h said.
-      rw (value-is s κ f at _ (from .matches) (h .refers), from .numbers)
-      (piece-ends img a w piece (f .sets) next _ _ before (ready .ready .small) (ready .ready .inside) said (from .row-as) at _ _ refl
+      let is = leaf-is (innerAt depth d) d at (nested f) other (ready .fit) in
+      let h = subst (SoundNode free κ) is sound in
+      rw (is, value-is s κ f at _ (from .matches) (h .refers), from .numbers)
+      (piece-ends img a w piece (f .sets) next _ _ before (ready .ready .small) (ready .ready .inside) (rw is at said) (from .row-as) at _ _ refl
       (noted-numbers img (w .numbers) s (f .sets) (place a w) _ (omega (arith, ready .ready .slots, fields-range d at .sets)) (from .numbers))
-      (λ x m. holds-one x m _)))
-      (λ l five g. absurd (eqb-false (f .kind) 5 (either-false (isArray f) (isChoice f) other .0) five))
-      (λ l choice g. absurd (false≢true (sym (either-false (isArray f) (isChoice f) other .1) ∙ choice)))
-      (ready .fit) sound said
+      (λ x m. holds-one x m _))
 
   -- what is laid whole and sets no slot
   whole-ends : (piece : Span) (s : Slots) (before : def.Row) → numbersOf s ≡ numbersIn (w .numbers) → RowAs 4 (w .row) before → (n : ℕ) (r : def.Row) (g : Spots) (o : Laid)
@@ -176,23 +169,18 @@ module _ (d img : List ℕ) (a : Aim) (w : Walk) (depth : ℕ) (next : Cursor) (
   -- an ARRAY
   pub array-comes : f .kind ≡ 5 → (piece : Span) → SpanAs 4 piece (itemSize t (numbersIn (w .numbers))) (itemRow t (numbersIn (w .numbers)) (a .wanted))
       → Comes (stepOf img a w piece 0 next)
-  unfolding FitNode SoundNode RisesNode walkNode layNode itemSize itemRow
+  unfolding SoundNode RisesNode walkNode layNode itemSize itemRow
   array-comes five piece said s κ free before from sound =
-      node-cases (λ t. FitNode t → RisesNode d 0 at (at + 1 + nested f) t → SoundNode free κ t
-      → SpanAs 4 piece (itemSize t (numbersOf s)) (itemRow t (numbersOf s) (a .wanted))
-      → Ends a before (w .held) (stepOf img a w piece 0 next) (walkNode t img s (place a w) (a .wanted)) (layNode t img false s (place a w)))
-      (innerAt depth d) d at (nested f)
-      (λ lost g. absurd g)
-      (λ l two four g. absurd (omega arith))
-      (λ l e g rises h said.
+      let is = array-is (innerAt depth d) d at (nested f) five (ready .fit) in
+      let h = subst (SoundNode free κ) is sound in
       let m = from .matches in
+      let v = numbersOf s in
       let body = innerAt depth d (at + 1 + 0) (f .first) in
-      rw (value-is s κ f at _ m (h .0))
-      (whole-ends piece s before (from .numbers) (from .row-as) _ _ (λ j xs. rowSpot (inArray (value (numbersOf s) f) (bodySize body (numbersOf s)) (bodyRow body (numbersOf s) j)) xs) _ said
-      (w-array s (λ t q. layBody body img true t q) (bodySize body (numbersOf s)) (λ j. bodyRow body (numbersOf s) j)
-      (λ q. w-body d img s κ m body 1 at (at + 1 + nested f) q (h .1) rises) at (value (numbersOf s) f) (place a w))))
-      (λ l choice g. absurd (false≢true (rw five at choice)))
-      (ready .fit) rises sound (subst (λ (v : Numbers). SpanAs 4 piece (itemSize t v) (itemRow t v (a .wanted))) (sym (from .numbers)) said)
+      rw (is, value-is s κ f at _ m (h .0))
+      (whole-ends piece s before (from .numbers) (from .row-as) _ _ (λ j xs. rowSpot (inArray (value v f) (bodySize body v) (bodyRow body v j)) xs) _
+      (rw (← from .numbers, is) at said)
+      (w-array s (λ t q. layBody body img true t q) (bodySize body v) (λ j. bodyRow body v j)
+      (λ q. w-body d img s κ m body 1 at (at + 1 + nested f) q (h .1) (subst (RisesNode d 0 at (at + 1 + nested f)) is rises)) at (value v f) (place a w)))
     where
       rises : RisesNode d 0 at (at + 1 + nested f) t
       rises = rises-at d depth 0 at (nested f) at (at + 1 + nested f) (omega (arith, ready .ready .deep)) (omega (arith, ready .there))
@@ -214,24 +202,21 @@ module _ (d img : List ℕ) (a : Aim) (w : Walk) (depth : ℕ) (next : Cursor) (
       choice-ends : (s : Slots) (κ : Known) (free : Bool) (before : def.Row) → From s κ w before → SoundNode free κ t → ByBody inner s before t
       unfolding FitNode SoundNode walkNode layNode
       choice-ends s κ free before fr sound =
-          node-cases (λ t. FitNode t → SoundNode free κ t → ByBody inner s before t) (innerAt depth d) d at (nested f)
-          (λ lost g. absurd g)
-          (λ l two four g. let one : count (nests f) ≡ 1 = rw (choice, or-true) in absurd (omega (arith, fields-range d at .single two four)))
-          (λ l five g. absurd (false≢true (rw five at choice)))
-          (λ l choice g sound.
           let arms = branchesOf d at in
           let below = innerAt depth d in
           let body = bodyAt (depth - 1) d (at + 1 + c .skip) (c .items) in
-          let is : bodyIn below at c ≡ body = inner-fit d depth _ _ (taken-fit below at x arms g) .1 in
+          let node = choice-is below d at (nested f) choice (ready .fit) in
+          let h′ = subst (SoundNode free κ) node sound in
+          let is : bodyIn below at c ≡ body = inner-fit d depth _ _ (taken-fit below at x arms (subst FitNode node (ready .fit))) .1 in
           let v = ap (λ (v : Numbers). value v f) (fr .numbers) in
           let ends = h .ends s κ false before (record { numbers = fr .numbers; matches = fr .matches; row-as = fr .row-as })
-          (rw (starts, ← is) (taken-sound below at x κ arms (sound .1))) in
-          record {
+          (rw (starts, ← is) (taken-sound below at x κ arms (h′ .1))) in
+          rw node
+          (record {
             row = walkBody body img s (place a w) (a .wanted);
-            ends = rw (value-is s κ f at _ (fr .matches) (sound .0), v, taken-lay below at x arms img false s (place a w), is) (rw starts at ends);
+            ends = rw (value-is s κ f at _ (fr .matches) (h′ .0), v, taken-lay below at x arms img false s (place a w), is) (rw starts at ends);
             is = rw (v, taken-walk below at x arms img s (place a w) (a .wanted), is);
           })
-          (ready .fit) sound
 
       pub choice-short : inner .short ≡ true → Comes inner
       choice-short e s κ free before fr sound =

@@ -24,6 +24,7 @@ ghost use Rattle.laying.specs.Sizes.{value};
 ghost use Rattle.places.specs.Rows.{Few, alone};
 ghost use Rattle.places.specs.Measuring.{numbersIn, innerOf, overStands, leafSpan, joined, arraySpan, choiceSpan, BodyReady, ItemReady, BodyAs, ItemAs};
 
+// The kind that descriptions give an ARRAY.
 const ARRAY: u32 = 5;
 
 // WHAT AN ITEM COMES TO

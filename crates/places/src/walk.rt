@@ -29,6 +29,7 @@ ghost use Rattle.laying.specs.Sizes.{value};
 ghost use Rattle.places.specs.Measuring.{numbersIn};
 ghost use Rattle.places.specs.Walking.{Readable, noted, meets, StepReady, stepOf, elsewhere, pastChoice, WalkItemReady, WalksItem, WalkBodyReady, WalksBody};
 
+// The kind that descriptions give an ARRAY.
 const ARRAY: u32 = 5;
 
 // The numbers of the slots with the one that a dimension sets.
