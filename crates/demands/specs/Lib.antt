@@ -1,3 +1,5 @@
+pub mod Rules
+pub mod Calendar
 pub mod Demand3
 pub mod Demand2
 pub mod Wrong

@@ -1,0 +1,78 @@
+-- THE CALENDAR over the octets of tables 51 and 54, in the words of document 01's section of that name: which record chooses what, up to the tier, and the matrix cell by cell.
+-- What a table's octets say is read by `controlsOf`, `datesOf` and `switchesOf` (crate meaning, specs/Calendar), which record is chosen is said by crate almanac. proofs/Calendar.antt proves
+-- the statements of our replies, for every description and image. Assumes nothing.
+use Prim.Native.Nat.{ℕ, _+_, _*_, _<_}
+use mathlib.Core.Path.{_≡_}
+use mathlib.Core.Bool.{true, false}
+use mathlib.Core.List.{List}
+use lib.ListN.{getD}
+use Rattle.meaning.specs.declared.Controls.{Controls}
+use Rattle.meaning.specs.declared.Moment.{Moment}
+use Rattle.meaning.specs.declared.Quantity.{Quantity}
+use Rattle.meaning.specs.declared.Refusal.{Refusal}
+use Rattle.meaning.specs.declared.Reply.{Reply}
+use Rattle.meaning.specs.declared.Triple.{Triple}
+use Rattle.meaning.specs.declared.Verdict.{Verdict}
+use Rattle.meaning.specs.Calendar.{realDate, realTime, dayNumber, weekdayOf, controlsOf, matrixAt, dayColumns, rowWidth, datesOf, switchesOf, dayColumn}
+use Rattle.meaning.specs.Passed.{Exactly}
+use Rattle.almanac.specs.Latest.{_among_}
+use Rattle.almanac.specs.Choices.{SeasonChosen, SelectsSpecial, SpecialChosen, Switches, SwitchChosen}
+use Rattle.almanac.specs.Matrix.{cell, Fifteen, Shown}
+
+-- THE SCHEDULE ON A DAY, by what Table 51 says (c), the octets of Table 54 (t) and its dates
+-- the column: that of the special schedule of the day, which has one; else that of the weekday
+pub record ColumnOn (c : Controls) (day : ℕ) (dates : List Triple) (column : ℕ) : Type 0 where
+  pub special : (w k : ℕ) → SpecialChosen day dates w k → (k < c .specials) × (column ≡ dayColumns c + k)
+  pub weekday : ((r : Triple) → r among dates → SelectsSpecial day r → ⊥) → column ≡ dayColumn c (weekdayOf day)
+
+-- the schedule number is the matrix entry: in the row of the season chosen by that day, which has one, and that column
+pub record ScheduleOn (c : Controls) (t : List ℕ) (day : ℕ) (dates : List Triple) (n : ℕ) : Type 0 where
+  pub from : ℕ
+  pub season : ℕ
+  pub chosen : SeasonChosen day dates from season
+  pub row : season < c .seasons
+  pub column : ℕ
+  pub is : ColumnOn c day dates column
+  pub entry : getD t (matrixAt c + season * rowWidth c + column) 0 ≡ n
+
+-- THE TIER, where a calendar can be had: a real date and time, and SEASON_CHNG_ARMED_FLAG isn't set
+pub record Answerable (c : Controls) (had : Verdict) (w : Moment) : Type 0 where
+  pub calendar : had ≡ Verdict.Passed
+  pub date : realDate (w .year) (w .month) (w .day) ≡ true
+  pub time : realTime (w .hour) (w .minute) ≡ true
+  pub unarmed : c .armed ≡ false
+
+module _ (o : ℕ) (c : Controls) (t : List ℕ) (had : Verdict) (w : Moment) (q : Quantity) where
+  -- the schedule that holds at that date
+  pub record Scheduled : Type 0 where
+    pub answerable : Answerable c had w
+    pub schedule : ℕ
+    pub on : ScheduleOn c t (dayNumber (w .year) (w .month) (w .day)) (datesOf o c t) schedule
+
+  -- tier x is that of the latest switch of that schedule at or before the time
+  pub record TierIs (x : ℕ) : Type 0 where
+    pub scheduled : Scheduled
+    pub time : ℕ
+    pub switch : SwitchChosen (c .separate) q (scheduled .schedule) (60 * w .hour + w .minute) (switchesOf o c t) time x
+
+  -- no such switch: none yet today
+  pub record NoneYetToday : Type 0 where
+    pub scheduled : Scheduled
+    pub none : (r : Triple) → r among switchesOf o c t → Switches (c .separate) q (scheduled .schedule) (60 * w .hour + w .minute) r → ⊥
+
+  pub record TierAnswers (reply : Reply) : Type 0 where
+    pub tier : (x : ℕ) → Exactly (reply ≡ Reply.Tier x) (TierIs x)
+    pub none : Exactly (reply ≡ Reply.NoneYet) NoneYetToday
+
+-- by the octets of the two tables, in that DATA_ORDER; `had` is the reply to whether the matrix can be had
+abbrev pub TierSays : (order : ℕ) → (table51 table54 : List ℕ) → (had : Verdict) → Moment → Quantity → Reply → Type 0
+TierSays o a b had w q reply = TierAnswers o (controlsOf o a) b had w q reply
+
+-- THE MATRIX, over the same octets: fifteen rows of twenty-two; each cell is Table 54's own, unused ones are 0, and all are on refusal. Cells lent to be written hold it
+-- afterwards; a refused call changes none of them
+pub record MatrixSays (o : ℕ) (table51 table54 : List ℕ) (had : Verdict) (matrix : List (List ℕ)) (lentAfter : List (List ℕ) → List (List ℕ)) : Type 0 where
+  pub fifteen : Fifteen matrix
+  pub shown : had ≡ Verdict.Passed → Shown (controlsOf o table51) table54 matrix
+  pub refused : (r : Refusal) → had ≡ Verdict.Refused r → (row column : ℕ) → cell matrix row column ≡ 0
+  pub written : had ≡ Verdict.Passed → (lent : List (List ℕ)) → lentAfter lent ≡ matrix
+  pub unchanged : (r : Refusal) → had ≡ Verdict.Refused r → (lent : List (List ℕ)) → lentAfter lent ≡ lent
