@@ -1,3 +1,4 @@
+pub mod Walk
 pub mod Rules
 pub mod Calendar
 pub mod Demand3
