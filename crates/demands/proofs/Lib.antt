@@ -1,3 +1,5 @@
+pub mod Around
+pub mod Naming
 pub mod Outcomes
 pub mod Elements
 pub mod Tables

@@ -14,7 +14,7 @@ use Rattle.laying.proofs.Branches.{Within}
 use Rattle.meaning.proofs.Either.{tested}
 
 -- what is picked by a test, made of what is picked
-picked : {A : Type 0} (f : Inner → A) (b : Bool) (c e : Inner) {x : A} → x ≡ f e → (if b then f c else x) ≡ f (if b then c else e)
+pub picked : {A : Type 0} (f : Inner → A) (b : Bool) (c e : Inner) {x : A} → x ≡ f e → (if b then f c else x) ≡ f (if b then c else e)
 picked f true c e h = refl
 picked f false c e h = h
 

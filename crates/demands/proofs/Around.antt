@@ -1,0 +1,90 @@
+-- The ARRAYs and IFs round an item, by where the search for them starts: at an item that encloses it or not, past items that end before it; and of a passed description, item by
+-- item and body by body. Assumes nothing.
+use Prim.Native.Nat.{ℕ, zero, suc, _+_, _-_, _<_, _≤_}
+use mathlib.Core.Path.{_≡_, refl, _∙_, ap, sym}
+use mathlib.Core.Bool.{Bool, true, false, _&&_, and-false}
+use mathlib.Core.List.{List, [], _∷_, _++_}
+use borrow.Author.Tests.{lt-ltb, le-ltb}
+use native.Mathlib.Decide.{decLt}
+use native.Mathlib.Omega.{arith}
+use Rattle.meaning.specs.Basics.{if_then_else_, _<?_}
+use Rattle.meaning.specs.Description.{itemCount, fieldsAt, nests, nested}
+use Rattle.meaning.specs.Passed.{BodiesNest, endOf}
+use Rattle.meaning.proofs.Either.{tested}
+use Rattle.laying.specs.Every.{Every}
+use Rattle.laying.proofs.Every.{every-map}
+use Rattle.demands.specs.Walk.{encloses, nestsIn, nestsRound}
+
+module _ (d : List ℕ) where
+  -- those from item `at` on
+  abbrev pub nestsFrom : (at i : ℕ) → List ℕ
+  nestsFrom at i = nestsIn d (i - at) at i
+
+  pub round-from : (i : ℕ) → nestsFrom 0 i ≡ nestsRound d i
+  round-from i = let e : i - 0 ≡ i = omega arith in rw e
+
+  pub from-here : (i : ℕ) → nestsFrom i i ≡ []
+  unfolding nestsIn
+  from-here i = let e : i - i ≡ 0 = omega arith in rw e
+
+  -- item `at` first, then those after it
+  from-next : (at i : ℕ) → at < i → nestsFrom at i ≡ (if nests (fieldsAt d at) && encloses d at i then at ∷ nestsFrom (at + 1) i else nestsFrom (at + 1) i)
+  unfolding nestsIn
+  from-next at i l = let e : i - at ≡ suc (i - (at + 1)) = omega arith in rw e
+
+  pub encloses-yes : (j i : ℕ) → j < i → i < endOf d j → encloses d j i ≡ true
+  unfolding encloses
+  encloses-yes j i a b = rw (lt-ltb j i a, lt-ltb i (endOf d j) b)
+
+  pub encloses-no : (j i : ℕ) → endOf d j ≤ i → encloses d j i ≡ false
+  unfolding encloses
+  encloses-no j i h = rw (le-ltb i (endOf d j) h, and-false (j <? i))
+
+  -- an ARRAY or IF that encloses the item
+  pub from-nest : (at i : ℕ) → nests (fieldsAt d at) ≡ true → at < i → i < endOf d at → nestsFrom at i ≡ at ∷ nestsFrom (at + 1) i
+  from-nest at i n a b = from-next at i a ∙ rw (n, encloses-yes at i a b)
+
+  -- what is no ARRAY or IF
+  pub from-other : (at i : ℕ) → nests (fieldsAt d at) ≡ false → at < i → nestsFrom at i ≡ nestsFrom (at + 1) i
+  from-other at i n a = from-next at i a ∙ rw n
+
+  -- items that end by it
+  pub from-past : (k at i : ℕ) → at + k ≤ i → ((j : ℕ) → at ≤ j → j < at + k → endOf d j ≤ i) → nestsFrom at i ≡ nestsFrom (at + k) i
+  from-past zero at i l h = let e : at + 0 ≡ at = omega arith in rw e
+  from-past (suc k) at i l h =
+      let e : at + suc k ≡ at + 1 + k = omega arith in
+      from-next at i (omega arith)
+      ∙ rw (encloses-no at i (h at (omega arith) (omega arith)), and-false (nests (fieldsAt d at)), e) (from-past k (at + 1) i (omega arith) (λ j a b. h j (omega arith) (omega arith)))
+
+  -- they stand from there up to it
+  pub from-range : (k at i : ℕ) → i ≡ at + k → Every (λ j. (at ≤ j) × (j < i)) (nestsFrom at i)
+  unfolding Every
+  from-range zero at i e = let z : i ≡ at = omega arith in rw (z, from-here at) tt
+  from-range (suc k) at i e =
+      let rest = every-map (λ j. (at + 1 ≤ j) × (j < i)) (λ j. (at ≤ j) × (j < i)) (λ j h. (omega (arith, h .0), h .1)) (nestsFrom (at + 1) i) (from-range k (at + 1) i (omega arith)) in
+      rw (from-next at i (omega arith))
+      (tested (Every (λ j. (at ≤ j) × (j < i))) (nests (fieldsAt d at) && encloses d at i) _ _ (λ t. ((omega arith, omega arith), rest)) (λ t. rest))
+
+  -- OF A PASSED DESCRIPTION
+  module _ (nest : BodiesNest d) where
+    -- what stands in an item ends with it
+    pub nested-ends : (at j : ℕ) → endOf d at ≤ itemCount d → at ≤ j → j < endOf d at → endOf d j ≤ endOf d at
+    nested-ends at j whole a b = go (decLt at j) (decLt j (at + 1 + fieldsAt d at .first))
+      where
+        go : Dec (at < j) → Dec (j < at + 1 + fieldsAt d at .first) → endOf d j ≤ endOf d at
+        go (no x) y = let z : j ≡ at = omega arith in rw z (omega arith)
+        go (yes x) (yes y) = omega (arith, nest .first at j (omega arith) x y)
+        go (yes x) (no y) = nest .second at j (omega arith) (omega arith) b
+
+    -- after an item and what stands in it
+    pub from-after : (at i : ℕ) → endOf d at ≤ itemCount d → endOf d at ≤ i → nestsFrom at i ≡ nestsFrom (endOf d at) i
+    from-after at i whole l =
+        let e : at + (1 + nested (fieldsAt d at)) ≡ endOf d at = omega arith in
+        from-past (1 + nested (fieldsAt d at)) at i (omega arith) (λ j a b. omega (arith, nested-ends at j whole a (omega arith))) ∙ rw e
+
+    -- in the second body of an IF
+    pub from-second : (at i : ℕ) → nests (fieldsAt d at) ≡ true → endOf d at ≤ itemCount d → at + 1 + fieldsAt d at .first ≤ i → i < endOf d at
+        → nestsFrom at i ≡ at ∷ nestsFrom (at + 1 + fieldsAt d at .first) i
+    from-second at i n whole a b =
+        from-nest at i n (omega arith) b
+        ∙ ap (λ (js : List ℕ). at ∷ js) (from-past (fieldsAt d at .first) (at + 1) i a (λ j x y. omega (arith, nest .first at j (omega arith) (omega arith) y)))
