@@ -37,7 +37,7 @@ by-test {Holds} test when brings told =
     }
 
 -- the same, put in other words
-put : {A B C : Type 0} → Exactly A B → (B → C) → (C → B) → Exactly A C
+pub put : {A B C : Type 0} → Exactly A B → (B → C) → (C → B) → Exactly A C
 put e there back = (λ a. there (e .0 a), λ c. e .1 (back c))
 
 -- one that counts is chosen, and brings x from w on

@@ -17,4 +17,7 @@ pub mod Known
 pub mod FirstGiven
 pub mod Demand1
 pub mod Demands
+pub mod Told
+pub mod Surrounds
+pub mod Rules
 pub mod Unique
