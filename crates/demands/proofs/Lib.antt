@@ -8,6 +8,7 @@ pub mod Writes
 pub mod Allowed
 pub mod RangeWrites
 pub mod ElementWrites
+pub mod Calendar
 pub mod Demand3
 pub mod Demand2
 pub mod Wrong

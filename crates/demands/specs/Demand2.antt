@@ -23,12 +23,13 @@ use Rattle.meaning.specs.declared.Place.{Place}
 use Rattle.meaning.specs.declared.Reply.{Reply}
 use Rattle.meaning.specs.Description.{itemCount, fieldsAt, isTable, isUint, isDimension, isTableNamed}
 use Rattle.meaning.specs.Passed.{Exactly}
-use Rattle.meaning.specs.Layout.{numberAt}
+use Rattle.meaning.specs.Layout.{dataOrder, numberAt}
+use Rattle.meaning.specs.Calendar.{matrixReply, matrixVerdict, cellsAfter}
 use Rattle.meaning.specs.Refusals.{tablePlaceReply, elementPlaceReply, tablePartReply, elementPartReply, elementNumberReply, writable, writeRangeReply}
 use Rattle.meaning.specs.Refusals.{writeRangeImage, writeOctetsReply, writeOctetsImage, writeNumberReply, writeNumberImage}
 use Rattle.almanac.specs.Choices.{SeasonSays, SpecialSays, SwitchSays}
 use Rattle.almanac.specs.Days.{Days}
-use Rattle.almanac.specs.Matrix.{MatrixSays}
+use Rattle.demands.specs.Calendar.{MatrixSays}
 use Rattle.demands.specs.Demand3.{Holds, InBody}
 
 -- n octets from octet p on
@@ -124,7 +125,8 @@ pub record Calendar (d img : List ℕ) : Type 0 where
   pub season : (day : ℕ) (dates : List Triple) → SeasonSays day dates
   pub special : (day : ℕ) (dates : List Triple) → SpecialSays day dates
   pub switches : (separate : Bool) (q : Quantity) (schedule minute : ℕ) (switches : List Triple) → SwitchSays separate q schedule minute switches
-  pub matrix : MatrixSays d img
+  pub matrix : MatrixSays (dataOrder img) (tablePartReply d img 0 51) (tablePartReply d img 0 54) (matrixVerdict d img) (matrixReply d img)
+      (cellsAfter (matrixVerdict d img) (matrixReply d img))
 
 -- ALL OF IT
 pub record Demand2 (d img : List ℕ) : Type 0 where
