@@ -1,6 +1,6 @@
--- The matrix, cell by cell, is what specs/Matrix.antt says. Assumes nothing.
+-- Where a calendar is found, and the matrix, cell by cell, as specs/Matrix.antt says. Assumes nothing.
 use Prim.Native.Nat.{ℕ, _+_, _*_, _<_, _≤_}
-use mathlib.Core.Path.{_≡_, refl, sym, ap, _∙_, subst}
+use mathlib.Core.Path.{_≡_, refl, ap, _∙_}
 use mathlib.Core.Logic.{⊎-elim}
 use mathlib.Core.Bool.{_&&_, and-false}
 use mathlib.Core.List.{List, []}
@@ -13,12 +13,11 @@ use lib.ListN.{length, getD, List·getD-eq-default}
 use Rattle.meaning.specs.Basics.{build}
 use Rattle.meaning.specs.declared.Controls.{Controls}
 use Rattle.meaning.specs.declared.Refusal.{Refusal}
-use Rattle.meaning.specs.declared.Verdict.{Verdict}
-use Rattle.meaning.specs.Layout.{Seat}
-use Rattle.meaning.specs.Refusals.{Opened, opened, refused, openImage}
-use Rattle.meaning.specs.Calendar.{controlsOf, matrixAt, dayColumns, rowWidth, table54Size, cellAt, Found, found, missing, sized, seatsFound, calendarIn, calendar, matrixCell, matrixOf, matrixIn, matrixReply, matrixVerdictIn, matrixVerdict}
-use Rattle.meaning.specs.Numbers.{notACalendar}
-use Rattle.almanac.specs.Matrix.{cell, Fifteen, Shown, MatrixSays}
+use Rattle.meaning.specs.Layout.{Seat, dataOrder}
+use Rattle.meaning.specs.Refusals.{Opened, opened, refused, openImage, seatPlace, tablePlaceIn, tablePlaceReply, placePart, tablePartReply}
+use Rattle.meaning.specs.Calendar.{controlsOf, matrixAt, dayColumns, rowWidth, table54Size, cellAt, Found, found, missing, sized, seatsFound, calendarIn, calendar, matrixCell, matrixOf, matrixIn}
+use Rattle.meaning.specs.Numbers.{noTable, notACalendar}
+use Rattle.almanac.specs.Matrix.{cell, Fifteen, Shown}
 use Rattle.almanac.proofs.Tests.{lt-or-ge, both-true, cond-most}
 use Rattle.meaning.proofs.Either.{tested}
 use Rattle.almanac.proofs.Build.{build-long, build-at}
@@ -50,9 +49,10 @@ pub record Sized (c : Controls) (t : List ℕ) : Type 0 where
   pub columns : rowWidth c ≤ 22
   pub size : length t ≡ matrixAt c + c .seasons * rowWidth c
 
-abbrev AllSized : Found → Type 0
-AllSized (found o c t) = Sized c t
-AllSized (missing r) = Unit {0}
+-- what is found of the octets a and b of tables 51 and 54: those, or a refusal
+pub data FoundIn (o : ℕ) (a b : List ℕ) : Found → Type 0 where
+  there : Sized (controlsOf o a) b → FoundIn o a b (found o (controlsOf o a) b)
+  absent : (r : Refusal) → FoundIn o a b (missing r)
 
 controls-few : (o : ℕ) (t : List ℕ) → (controlsOf o t .seasons ≤ 15) × (controlsOf o t .specials ≤ 15)
 unfolding controlsOf
@@ -66,36 +66,38 @@ pub width-most : (c : Controls) → c .specials ≤ 15 → rowWidth c ≤ 22
 unfolding rowWidth
 width-most c h = omega (arith, days-most c)
 
-sized-sized : (o : ℕ) (a b : List ℕ) → AllSized (sized o a b)
+sized-found : (o : ℕ) (a b : List ℕ) → FoundIn o a b (sized o a b)
 unfolding sized table54Size
-sized-sized o a b =
-    tested AllSized (eqb (length a) 9 && eqb (length b) (table54Size (controlsOf o a))) (found o (controlsOf o a) b) (missing notACalendar)
+sized-found o a b =
+    tested (FoundIn o a b) (eqb (length a) 9 && eqb (length b) (table54Size (controlsOf o a))) _ _
     (λ e.
     let n = controls-few o a in
-    record { rows = n .0; columns = width-most (controlsOf o a) (n .1); size = eqb-true _ _ (both-true (eqb (length a) 9) _ e .1) }) (λ e. tt)
+    there (record { rows = n .0; columns = width-most (controlsOf o a) (n .1); size = eqb-true _ _ (both-true (eqb (length a) 9) _ e .1) }))
+    (λ e. absent notACalendar)
 
-seats-sized : (img : List ℕ) (a b c : Option Seat) → AllSized (seatsFound img a b c)
-unfolding seatsFound
-seats-sized img none b c = tt
-seats-sized img (some a) none c = tt
-seats-sized img (some a) (some b) none = tt
-seats-sized img (some a) (some b) (some c) = sized-sized _ _ _
+seats-found : (img : List ℕ) (a b c : Option Seat) → FoundIn (dataOrder img) (placePart img (seatPlace b)) (placePart img (seatPlace c)) (seatsFound img a b c)
+unfolding seatsFound seatPlace placePart
+seats-found img none b c = absent noTable
+seats-found img (some a) none c = absent noTable
+seats-found img (some a) (some b) none = absent noTable
+seats-found img (some a) (some b) (some c) = sized-found _ _ _
 
-in-sized : (img : List ℕ) (x : Opened) → AllSized (calendarIn img x)
-unfolding calendarIn
-in-sized img (opened ts es s n) = seats-sized img _ _ _
-in-sized img (refused r) = tt
+opened-found : (img : List ℕ) (x : Opened)
+    → FoundIn (dataOrder img) (placePart img (tablePlaceIn 0 51 x)) (placePart img (tablePlaceIn 0 54 x)) (calendarIn img x)
+unfolding calendarIn tablePlaceIn
+opened-found img (opened ts es s n) = seats-found img _ _ _
+opened-found img (refused r) = absent r
 
-pub calendar-sized : (d img : List ℕ) (o : ℕ) (c : Controls) (t : List ℕ) → calendar d img ≡ found o c t → Sized c t
-unfolding calendar
-calendar-sized d img o c t e = subst AllSized e (in-sized img (openImage d img))
+pub calendar-found : (d img : List ℕ) → FoundIn (dataOrder img) (tablePartReply d img 0 51) (tablePartReply d img 0 54) (calendar d img)
+unfolding calendar tablePartReply tablePlaceReply
+calendar-found d img = opened-found img (openImage d img)
 
 -- THE CELLS
 -- a row's cells lie before the next row's
 pub row-inside : (n row w column : ℕ) → row < n → column < w → row * w + column < n * w
 row-inside n row w column h k = omega (arith, mul-le-mul-right w h, suc-mul row w)
 
-matrix-found : (o : ℕ) (c : Controls) (t : List ℕ) → Sized c t → Shown c t (matrixIn (found o c t))
+pub matrix-found : (o : ℕ) (c : Controls) (t : List ℕ) → Sized c t → Shown c t (matrixIn (found o c t))
 unfolding matrixIn matrixOf matrixCell cellAt
 matrix-found o c t s =
     record {
@@ -109,22 +111,12 @@ matrix-found o c t s =
     }
 
 -- REFUSED OR FOUND, it has its rows
-matrix-fifteen : (x : Found) → Fifteen (matrixIn x)
+pub matrix-fifteen : (x : Found) → Fifteen (matrixIn x)
 unfolding matrixIn matrixOf
 matrix-fifteen (found o c t) = grid-fifteen (matrixCell c t)
 matrix-fifteen (missing r) = grid-fifteen (λ row column. 0)
 
 -- refused, nothing but zeros
-matrix-missing : (x : Found) (r : Refusal) → matrixVerdictIn x ≡ Verdict.Refused r → (row column : ℕ) → cell (matrixIn x) row column ≡ 0
-unfolding matrixIn matrixVerdictIn
-matrix-missing (found o c t) r e row column = let z : _≡_ {A = ℕ} 0 1 = cc in omega arith
-matrix-missing (missing s) r e row column = grid-zero (λ row column. 0) row column refl
-
-pub matrix-says : (d img : List ℕ) → MatrixSays d img
-unfolding matrixReply matrixVerdict
-matrix-says d img =
-    record {
-      fifteen = matrix-fifteen (calendar d img);
-      shown = λ o c t e. subst (λ (x : Found). Shown c t (matrixIn x)) (sym e) (matrix-found o c t (calendar-sized d img o c t e));
-      refused = matrix-missing (calendar d img);
-    }
+pub matrix-missing : (r : Refusal) (row column : ℕ) → cell (matrixIn (missing r)) row column ≡ 0
+unfolding matrixIn
+matrix-missing r row column = grid-zero (λ row column. 0) row column refl

@@ -1,4 +1,5 @@
--- THE MATRIX, cell by cell: fifteen rows of twenty-two, which hold every cell of Table 54's rows; the others are 0, and all are on refusal. Assumes nothing.
+-- THE MATRIX, cell by cell: fifteen rows of twenty-two, which hold every cell of Table 54's rows; the others are 0. Assumes nothing.
+-- What is said by this of our reply stands in crate demands, specs/Calendar.
 -- Wrong answers ruled out: rows read as 7 + P wide where they are 3 + P, so that the second starts elsewhere; zeros whatever Table 54 holds.
 use Prim.Native.Nat.{ℕ, _+_, _*_, _<_, _≤_}
 use mathlib.Core.Path.{_≡_}
@@ -6,9 +7,7 @@ use mathlib.Core.Logic.{_⊎_}
 use mathlib.Core.List.{List, []}
 use lib.ListN.{length, getD}
 use Rattle.meaning.specs.declared.Controls.{Controls}
-use Rattle.meaning.specs.declared.Refusal.{Refusal}
-use Rattle.meaning.specs.declared.Verdict.{Verdict}
-use Rattle.meaning.specs.Calendar.{matrixAt, rowWidth, found, calendar, matrixReply, matrixVerdict}
+use Rattle.meaning.specs.Calendar.{matrixAt, rowWidth}
 
 abbrev pub cell : (matrix : List (List ℕ)) → (row column : ℕ) → ℕ
 cell m row column = getD (getD m row []) column 0
@@ -24,8 +23,3 @@ pub record Shown (c : Controls) (t : List ℕ) (m : List (List ℕ)) : Type 0 wh
   pub inside : (row column : ℕ) → row < c .seasons → column < rowWidth c → matrixAt c + row * rowWidth c + column < length t
   pub used : (row column : ℕ) → row < c .seasons → column < rowWidth c → cell m row column ≡ getD t (matrixAt c + row * rowWidth c + column) 0
   pub unused : (row column : ℕ) → (c .seasons ≤ row) ⊎ (rowWidth c ≤ column) → cell m row column ≡ 0
-
-pub record MatrixSays (d img : List ℕ) : Type 0 where
-  pub fifteen : Fifteen (matrixReply d img)
-  pub shown : (o : ℕ) (c : Controls) (t : List ℕ) → calendar d img ≡ found o c t → Shown c t (matrixReply d img)
-  pub refused : (r : Refusal) → matrixVerdict d img ≡ Verdict.Refused r → (row column : ℕ) → cell (matrixReply d img) row column ≡ 0

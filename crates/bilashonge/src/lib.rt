@@ -13,10 +13,9 @@ ghost use mathlib.Core.Path.{_≡_};
 ghost use mathlib.Core.List.{[]};
 ghost use lib.ListN.{getD};
 ghost use Rattle.meaning.specs.Refusals.{toldBy, verdictReply, placeReply};
-ghost use Rattle.meaning.specs.Calendar.{matrixReply, matrixVerdict};
+ghost use Rattle.meaning.specs.Calendar.{matrixReply, matrixVerdict, cellsAfter};
 ghost use Rattle.meaning.specs.Questions as ask;
 ghost use Rattle.meaning.specs.Questions.{toldTo, imageAfter};
-ghost use Rattle.calendar.specs.Lent.{cellsAfter};
 ghost use Rattle.replies.specs.Asked.{quantityOf};
 ghost use Rattle.bilashonge.specs.Interface.{inTotal, inPlace, inNumber, inTier, elementNamed, momentOf};
 

@@ -8,9 +8,8 @@ use native.Mathlib.Omega.{arith}
 use native.Mathlib.Nat.{mul-le-mul-right, suc-mul}
 use Rattle.meaning.specs.Basics.{_<?_, build}
 use Rattle.meaning.specs.declared.Controls.{Controls}
-use Rattle.meaning.specs.Calendar.{matrixAt, rowWidth, table54Size, cellAt, Found, found, missing, matrixCell, matrixOf, matrixIn, matrixVerdictIn}
+use Rattle.meaning.specs.Calendar.{matrixAt, rowWidth, table54Size, cellAt, Found, found, missing, matrixCell, matrixOf, matrixIn, matrixVerdictIn, cellsAfter}
 use Rattle.calendar.specs.Sections.{sectionsOf, Sized, HasRow, octetOr0, rowOf, rowAt}
-use Rattle.calendar.specs.Lent.{cellsAfter}
 use Rattle.calendar.specs.declared.Sections.{Sections}
 use Rattle.almanac.proofs.Matrix.{width-most}
 use Rattle.almanac.proofs.Build.{build-same}

@@ -21,9 +21,8 @@ ghost use mathlib.Core.Path.{_≡_};
 ghost use lib.ListN.{length};
 ghost use Rattle.meaning.specs.Basics.{part};
 ghost use Rattle.meaning.specs.Layout.{dataOrder};
-ghost use Rattle.meaning.specs.Calendar.{controlsOf, datesAt, dayColumns, sized, calendar, dayColumn, columnOn, missingSpecial, cellAt, tierBySchedule, tierOn, tierDay, tierIn, found, tierReply, matrixOf, matrixReply, matrixVerdict};
+ghost use Rattle.meaning.specs.Calendar.{controlsOf, datesAt, dayColumns, sized, calendar, dayColumn, columnOn, missingSpecial, cellAt, tierBySchedule, tierOn, tierDay, tierIn, found, tierReply, matrixOf, matrixReply, matrixVerdict, cellsAfter};
 ghost use Rattle.calendar.specs.Sections.{Small, sectionsOf, Sized, Stands, stood, HasCell, HasRow, rowOf};
-ghost use Rattle.calendar.specs.Lent.{cellsAfter};
 
 // The columns of days: Sunday to Saturday; or Saturday, Sunday, weekday.
 const EACH_DAY: usize = 7;

@@ -11,9 +11,9 @@ use Rattle.meaning.specs.Description.{fieldsAt, isUint}
 use Rattle.meaning.specs.Layout.{numberAt}
 use Rattle.meaning.specs.Refusals.{elementPlaceReply, placePart, tablePartReply, elementPartReply, integerPlace, placeNumber, elementNumberReply}
 use Rattle.almanac.proofs.Choices.{season-says, special-says, switch-says}
-use Rattle.almanac.proofs.Matrix.{matrix-says}
 use Rattle.almanac.proofs.NextDay.{days}
 use Rattle.demands.specs.Demand2.{octetsAt, Reads, Calendar, Demand2}
+use Rattle.demands.proofs.Calendar.{matrix-says}
 use Rattle.demands.proofs.RangeWrites.{range-writes}
 use Rattle.demands.proofs.ElementWrites.{octets-writes, number-writes}
 

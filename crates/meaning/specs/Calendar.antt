@@ -275,7 +275,7 @@ matrixVerdictIn (missing r) = Verdict.Refused r
 unfoldable pub matrixVerdict : (description image : List ℕ) → Verdict
 matrixVerdict d img = matrixVerdictIn (calendar d img)
 
--- THE CELLS LENT TO BE WRITTEN, afterwards: the matrix where it can be had; a refused call leaves them as they were
+-- the cells lent to be written, afterwards: the matrix where it can be had; a refused call leaves them as they were
 unfoldable pub cellsAfter : Verdict → (matrix lent : List (List ℕ)) → List (List ℕ)
 cellsAfter Verdict.Passed matrix lent = matrix
 cellsAfter (Verdict.Refused r) matrix lent = lent

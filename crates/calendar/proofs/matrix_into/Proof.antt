@@ -1,7 +1,6 @@
 -- `calendar::matrix_into`: refused, or the cells set to the rows of the calendar found. Assumes nothing.
 use mathlib.Core.Path.{_∙_, subst}
-use Rattle.meaning.specs.Calendar.{matrixIn, matrixReply, matrixVerdictIn, matrixVerdict}
-use Rattle.calendar.specs.Lent.{cellsAfter}
+use Rattle.meaning.specs.Calendar.{matrixIn, matrixReply, matrixVerdictIn, matrixVerdict, cellsAfter}
 use Rattle.calendar.specs.Sections.{Stands}
 use Rattle.calendar.proofs.Laws.{asked}
 use borrow.Author.Needs.{needs}
