@@ -21,10 +21,10 @@ use Rattle.meaning.specs.Layout.{Placed, Seat, unreadDimension, bitOutside, une
 use Rattle.meaning.specs.Numbers.{imageShort, noElement}
 use Rattle.laying.specs.Cover.{Follow}
 use Rattle.laying.specs.Every.{Every}
-use Rattle.laying.specs.Sizes.{value}
+use Rattle.laying.specs.Sizes.{Numbers, value}
 use Rattle.demands.specs.Replies.{Replies, octetsAt, alone}
 use Rattle.demands.specs.Rules.{MeetsRules}
-use Rattle.demands.specs.Walk.{Numbers, octetBefore, octetsIn, numbersIn, runsPast, FirstPast, arraysRound, isChosen, allBelow, subscriptsOf, exists, wayTo, Earlier}
+use Rattle.demands.specs.Walk.{octetBefore, octetsIn, numbersIn, runsPast, FirstPast, arraysRound, isChosen, allBelow, subscriptsOf, exists, wayTo, Earlier}
 
 -- A DESCRIPTION IS PASSED EXACTLY WHEN IT MEETS THE RULES
 abbrev pub PassedExactly : Replies → (description : List ℕ) → Type 0

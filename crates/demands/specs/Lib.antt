@@ -1,4 +1,5 @@
 pub mod Replies
+pub mod Same
 pub mod Walk
 pub mod Rules
 pub mod Calendar
