@@ -1,19 +1,30 @@
 -- The ARRAYs and IFs round an item, by where the search for them starts: at an item that encloses it or not, past items that end before it; and of a passed description, item by
 -- item and body by body. Assumes nothing.
 use Prim.Native.Nat.{ℕ, zero, suc, _+_, _-_, _<_, _≤_}
-use mathlib.Core.Path.{_≡_, refl, _∙_, ap, sym}
+use mathlib.Core.Path.{_≡_, refl, _∙_, ap, sym, subst}
 use mathlib.Core.Bool.{Bool, true, false, _&&_, and-false}
 use mathlib.Core.List.{List, [], _∷_, _++_}
 use borrow.Author.Tests.{lt-ltb, le-ltb}
 use native.Mathlib.Decide.{decLt}
 use native.Mathlib.Omega.{arith}
 use Rattle.meaning.specs.Basics.{if_then_else_, _<?_}
+use Rattle.meaning.specs.declared.Fields.{Fields}
+use Rattle.meaning.specs.declared.Inner.{Inner}
 use Rattle.meaning.specs.Description.{itemCount, fieldsAt, nests, nested}
 use Rattle.meaning.specs.Passed.{BodiesNest, endOf}
 use Rattle.meaning.proofs.Either.{tested}
+use Rattle.meaning.specs.Layout.{bodyAt}
 use Rattle.laying.specs.Every.{Every}
+use Rattle.laying.specs.Sound.{FitBody, FitNode}
+use Rattle.laying.specs.Tree.{innerAt, nodeAt}
 use Rattle.laying.proofs.Every.{every-map}
+use Rattle.laying.proofs.Nodes.{node-cases}
+use Rattle.laying.proofs.Steps.{body-step}
 use Rattle.demands.specs.Walk.{encloses, nestsIn, nestsRound}
+
+-- the body that an IF takes, by whether its value is nonzero
+abbrev pub bodyTaken : Fields → Bool → Inner
+bodyTaken f t = if t then record { skip = 0; items = f .first } else record { skip = f .first; items = f .second }
 
 module _ (d : List ℕ) where
   -- those from item `at` on
@@ -64,6 +75,18 @@ module _ (d : List ℕ) where
       let rest = every-map (λ j. (at + 1 ≤ j) × (j < i)) (λ j. (at ≤ j) × (j < i)) (λ j h. (omega (arith, h .0), h .1)) (nestsFrom (at + 1) i) (from-range k (at + 1) i (omega arith)) in
       rw (from-next at i (omega arith))
       (tested (Every (λ j. (at ≤ j) × (j < i))) (nests (fieldsAt d at) && encloses d at i) _ _ (λ t. ((omega arith, omega arith), rest)) (λ t. rest))
+
+  -- BODIES WITH NOTHING STRAY
+  -- an item that isn't stray has room for what stands in it
+  pub fit-room : (k at n : ℕ) → FitNode (nodeAt k d at n) → nested (fieldsAt d at) ≤ n
+  unfolding FitNode
+  fit-room k at n =
+      node-cases (λ t. FitNode t → nested (fieldsAt d at) ≤ n) (innerAt k d) d at n (λ lost fit. absurd fit) (λ l two four fit. l) (λ l five fit. l) (λ l is fit. l)
+
+  pub fit-step : (k at n : ℕ) → FitBody (bodyAt k d at (suc n))
+      → FitNode (nodeAt k d at n) × FitBody (bodyAt k d (at + 1 + nested (fieldsAt d at)) (n - nested (fieldsAt d at)))
+  unfolding FitBody
+  fit-step k at n fit = subst FitBody (body-step k d at n) fit
 
   -- OF A PASSED DESCRIPTION
   module _ (nest : BodiesNest d) where

@@ -1,5 +1,7 @@
 pub mod Facts
 pub mod Around
+pub mod Stripped
+pub mod Lengths
 pub mod Naming
 pub mod Told
 pub mod Surrounds

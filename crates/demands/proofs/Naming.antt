@@ -27,7 +27,7 @@ use Rattle.laying.proofs.Every.{every-map, every-append}
 use Rattle.laying.proofs.Nodes.{node-cases, choice-no-array}
 use Rattle.laying.proofs.Steps.{body-none, body-step}
 use Rattle.demands.specs.Walk.{nestsIn, arraysOf, inChosen, allChosen, allBelow, way, Earlier}
-use Rattle.demands.proofs.Around.{nestsFrom, from-here, from-nest, from-other, from-range, from-after, from-second}
+use Rattle.demands.proofs.Around.{bodyTaken, fit-room, fit-step, nestsFrom, from-here, from-nest, from-other, from-range, from-after, from-second}
 
 -- THE NAMES, each with how long its element is
 pub record Name : Type 0 where
@@ -399,8 +399,8 @@ module _ (d : List ℕ) (v : Numbers) where
       round-first i a b = from-nest d at i nesting a b
 
       -- its first body where the value isn't 0, else its second
-      names-taken : (t : Bool) → (0 <? x) ≡ t → FitBody (bodyIn (innerAt k d) at (if t then record { skip = 0; items = fieldsAt d at .first } else record { skip = fieldsAt d at .first; items = fieldsAt d at .second }))
-          → Names at (endOf d at) (namesBody (bodyIn (innerAt k d) at (if t then record { skip = 0; items = fieldsAt d at .first } else record { skip = fieldsAt d at .first; items = fieldsAt d at .second })) v)
+      names-taken : (t : Bool) → (0 <? x) ≡ t → FitBody (bodyIn (innerAt k d) at (bodyTaken (fieldsAt d at) t))
+          → Names at (endOf d at) (namesBody (bodyIn (innerAt k d) at (bodyTaken (fieldsAt d at) t)) v)
       unfolding inChosen
       names-taken true e fit =
           let z : at + 1 + 0 ≡ at + 1 = omega arith in
@@ -433,17 +433,6 @@ module _ (d : List ℕ) (v : Numbers) where
         rw (taken-names (innerAt k d) at (value v f) (branchesOf d at) v)
         (names-taken k at below (omega arith) is other (0 <? value v f) refl (taken-fit (innerAt k d) at (value v f) (branchesOf d at) fit)))
 
-    -- an item that isn't stray has room for what stands in it
-    fit-room : (k at n : ℕ) → FitNode (nodeAt k d at n) → nested (fieldsAt d at) ≤ n
-    unfolding FitNode
-    fit-room k at n =
-        node-cases (λ t. FitNode t → nested (fieldsAt d at) ≤ n) (innerAt k d) d at n (λ lost fit. absurd fit) (λ l two four fit. l) (λ l five fit. l) (λ l is fit. l)
-
-    fit-step : (k at n : ℕ) → FitBody (bodyAt k d at (suc n))
-        → FitNode (nodeAt k d at n) × FitBody (bodyAt k d (at + 1 + nested (fieldsAt d at)) (n - nested (fieldsAt d at)))
-    unfolding FitBody
-    fit-step k at n fit = subst FitBody (body-step k d at n) fit
-
     names-empty : (k at : ℕ) → Names at (at + 0) (namesBody (bodyAt k d at 0) v)
     unfolding Every Sorted namesBody
     names-empty k at = rw (body-none k d at) (record { each = tt; all = λ i xs a b element h. absurd (omega arith); sorted = tt })
@@ -466,8 +455,8 @@ module _ (d : List ℕ) (v : Numbers) where
     names-fewer k below zero at n few room fit = absurd (omega arith)
     names-fewer k below (suc m) at zero few room fit = names-empty k at
     names-fewer k below (suc m) at (suc n) few room fit =
-        let f = fit-step k at n fit in
-        let l = fit-room k at n (f .0) in
+        let f = fit-step d k at n fit in
+        let l = fit-room d k at n (f .0) in
         names-more k at n l room (names-node k at n below (omega arith) (f .0))
         (names-fewer k below m (at + 1 + nested (fieldsAt d at)) (n - nested (fieldsAt d at)) (omega arith) (omega arith) (f .1))
 

@@ -32,7 +32,7 @@ use Rattle.laying.proofs.Whole.{other-node, Whole, value-is, w-body, w-
 
 -- THE SLOTS
 -- a slot that is set, on each side
-numbers-set : (k o x : ℕ) (s : Slots) → numbersOf (setSlot k (holds o x) s) ≡ setNumber k x (numbersOf s)
+pub numbers-set : (k o x : ℕ) (s : Slots) → numbersOf (setSlot k (holds o x) s) ≡ setNumber k x (numbersOf s)
 unfolding setSlot setNumber numberOf
 numbers-set zero o x s = refl
 numbers-set (suc k) o x s = fun-ext (λ j. go j (eqb j (suc k)))
@@ -51,7 +51,7 @@ matches-set (suc k) o x s κ h = record { octets = λ j. go j (eqb j (suc k)) }
     go j false = h .octets j
 
 -- what sets a slot has octets of its own
-matches-leaf : (f : Fields) (x y : ℕ) (s : Slots) (κ : Known) (k : ℕ) → Matches s κ → (0 < k → f .slot ≡ 0)
+pub matches-leaf : (f : Fields) (x y : ℕ) (s : Slots) (κ : Known) (k : ℕ) → Matches s κ → (0 < k → f .slot ≡ 0)
     → Matches (setSlot k (holds (leafOctets f x) y) s) (setKnown k (f .octets) κ)
 unfolding setSlot setKnown leafOctets
 matches-leaf f x y s κ zero m h = m
