@@ -1,5 +1,7 @@
 pub mod Facts
 pub mod Around
+pub mod Walked
+pub mod Pieces
 pub mod Stripped
 pub mod Lengths
 pub mod Naming

@@ -68,7 +68,7 @@ namesTables (table i f body rest) v = namesBody body v ++ namesTables rest v
 namesTables (strayTable i) v = []
 
 -- by the body of the branch taken
-taken-names : (inner : ℕ → ℕ → Body) (at x : ℕ) (b : Branches) (v : Numbers) → namesArms (armsOf inner at b) x v ≡ namesBody (takenBody inner at x b) v
+pub taken-names : (inner : ℕ → ℕ → Body) (at x : ℕ) (b : Branches) (v : Numbers) → namesArms (armsOf inner at b) x v ≡ namesBody (takenBody inner at x b) v
 unfolding armsOf taken namesArms
 taken-names inner at x (otherwise c) v = refl
 taken-names inner at x (branch t c rest) v = picked (λ c. namesBody (bodyIn inner at c) v) (t x) c _ (taken-names inner at x rest v)
@@ -86,7 +86,7 @@ among-right x [] ys m = m
 among-right x (z ∷ xs) ys m = inr (among-right x xs ys m)
 
 -- an IF is no element
-choice-no-element : (f : Fields) → isChoice f ≡ true → isElement f ≡ false
+pub choice-no-element : (f : Fields) → isChoice f ≡ true → isElement f ≡ false
 choice-no-element f is = let six = eqb-true (f .kind) 6 is in rw six
 
 -- WAYS

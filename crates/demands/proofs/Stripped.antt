@@ -103,14 +103,14 @@ module _ (img : List ℕ) (s : Slots) (κ : Known) (m : Matches s κ) where
 
 -- SLOTS THAT AGREE on what is known
 abbrev pub Agree : Known → (v w : Numbers) → Type 0
-Agree κ v w = (k : ℕ) → 0 < κ k → v k ≡ w k
+Agree κ v w = (k : ℕ) → 0 < k → 0 < κ k → v k ≡ w k
 
 pub value-agrees : (κ : Known) (v w : Numbers) (f : Fields) → Agree κ v w → GoodReference κ f → value v f ≡ value w f
 unfolding value
 value-agrees κ v w f a h = go (refers f) refl
   where
     go : (b : Bool) → refers f ≡ b → cond b (bitRange (v (f .slot)) f) 0 ≡ cond b (bitRange (w (f .slot)) f) 0
-    go true e = let l = ltb-true 0 (f .slot) e in ap (λ (x : ℕ). bitRange x f) (a (f .slot) (omega (arith, h .some l, h .inside l)))
+    go true e = let l = ltb-true 0 (f .slot) e in ap (λ (x : ℕ). bitRange x f) (a (f .slot) l (omega (arith, h .some l, h .inside l)))
     go false e = refl
 
 mutual

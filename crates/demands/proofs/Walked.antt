@@ -1,0 +1,400 @@
+-- Outside arrays a body of a passed description is walked piece by piece: it is laid up to where the pieces of its items end, with the numbers that they set, the elements that its
+-- names say, and no piece past the image's end; or it is short at the first piece that is. Assumes nothing.
+use Prim.Native.Nat.{ℕ, zero, suc, _+_, _-_, _*_, _<_, _≤_}
+use mathlib.Core.Path.{_≡_, refl, _∙_, ap, ap₂, sym, subst}
+use mathlib.Core.Bool.{Bool, true, false, _&&_, _||_, and-eq-true-iff, or-true, false≢true, and-false}
+use mathlib.Core.List.{List, [], _∷_, _++_}
+use lib.ListN.{length}
+use borrow.Author.Tests.{leb-true, leb-false, eqb-true, eq-eqb, ne-eqb, le-leb, lt-leb, lt-ltb, le-ltb, ltb-true}
+use native.Mathlib.Decide.{decLt}
+use native.Mathlib.Omega.{arith}
+use Rattle.meaning.specs.Basics.{if_then_else_, _=?_, _<?_, _≤?_}
+use Rattle.meaning.specs.declared.Fields.{Fields}
+use Rattle.meaning.specs.declared.Inner.{Inner}
+use Rattle.meaning.specs.declared.Round.{Round}
+use Rattle.meaning.specs.Description.{itemCount, fieldsAt, isElement, isArray, isChoice, nests, nested, inside, slotOctets}
+use Rattle.meaning.specs.Layout.{Node, Body, leaf, array, choice, stray, done, more, branchesIn, ifBranches, branchesOf, taken, bodyIn, armsOf, onlyBody, bodyAt, leafOctets, numberAt}
+use Rattle.meaning.specs.Layout.{Slots, setSlot, holds, Placed, Stop, fault, short, Laid, laid, stopped, also, andThen, inImage, placed, sizeFrom, repeated, layBody, layNode, layArms}
+use Rattle.meaning.specs.Passed.{PassedLaws, endOf}
+use Rattle.meaning.proofs.Either.{tested}
+use Rattle.meaning.proofs.Nesting.{upward}
+use Rattle.meaning.proofs.Ranges.{fields-range, sets-none}
+use Rattle.meaning.proofs.Rules.{slot-step}
+use Rattle.laying.specs.Every.{Every}
+use Rattle.laying.specs.Outcomes.{setNumber}
+use Rattle.laying.specs.Rows.{Spot, bodyRow}
+use Rattle.laying.specs.Sizes.{Numbers, value, bodySize, itemSize}
+use Rattle.laying.specs.Slots.{numbersOf, Matches}
+use Rattle.laying.specs.Sound.{Known, setKnown, SoundBody, SoundNode, SoundArms, afterNode, afterBody, FitBody, FitNode}
+use Rattle.laying.specs.Tree.{innerAt, nodeAt}
+use Rattle.laying.proofs.Arms.{takenBody, taken-lay, taken-sound}
+use Rattle.laying.proofs.Branches.{only-run}
+use Rattle.laying.proofs.Bodies.{Same, same-next, quiet-body}
+use Rattle.laying.proofs.Every.{every-map, every-append}
+use Rattle.laying.proofs.Nested.{Run, first-ends, second-body, rest-body, still}
+use Rattle.laying.proofs.Nodes.{node-cases, choice-no-array}
+use Rattle.laying.proofs.Reaches.{numbers-set, matches-leaf}
+use Rattle.laying.proofs.Rising.{RisesBody, RisesNode, rises-at}
+use Rattle.laying.proofs.Steps.{body-none, body-step}
+use Rattle.laying.proofs.Tops.{fit-node}
+use Rattle.laying.proofs.Whole.{Whole, value-is, w-array, w-body}
+use Rattle.demands.specs.Walk.{nestsRound, arraysOf, inChosen, allChosen, isChosen, isNone, isPiece, octetsOf, Reached, reached, octetBefore, numbersBefore, numbersIn, runsPast}
+use Rattle.demands.proofs.Around.{bodyTaken, nestsTo, to-nest, to-other, to-past, to-from, from-nest, nested-ends, fit-room, fit-step}
+use Rattle.demands.proofs.Lengths.{item-octets, element-octets}
+use Rattle.demands.proofs.Naming.{Name, namesBody, namesNode, taken-names, repeatNames, choice-no-element}
+use Rattle.demands.proofs.Pieces.{set-same, no-piece, no-pieces, no-runs, piece-reached, piece-inside, piece-past, number-stays, is-chosen}
+use Rattle.demands.proofs.Stripped.{nameIn, strip, strip-append, Strips, s-repeated, s-body, Agree, value-agrees, names-agree}
+
+-- slot 0 is none
+set-nothing : (q n x : ℕ) (w : Numbers) → _≡_ {A = Reached} (record { octet = q + n; numbers = setNumber 0 x w }) (record { octet = q + n; numbers = w })
+unfolding setNumber
+set-nothing q n x w = refl
+
+-- WHAT STANDS ROUND, IN PARTS
+module _ (d : List ℕ) where
+  some-array : (a : ℕ) (xs ys : List ℕ) → isArray (fieldsAt d a) ≡ true → isNone (arraysOf d (xs ++ a ∷ ys)) ≡ false
+  unfolding arraysOf isNone
+  some-array a [] ys is = rw is
+  some-array a (x ∷ xs) ys is = tested (λ l. isNone l ≡ false) (isArray (fieldsAt d x)) _ _ (λ t. refl) (λ t. some-array a xs ys is)
+
+  arrays-append : (xs ys : List ℕ) → arraysOf d (xs ++ ys) ≡ arraysOf d xs ++ arraysOf d ys
+  unfolding arraysOf
+  arrays-append [] ys = refl
+  arrays-append (x ∷ xs) ys = go (isArray (fieldsAt d x)) (arrays-append xs ys)
+    where
+      go : (b : Bool) → arraysOf d (xs ++ ys) ≡ arraysOf d xs ++ arraysOf d ys
+          → (if b then x ∷ arraysOf d (xs ++ ys) else arraysOf d (xs ++ ys)) ≡ (if b then x ∷ arraysOf d xs else arraysOf d xs) ++ arraysOf d ys
+      go true h = ap (λ (l : List ℕ). x ∷ l) h
+      go false h = h
+
+  module _ (v : Numbers) (i : ℕ) where
+    one-unchosen : (a : ℕ) (xs ys : List ℕ) → isArray (fieldsAt d a) ≡ false → inChosen d v a i ≡ false → allChosen d v i (xs ++ a ∷ ys) ≡ false
+    unfolding allChosen
+    one-unchosen a [] ys is e = rw (is, e)
+    one-unchosen a (x ∷ xs) ys is e = rw (one-unchosen a xs ys is e) (and-false (isArray (fieldsAt d x) || inChosen d v x i))
+
+    chosen-append : (xs ys : List ℕ) → allChosen d v i xs ≡ true → allChosen d v i ys ≡ true → allChosen d v i (xs ++ ys) ≡ true
+    unfolding allChosen
+    chosen-append [] ys h k = k
+    chosen-append (x ∷ xs) ys h k =
+        let b = and-eq-true-iff (isArray (fieldsAt d x) || inChosen d v x i) (allChosen d v i xs) .0 h in
+        rw (b .0) (chosen-append xs ys (b .1) k)
+
+module _ (d img : List ℕ) (p : PassedLaws d) where
+  abbrev v : Numbers
+  v = numbersIn d img
+
+  -- ITEM `at` IS REACHED at octet q, with slots s
+  abbrev pub At : (at : ℕ) → Slots → (q : ℕ) → Type 0
+  At at s q = reached d img at ≡ record { octet = q; numbers = numbersOf s }
+
+  -- round the items from a up to e stand, before a, no ARRAY and no IF that chooses another branch
+  abbrev pub Open : (a e : ℕ) → Type 0
+  Open a e = (i : ℕ) → a ≤ i → i < e → (arraysOf d (nestsTo d a i) ≡ []) × (allChosen d v i (nestsTo d a i) ≡ true)
+
+  -- the first of them, if a UINT, BLOCK, SET or ARRAY, is a piece
+  open-piece : (a e : ℕ) → a < e → e ≤ itemCount d → Open a e → (isElement (fieldsAt d a) || isArray (fieldsAt d a)) ≡ true → isPiece d (numbersBefore d img a) a ≡ true
+  unfolding isPiece isNone
+  open-piece a e l m o is = let h = o a (omega arith) l in rw (is, h .0, is-chosen d img p a (omega arith)) (h .1)
+
+  -- what is none of these is no piece
+  other-piece : (w : Numbers) (i : ℕ) → isElement (fieldsAt d i) ≡ false → isArray (fieldsAt d i) ≡ false → isPiece d w i ≡ false
+  unfolding isPiece
+  other-piece w i a b = rw (a, b)
+
+  -- nor what stands in an ARRAY
+  array-piece : (w : Numbers) (a i : ℕ) → isArray (fieldsAt d a) ≡ true → a < i → i < endOf d a → isPiece d w i ≡ false
+  unfolding isPiece
+  array-piece w a i is l m =
+      let e : nestsRound d i ≡ nestsTo d a i ++ a ∷ _ = to-from d a i (omega arith) ∙ ap (λ (js : List ℕ). nestsTo d a i ++ js) (from-nest d a i (rw is) l m) in
+      rw (e, some-array d a (nestsTo d a i) _ is, and-false (isElement (fieldsAt d i) || isArray (fieldsAt d i)))
+
+  -- nor what stands in a branch not chosen
+  unchosen-piece : (a i : ℕ) → isChoice (fieldsAt d a) ≡ true → a < i → i < endOf d a → i ≤ itemCount d → inChosen d v a i ≡ false → isPiece d (numbersBefore d img i) i ≡ false
+  unfolding isPiece
+  unchosen-piece a i is l m r other =
+      let e : nestsRound d i ≡ nestsTo d a i ++ a ∷ _ = to-from d a i (omega arith) ∙ ap (λ (js : List ℕ). nestsTo d a i ++ js) (from-nest d a i (rw (is, or-true)) l m) in
+      let h : isChosen d v i ≡ false = rw e (one-unchosen d v i a (nestsTo d a i) _ (choice-no-array (fieldsAt d a) is) other) in
+      rw (is-chosen d img p i r, h) (and-false ((isElement (fieldsAt d i) || isArray (fieldsAt d i)) && isNone (arraysOf d (nestsRound d i))))
+
+  -- WHAT IS WALKED from item a up to e
+  -- a dimension's number is its slot's
+  abbrev pub DimensionIs : Placed → Type 0
+  DimensionIs x = 0 < x .slot → numberAt img (x .start) (x .size) ≡ v (x .slot)
+
+  pub record Walked (a e : ℕ) (κ : Known) (ns : List Name) (ps : List Placed) (t : Slots) (q : ℕ) : Type 0 where
+    pub here : At e t q
+    pub inside : (i : ℕ) → a ≤ i → i < e → runsPast d img i ≡ false
+    pub matches : Matches t κ
+    pub names : strip ps ≡ ns
+    pub dimensions : Every DimensionIs ps
+
+  pub record FirstIn (a e i x : ℕ) : Type 0 where
+    pub low : a ≤ i
+    pub high : i < e
+    pub at : octetBefore d img i ≡ x
+    pub past : runsPast d img i ≡ true
+    pub before : (j : ℕ) → a ≤ j → j < i → runsPast d img j ≡ false
+
+  abbrev pub Walks : (a e : ℕ) → Known → List Name → Laid → Type 0
+  Walks a e κ ns (laid ps t q) = Walked a e κ ns ps t q
+  Walks a e κ ns (stopped ps (short i x)) = FirstIn a e i x
+  Walks a e κ ns (stopped ps (fault x i)) = ⊥
+
+  -- items before that are no pieces, and after
+  walks-before : (a b e : ℕ) (κ : Known) (ns : List Name) (o : Laid) → ((i : ℕ) → a ≤ i → i < b → runsPast d img i ≡ false) → a ≤ b → Walks b e κ ns o → Walks a e κ ns o
+  walks-before a b e κ ns (laid ps t q) none l h =
+      record { here = h .here; inside = λ i m n. joined none (h .inside) i m n (decLt i b); matches = h .matches; names = h .names; dimensions = h .dimensions }
+    where
+      joined : {P : ℕ → Type 0} → ((i : ℕ) → a ≤ i → i < b → P i) → ((i : ℕ) → b ≤ i → i < e → P i) → (i : ℕ) → a ≤ i → i < e → Dec (i < b) → P i
+      joined f g i m n (yes y) = f i m y
+      joined f g i m n (no y) = g i (omega arith) n
+  walks-before a b e κ ns (stopped ps (short i x)) none l h =
+      record { low = omega (arith, h .low); high = h .high; at = h .at; past = h .past; before = λ j m n. joined j m n (decLt j b) }
+    where
+      joined : (j : ℕ) → a ≤ j → j < i → Dec (j < b) → runsPast d img j ≡ false
+      joined j m n (yes y) = none j m y
+      joined j m n (no y) = h .before j (omega arith) n
+  walks-before a b e κ ns (stopped ps (fault x i)) none l h = h
+
+  walks-after : (a b e : ℕ) (κ : Known) (ns : List Name) (o : Laid) → ((i : ℕ) → b ≤ i → i < e → isPiece d (numbersBefore d img i) i ≡ false) → b ≤ e
+      → Walks a b κ ns o → Walks a e κ ns o
+  walks-after a b e κ ns (laid ps t q) none l h =
+      record {
+        here = no-pieces d img b e l none ∙ h .here;
+        inside = λ i m n. joined i m n (decLt i b);
+        matches = h .matches;
+        names = h .names;
+        dimensions = h .dimensions;
+      }
+    where
+      joined : (i : ℕ) → a ≤ i → i < e → Dec (i < b) → runsPast d img i ≡ false
+      joined i m n (yes y) = h .inside i m y
+      joined i m n (no y) = no-runs d img i (none i (omega arith) n)
+  walks-after a b e κ ns (stopped ps (short i x)) none l h = record { low = h .low; high = omega (arith, h .high); at = h .at; past = h .past; before = h .before }
+  walks-after a b e κ ns (stopped ps (fault x i)) none l h = h
+
+  -- one after another
+  walks-then : (a b e : ℕ) (κ κ′ : Known) (ns ms : List Name) (o : Laid) (next : Slots → ℕ → Laid) → a ≤ b → b ≤ e → Walks a b κ ns o
+      → ((t : Slots) (q : ℕ) → At b t q → Matches t κ → Walks b e κ′ ms (next t q)) → Walks a e κ′ (ns ++ ms) (andThen o next)
+  unfolding andThen
+  walks-then a b e κ κ′ ns ms (laid ps t q) next l m h k = go (next t q) (k t q (h .here) (h .matches))
+    where
+      go : (u : Laid) → Walks b e κ′ ms u → Walks a e κ′ (ns ++ ms) (also ps u)
+      go (laid qs u r) w =
+          let all = walks-before a b e κ′ ms (laid qs u r) (h .inside) l w in
+          record {
+            here = w .here;
+            inside = all .inside;
+            matches = w .matches;
+            names = strip-append ps qs ∙ ap₂ _++_ (h .names) (w .names);
+            dimensions = every-append DimensionIs ps qs (h .dimensions) (w .dimensions);
+          }
+      go (stopped qs (short i x)) w = walks-before a b e κ′ ms (stopped qs (short i x)) (h .inside) l w
+      go (stopped qs (fault x i)) w = w
+  walks-then a b e κ κ′ ns ms (stopped ps (short i x)) next l m h k = record { low = h .low; high = omega (arith, h .high); at = h .at; past = h .past; before = h .before }
+  walks-then a b e κ κ′ ns ms (stopped ps (fault x i)) next l m h k = h
+
+  -- A PIECE at item a, of n octets from q on, that sets its slot to the number there
+  module _ (a e : ℕ) (s : Slots) (q n : ℕ) (here : At a s q) (piece : isPiece d (numbersBefore d img a) a ≡ true) (long : octetsOf d (numbersOf s) a ≡ n) where
+    octet-here : octetBefore d img a ≡ q
+    octet-here = ap (λ (r : Reached). r .octet) here
+
+    numbers-here : numbersBefore d img a ≡ numbersOf s
+    numbers-here = ap (λ (r : Reached). r .numbers) here
+
+    end-here : octetBefore d img a + octetsOf d (numbersBefore d img a) a ≡ q + n
+    end-here = rw (numbers-here, octet-here, long)
+
+    past-piece : reached d img (a + 1) ≡ record { octet = q + n; numbers = setNumber (fieldsAt d a .sets) (numberAt img q n) (numbersOf s) }
+    past-piece = piece-reached d img a piece ∙ rw (numbers-here, octet-here, long)
+
+    -- it ends inside the image
+    in-image : q + n ≤ length img → runsPast d img a ≡ false
+    in-image l = piece-inside d img a (omega (arith, end-here))
+
+    -- or is short
+    is-short : length img < q + n → FirstIn a (a + 1) a q
+    is-short l =
+        record { low = omega arith; high = omega arith; at = octet-here; past = piece-past d img a piece (omega (arith, end-here)); before = λ j m r. absurd (omega arith) }
+
+  only-item : (a : ℕ) → runsPast d img a ≡ false → (i : ℕ) → a ≤ i → i < a + 1 → runsPast d img i ≡ false
+  only-item a h i l m = let e : i ≡ a = omega arith in rw e h
+
+  -- a UINT, BLOCK or SET
+  walks-leaf : (a : ℕ) (s : Slots) (κ : Known) (q : ℕ) → At a s q → Matches s κ → a < itemCount d → isPiece d (numbersBefore d img a) a ≡ true
+      → 2 ≤ fieldsAt d a .kind → fieldsAt d a .kind ≤ 4 → (0 < fieldsAt d a .sets → fieldsAt d a .slot ≡ 0) → value (numbersOf s) (fieldsAt d a) ≡ value v (fieldsAt d a)
+      → Walks a (a + 1) (setKnown (fieldsAt d a .sets) (fieldsAt d a .octets) κ)
+      (record { item = a; subscripts = []; octets = leafOctets (fieldsAt d a) (value v (fieldsAt d a)) } ∷ [])
+      (inImage false (length img) a q (placed a (fieldsAt d a) img s q (leafOctets (fieldsAt d a) (value (numbersOf s) (fieldsAt d a)))))
+  unfolding inImage placed strip Every
+  walks-leaf a s κ q here m l piece two four owns same =
+      let f = fieldsAt d a in
+      let n = leafOctets f (value (numbersOf s) f) in
+      let long = element-octets d (numbersOf s) 4 a two four in
+      let past = past-piece a (a + 1) s q n here piece long in
+      tested (Walks a (a + 1) (setKnown (f .sets) (f .octets) κ) (record { item = a; subscripts = []; octets = leafOctets f (value v f) } ∷ [])) (q + n ≤? length img)
+      (laid (record { item = a; slot = f .sets; subscripts = []; start = q; size = n } ∷ []) (setSlot (f .sets) (holds n (numberAt img q n)) s) (q + n)) (stopped [] (short a q))
+      (λ t.
+      record {
+        here = past ∙ ap (λ (w : Numbers). record { octet = q + n; numbers = w }) (sym (numbers-set (f .sets) n (numberAt img q n) s));
+        inside = only-item a (in-image a (a + 1) s q n here piece long (leb-true (q + n) (length img) t));
+        matches = matches-leaf f (value (numbersOf s) f) (numberAt img q n) s κ (f .sets) m owns;
+        names = ap (λ (x : ℕ). record { item = a; subscripts = []; octets = leafOctets f x } ∷ []) same;
+        dimensions = (λ some. sym (read-on f n some (ap (λ (r : Reached). r .numbers (f .sets)) past)), tt);
+      })
+      (λ t. is-short a (a + 1) s q n here piece long (leb-false (q + n) (length img) t))
+    where
+      -- what it sets is what its slot has from there on
+      read-on : (f : Fields) (n : ℕ) → 0 < fieldsAt d a .sets
+          → numbersBefore d img (a + 1) (fieldsAt d a .sets) ≡ setNumber (fieldsAt d a .sets) (numberAt img q n) (numbersOf s) (fieldsAt d a .sets) → v (fieldsAt d a .sets) ≡ numberAt img q n
+      read-on f n some past =
+          let k = fieldsAt d a .sets in
+          let set : 0 < slotOctets d (a + 1) k = rw (slot-step d a k, eq-eqb k k refl) (fields-range d a .some-octets some) in
+          number-stays d img p k (a + 1) (itemCount d) some (omega arith) (omega arith) set ∙ past ∙ set-same k (numberAt img q n) (numbersOf s) some
+
+  -- an outermost ARRAY: what is laid whole, with these names
+  walks-array : (a : ℕ) (s : Slots) (κ : Known) (q n : ℕ) (ns : List Name) (f : ℕ → List ℕ → Spot) (o : Laid) → At a s q → Matches s κ → endOf d a ≤ itemCount d
+      → isPiece d (numbersBefore d img a) a ≡ true → isArray (fieldsAt d a) ≡ true → fieldsAt d a .sets ≡ 0 → octetsOf d (numbersOf s) a ≡ n
+      → Whole s q n f o → Strips s ns o → Walks a (endOf d a) κ ns (inImage false (length img) a q o)
+  unfolding inImage
+  walks-array a s κ q n ns f (laid ps t r) here m room piece is sets long h names =
+      rw (h .same, h .ends)
+      (walks-after a (a + 1) (endOf d a) κ ns (if q + n ≤? length img then laid ps s (q + n) else stopped [] (short a q))
+      (λ i l u. array-piece (numbersBefore d img i) a i is (omega arith) u) (omega arith)
+      (tested (Walks a (a + 1) κ ns) (q + n ≤? length img) (laid ps s (q + n)) (stopped [] (short a q))
+      (λ e.
+      record {
+        here = past-piece a (a + 1) s q n here piece long ∙ rw sets (set-nothing q n (numberAt img q n) (numbersOf s));
+        inside = only-item a (in-image a (a + 1) s q n here piece long (leb-true (q + n) (length img) e));
+        matches = m;
+        names = names .1;
+        dimensions = every-map (λ x. x .slot ≡ 0) DimensionIs (λ x z some. absurd (omega arith)) ps (h .unset);
+      })
+      (λ e. is-short a (a + 1) s q n here piece long (leb-false (q + n) (length img) e))))
+  walks-array a s κ q n ns f (stopped ps x) here m room piece is sets long h names = absurd h
+
+  -- AN ITEM AND A BODY
+  -- what is said of bodies that b gives
+  abbrev Bodies : (b : ℕ → ℕ → Body) → Type 0
+  Bodies b = (a m : ℕ) (r : Round) (free : Bool) (κ : Known) (s : Slots) (q : ℕ) → Run d a (a + m) r → SoundBody free κ (b a m) → Same d κ a → Matches s κ → At a s q → Open a (a + m)
+      → Walks a (a + m) (afterBody (b a m) κ) (namesBody (b a m) v) (layBody (b a m) img false s q)
+
+  -- slots known by then have the numbers that they keep
+  agrees : (a : ℕ) (s : Slots) (κ : Known) (q : ℕ) → a ≤ itemCount d → Same d κ a → At a s q → Agree κ (numbersOf s) v
+  agrees a s κ q l same here k some h =
+      sym (ap (λ (r : Reached). r .numbers k) here) ∙ sym (number-stays d img p k a (itemCount d) some l (omega arith) (omega (arith, same k some)))
+
+  -- with an IF at item a, before those of its branch
+  module _ (a e : ℕ) (o : Open a e) (is : isChoice (fieldsAt d a) ≡ true) (l : a < e) (ends : endOf d a ≤ e) (room : e ≤ itemCount d) where
+    abbrev nesting : nests (fieldsAt d a) ≡ true
+    nesting = rw (is, or-true)
+
+    -- round the items of its first body, or of its second, stands it too
+    open-body : (b c : ℕ) → a < b → c ≤ endOf d a → ((i : ℕ) → b ≤ i → i < c → nestsTo d b i ≡ nestsTo d a i ++ a ∷ []) → ((i : ℕ) → b ≤ i → i < c → inChosen d v a i ≡ true) → Open b c
+    unfolding arraysOf allChosen
+    open-body b c m n round chosen i x y =
+        let h = o i (omega arith) (omega arith) in
+        let other = choice-no-array (fieldsAt d a) is in
+        let none : arraysOf d (a ∷ []) ≡ [] = rw other in
+        let one : allChosen d v i (a ∷ []) ≡ true = rw (other, chosen i x y) in
+        rw (round i x y) (arrays-append d (nestsTo d a i) (a ∷ []) ∙ rw (h .0) none, chosen-append d v i (nestsTo d a i) (a ∷ []) (h .1) one)
+
+  -- an ARRAY or IF at item a, first of the items up to e, that is reached
+  module _ (a e : ℕ) (r : Round) (κ : Known) (s : Slots) (q : ℕ) (run : Run d a e r) (l : a < e) (same : Same d κ a) (m : Matches s κ) (here : At a s q) (o : Open a e)
+      (nest : nests (fieldsAt d a) ≡ true) where
+    abbrev room : endOf d a ≤ itemCount d
+    room = omega (arith, first-ends p run l, run .whole)
+
+    -- it and what stands in it set no slot
+    sets-nothing : fieldsAt d a .sets ≡ 0
+    sets-nothing = sets-none (fieldsAt d a) (fields-range d a) (λ two. false≢true (rw two at nest))
+
+    same-in : (k : ℕ) → a + 1 ≤ k → k ≤ endOf d a → Same d κ k
+    same-in k x y j some =
+        same j some ∙ sym (still p run l nest j some k x y ∙ slot-step d a j ∙ rw (ne-eqb (fieldsAt d a .sets) j (λ z. omega (arith, sets-nothing))))
+
+    agree : Agree κ (numbersOf s) v
+    agree = agrees a s κ q (omega arith) same here
+
+    -- an IF takes one of its bodies
+    module _ (inner : ℕ → ℕ → Body) (below : Bodies inner) (is : isChoice (fieldsAt d a) ≡ true) (element : isElement (fieldsAt d a) ≡ false) where
+      abbrev f : Fields
+      f = fieldsAt d a
+
+      -- up to it and from it on no item is a piece
+      walks-branch : (b c : ℕ) (body : Body) → a < b → b ≤ c → c ≤ endOf d a → ((i : ℕ) → a < i → i < b → inChosen d v a i ≡ false) → ((i : ℕ) → c ≤ i → i < endOf d a → inChosen d v a i ≡ false)
+          → SoundBody false κ body → (At b s q → Walks b c (afterBody body κ) (namesBody body v) (layBody body img false s q)) → Walks a (endOf d a) κ (namesBody body v) (layBody body img false s q)
+      walks-branch b c body x y z before after sound walk =
+          let first = other-piece (numbersBefore d img a) a element (choice-no-array f is) in
+          let start = no-pieces d img (a + 1) b (omega arith) (λ i u w. unchosen-piece a i is (omega arith) (omega arith) (omega (arith, room)) (before i (omega arith) w)) ∙ no-piece d img a first ∙ here in
+          walks-after a c (endOf d a) κ (namesBody body v) (layBody body img false s q) (λ i u w. unchosen-piece a i is (omega arith) w (omega (arith, room)) (after i u w)) z
+          (walks-before a b c κ (namesBody body v) (layBody body img false s q) (λ i u w. skipped i u w (decLt a i)) (omega arith)
+          (subst (λ (κ′ : Known). Walks b c κ′ (namesBody body v) (layBody body img false s q)) (quiet-body κ body sound) (walk start)))
+        where
+          skipped : (i : ℕ) → a ≤ i → i < b → Dec (a < i) → runsPast d img i ≡ false
+          skipped i u w (yes g) = no-runs d img i (unchosen-piece a i is g (omega arith) (omega (arith, room)) (before i g w))
+          skipped i u w (no g) = let k : i ≡ a = omega arith in rw k (no-runs d img a (other-piece (numbersBefore d img a) a element (choice-no-array f is)))
+
+      -- the first where the value isn't 0, else the second
+      walks-taken : (t : Bool) → (0 <? value v f) ≡ t → SoundBody false κ (bodyIn inner a (bodyTaken f t))
+          → Walks a (endOf d a) κ (namesBody (bodyIn inner a (bodyTaken f t)) v) (layBody (bodyIn inner a (bodyTaken f t)) img false s q)
+      unfolding inChosen
+      walks-taken true x sound =
+          let z : a + 1 + 0 ≡ a + 1 = omega arith in
+          let ends = first-ends p run l in
+          walks-branch (a + 1 + 0) (a + 1 + 0 + f .first) (inner (a + 1 + 0) (f .first)) (omega arith) (omega arith) (omega arith)
+          (λ i u w. absurd (omega arith)) (λ i u w. rw x (le-ltb i (a + 1 + f .first) (omega arith))) sound
+          (λ start.
+          below (a + 1 + 0) (f .first) _ false κ s q (only-run p run l) sound (same-in (a + 1 + 0) (omega arith) (omega arith)) m start
+          (open-body a e o is l ends (run .whole) (a + 1 + 0) (a + 1 + 0 + f .first) (omega arith) (omega arith)
+          (λ i u w. rw z (to-nest d a i nest (omega arith) (omega arith))) (λ i u w. rw x (lt-ltb i (a + 1 + f .first) (omega arith)))))
+      walks-taken false x sound =
+          let ends = first-ends p run l in
+          walks-branch (a + 1 + f .first) (a + 1 + f .first + f .second) (inner (a + 1 + f .first) (f .second)) (omega arith) (omega arith) (omega arith)
+          (λ i u w. rw x (lt-leb (a + 1 + f .first) i w)) (λ i u w. absurd (omega arith)) sound
+          (λ start.
+          below (a + 1 + f .first) (f .second) _ false κ s q (second-body p run l) sound (same-in (a + 1 + f .first) (omega arith) (omega arith)) m start
+          (open-body a e o is l ends (run .whole) (a + 1 + f .first) (a + 1 + f .first + f .second) (omega arith) (omega arith)
+          (λ i u w. to-past d (a + 1) (a + 1 + f .first) i (omega arith) (λ j g h. omega (arith, p .nest .first a j (omega (arith, room)) (omega arith) h)) ∙ to-nest d a i nest (omega arith) (omega arith))
+          (λ i u w. rw x (le-leb (a + 1 + f .first) i u))))
+
+  -- AN ITEM, kind by kind
+  walks-node : (k a n e : ℕ) (r : Round) (free : Bool) (κ : Known) (s : Slots) (q : ℕ) → k ≤ 4 → Bodies (innerAt k d) → Run d a e r → a < e → Same d κ a → Matches s κ → At a s q → Open a e
+      → FitNode (nodeAt k d a n) → SoundNode free κ (nodeAt k d a n)
+      → Walks a (endOf d a) (afterNode (nodeAt k d a n) κ) (namesNode (nodeAt k d a n) v) (layNode (nodeAt k d a n) img false s q)
+  unfolding SoundNode afterNode namesNode layNode RisesNode itemSize branchesIn ifBranches taken
+  walks-node k a n e r free κ s q deep below run l same m here o fit sound =
+      let f = fieldsAt d a in
+      let ends = first-ends p run l in
+      let room = run .whole in
+      let w = numbersOf s in
+      node-cases (λ t. itemSize t w ≡ octetsOf d w a → RisesNode d 0 a (endOf d a) t → SoundNode free κ t → Walks a (endOf d a) (afterNode t κ) (namesNode t v) (layNode t img false s q))
+      (innerAt k d) d a n
+      (λ lost long rises h. absurd h)
+      (λ g two four long rises h.
+      let end : endOf d a ≡ a + 1 = omega (arith, fields-range d a .whole two four) in
+      let is : isElement f ≡ true = rw (le-leb 2 (f .kind) two, le-leb (f .kind) 4 four) in
+      rw (end, value-is s κ f a _ m (h .refers))
+      (walks-leaf a s κ q here m (omega arith) (open-piece a e l room o (rw is)) two four (h .owns) (value-agrees κ w v f (agrees a s κ q (omega arith) same here) (h .refers))))
+      (λ g five long rises h.
+      let is : isArray f ≡ true = rw five in
+      let nest : nests f ≡ true = rw five in
+      let b = bodyIn (innerAt k d) a (onlyBody f) in
+      let agree = agrees a s κ q (omega arith) same here in
+      rw (value-is s κ f a _ m (h .0))
+      (subst (λ (ns : List Name). Walks a (endOf d a) κ ns (inImage false (length img) a q
+      (repeated (λ t x. layBody b img true t x) a (sizeFrom q (layBody b img true s q)) (value w f) 0 s q)))
+      (ap₂ (λ (c : ℕ) (ns : List Name). repeatNames c 0 ns) (value-agrees κ w v f agree (h .0)) (names-agree κ w v b agree (h .1)))
+      (walks-array a s κ q (value w f * bodySize b w) (repeatNames (value w f) 0 (namesBody b w)) _ _ here m (omega arith) (open-piece a e l room o (rw (is, or-true))) is
+      (sets-nothing a e r κ s q run l same m here o nest) (sym long)
+      (w-array s (λ t x. layBody b img true t x) (bodySize b w) (bodyRow b w) (λ x. w-body d img s κ m b 1 a (endOf d a) x (h .1) rises) a (value w f) q)
+      (s-repeated s (λ t x. layBody b img true t x) (namesBody b w) (λ x. s-body img s κ m b x (h .1)) a _ (value w f) 0 q))))
+      (λ g is long rises h.
+      let nest : nests f ≡ true = rw (is, or-true) in
+      let same-value = value-agrees κ w v f (agrees a s κ q (omega arith) same here) (h .0) in
+      rw (value-is s κ f a _ m (h .0), same-value, taken-lay (innerAt k d) a (value v f) (branchesOf d a) img false s q, taken-names (innerAt k d) a (value v f) (branchesOf d a) v)
+      (walks-taken a e r κ s q run l same m here o nest (innerAt k d) below is (choice-no-element f is) (0 <? value v f) refl (taken-sound (innerAt k d) a (value v f) κ (branchesOf d a) (h .1))))
+      (item-octets d w k a n deep fit)
+      (rises-at d k 0 a n a (endOf d a) (omega arith) (omega arith, omega arith, omega arith))
+      sound
