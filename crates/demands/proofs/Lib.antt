@@ -1,5 +1,7 @@
 pub mod Facts
 pub mod Around
+pub mod InTables
+pub mod Laid
 pub mod Walked
 pub mod Pieces
 pub mod Stripped

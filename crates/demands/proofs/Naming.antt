@@ -178,7 +178,7 @@ module _ (d : List ℕ) (v : Numbers) where
       record { low = omega (arith, k .low); high = k .high; element = k .element; named = rw (same (n .item) (k .low) (k .high)) (k .named); long = k .long }
 
   -- names from `from` on are names from `at` on
-  names-from : (at from e : ℕ) (ns : List Name) → at ≤ from → ((i : ℕ) → from ≤ i → i < e → nestsFrom d at i ≡ nestsFrom d from i)
+  pub names-from : (at from e : ℕ) (ns : List Name) → at ≤ from → ((i : ℕ) → from ≤ i → i < e → nestsFrom d at i ≡ nestsFrom d from i)
       → ((i : ℕ) → at ≤ i → i < e → isElement (fieldsAt d i) ≡ true → from ≤ i) → Names from e ns → Names at e ns
   names-from at from e ns l same none h =
       record {
@@ -188,7 +188,7 @@ module _ (d : List ℕ) (v : Numbers) where
       }
 
   -- names before item mid, then names from it on
-  names-append : (at mid e : ℕ) (ns ms : List Name) → at ≤ mid → mid ≤ e → ((i : ℕ) → mid ≤ i → i < e → nestsFrom d at i ≡ nestsFrom d mid i)
+  pub names-append : (at mid e : ℕ) (ns ms : List Name) → at ≤ mid → mid ≤ e → ((i : ℕ) → mid ≤ i → i < e → nestsFrom d at i ≡ nestsFrom d mid i)
       → Names at mid ns → Names mid e ms → Names at e (ns ++ ms)
   names-append at mid e ns ms a b same h k =
       record {
@@ -460,7 +460,7 @@ module _ (d : List ℕ) (v : Numbers) where
         names-more k at n l room (names-node k at n below (omega arith) (f .0))
         (names-fewer k below m (at + 1 + nested (fieldsAt d at)) (n - nested (fieldsAt d at)) (omega arith) (omega arith) (f .1))
 
-    names-body : (k at n : ℕ) → at + n ≤ itemCount d → FitBody (bodyAt k d at n) → Names at (at + n) (namesBody (bodyAt k d at n) v)
+    pub names-body : (k at n : ℕ) → at + n ≤ itemCount d → FitBody (bodyAt k d at n) → Names at (at + n) (namesBody (bodyAt k d at n) v)
     unfolding innerAt FitBody
     names-body zero at n = names-fewer zero (λ a m room f. absurd (f .0)) (n + 1) at n (omega arith)
     names-body (suc k) at n = names-fewer (suc k) (λ a m room f. names-body k a m room f) (n + 1) at n (omega arith)

@@ -15,6 +15,7 @@ use Rattle.meaning.specs.declared.Fields.{Fields}
 use Rattle.meaning.specs.Description.{itemCount, fieldsAt, isElement, isArray, isChoice, nests, nested, refers, slotOctets}
 use Rattle.meaning.specs.Layout.{numberAt, bitRange}
 use Rattle.meaning.specs.Passed.{PassedLaws, endOf}
+use Rattle.meaning.proofs.Either.{tested}
 use Rattle.meaning.proofs.Nesting.{upward}
 use Rattle.meaning.proofs.Ranges.{fields-range}
 use Rattle.meaning.proofs.Rules.{slot-step}
@@ -57,9 +58,9 @@ module _ (d img : List ℕ) where
   -- A PIECE
   pub piece-reached : (i : ℕ) → isPiece d (numbersBefore d img i) i ≡ true
       → reached d img (i + 1) ≡ record {
-      octet = octetBefore d img i + octetsOf d (numbersBefore d img i) i;
-      numbers = setNumber (fieldsAt d i .sets) (numberAt img (octetBefore d img i) (octetsOf d (numbersBefore d img i) i)) (numbersBefore d img i);
-    }
+        octet = octetBefore d img i + octetsOf d (numbersBefore d img i) i;
+        numbers = setNumber (fieldsAt d i .sets) (numberAt img (octetBefore d img i) (octetsOf d (numbersBefore d img i) i)) (numbersBefore d img i);
+      }
   unfolding pastItem
   piece-reached i e = reached-next i ∙ rw e
 
@@ -122,3 +123,13 @@ module _ (d img : List ℕ) where
 
     pub is-chosen : (i : ℕ) → i ≤ itemCount d → isChosen d (numbersBefore d img i) i ≡ isChosen d (numbersIn d img) i
     is-chosen i l = chosen-stays i i (nestsRound d i) l (rw (round-from d i) at (every-map _ _ (λ j h. h .1) _ (from-range d i 0 i (omega arith))))
+
+  -- octets only grow
+  octet-next : (i : ℕ) → octetBefore d img i ≤ octetBefore d img (i + 1)
+  unfolding pastItem
+  octet-next i =
+      subst (λ (r : Reached). octetBefore d img i ≤ r .octet) (sym (reached-next i))
+      (tested (λ (r : Reached). octetBefore d img i ≤ r .octet) (isPiece d (numbersBefore d img i) i) _ _ (λ t. omega arith) (λ t. omega arith))
+
+  pub octets-grow : (a b : ℕ) → a ≤ b → octetBefore d img a ≤ octetBefore d img b
+  octets-grow a b l = upward (λ k. octetBefore d img a ≤ octetBefore d img k) a (omega arith) (λ k m h. omega (arith, octet-next k)) b l

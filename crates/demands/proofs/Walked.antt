@@ -98,7 +98,7 @@ module _ (d img : List ℕ) (p : PassedLaws d) where
   open-piece a e l m o is = let h = o a (omega arith) l in rw (is, h .0, is-chosen d img p a (omega arith)) (h .1)
 
   -- what is none of these is no piece
-  other-piece : (w : Numbers) (i : ℕ) → isElement (fieldsAt d i) ≡ false → isArray (fieldsAt d i) ≡ false → isPiece d w i ≡ false
+  pub other-piece : (w : Numbers) (i : ℕ) → isElement (fieldsAt d i) ≡ false → isArray (fieldsAt d i) ≡ false → isPiece d w i ≡ false
   unfolding isPiece
   other-piece w i a b = rw (a, b)
 
@@ -398,3 +398,77 @@ module _ (d img : List ℕ) (p : PassedLaws d) where
       (item-octets d w k a n deep fit)
       (rises-at d k 0 a n a (endOf d a) (omega arith) (omega arith, omega arith, omega arith))
       sound
+
+  -- what is known after it
+  same-after : (k a n e : ℕ) (r : Round) (free : Bool) (κ : Known) (s : Slots) (q : ℕ) → Run d a e r → a < e → Same d κ a → Matches s κ → At a s q → Open a e → SoundNode free κ (nodeAt k d a n)
+      → Same d (afterNode (nodeAt k d a n) κ) (endOf d a)
+  unfolding SoundNode afterNode
+  same-after k a n e r free κ s q run l same m here o =
+      let f = fieldsAt d a in
+      node-cases (λ t. SoundNode free κ t → Same d (afterNode t κ) (endOf d a)) (innerAt k d) d a n (λ lost h. absurd h)
+      (λ g two four h.
+      let end : endOf d a ≡ a + 1 = omega (arith, fields-range d a .whole two four) in
+      rw end (same-next d a (f .sets) (f .octets) κ same (slot-step d a)))
+      (λ g five h. same-in a e r κ s q run l same m here o (rw five) (endOf d a) (omega arith) (omega arith))
+      (λ g is h. same-in a e r κ s q run l same m here o (rw (is, or-true)) (endOf d a) (omega arith) (omega arith))
+
+  -- round the items after it stands what stood round it
+  open-rest : (a e : ℕ) → endOf d a ≤ e → e ≤ itemCount d → Open a e → Open (endOf d a) e
+  open-rest a e l room o i x y =
+      let z = to-past d a (endOf d a) i (omega arith) (λ j g h. omega (arith, nested-ends d (p .nest) a j (omega arith) g h)) in
+      rw z (o i (omega arith) y)
+
+  -- A BODY is its first item and the rest
+  walks-more : (k a n e : ℕ) (r : Round) (free : Bool) (κ : Known) (s : Slots) (q : ℕ) → k ≤ 4 → Bodies (innerAt k d) → a + suc n ≡ e → nested (fieldsAt d a) ≤ n → Run d a e r → Same d κ a → Matches s κ
+      → At a s q → Open a e → FitNode (nodeAt k d a n) → SoundNode free κ (nodeAt k d a n)
+      → ((κ′ : Known) (t : Slots) (x : ℕ) → κ′ ≡ afterNode (nodeAt k d a n) κ → Run d (endOf d a) e r → Same d κ′ (endOf d a) → Matches t κ′ → At (endOf d a) t x → Open (endOf d a) e
+      → Walks (endOf d a) e (afterBody (bodyAt k d (endOf d a) (n - nested (fieldsAt d a))) κ′) (namesBody (bodyAt k d (endOf d a) (n - nested (fieldsAt d a))) v)
+      (layBody (bodyAt k d (endOf d a) (n - nested (fieldsAt d a))) img false t x))
+      → Walks a e (afterBody (bodyAt k d a (suc n)) κ) (namesBody (bodyAt k d a (suc n)) v) (layBody (bodyAt k d a (suc n)) img false s q)
+  unfolding afterBody namesBody layBody
+  walks-more k a n e r free κ s q deep below end fits run same m here o fit sound rest =
+      let l : a < e = omega arith in
+      let ends = first-ends p run l in
+      let u = nested (fieldsAt d a) in
+      let there : a + 1 + u ≡ endOf d a = omega arith in
+      rw (body-step k d a n, there)
+      (walks-then a (endOf d a) e (afterNode (nodeAt k d a n) κ) _ (namesNode (nodeAt k d a n) v) (namesBody (bodyAt k d (endOf d a) (n - u)) v)
+      (layNode (nodeAt k d a n) img false s q) (λ t x. layBody (bodyAt k d (endOf d a) (n - u)) img false t x) (omega arith) ends
+      (walks-node k a n e r free κ s q deep below run l same m here o fit sound)
+      (λ t x at matches.
+      rest (afterNode (nodeAt k d a n) κ) t x refl (rest-body p run l) (same-after k a n e r free κ s q run l same m here o sound) matches at (open-rest a e ends (run .whole) o)))
+
+  -- of no items
+  walks-none : (k a : ℕ) (κ : Known) (s : Slots) (q : ℕ) → Matches s κ → At a s q
+      → Walks a (a + 0) (afterBody (bodyAt k d a 0) κ) (namesBody (bodyAt k d a 0) v) (layBody (bodyAt k d a 0) img false s q)
+  unfolding afterBody namesBody layBody strip Every
+  walks-none k a κ s q m here =
+      let e : a + 0 ≡ a = omega arith in
+      rw (body-none k d a, e) (record { here = here; inside = λ i x y. absurd (omega arith); matches = m; names = refl; dimensions = tt })
+
+  sound-step : (k a n : ℕ) (free : Bool) (κ : Known) → SoundBody free κ (bodyAt k d a (suc n))
+      → SoundNode free κ (nodeAt k d a n) × SoundBody free (afterNode (nodeAt k d a n) κ) (bodyAt k d (a + 1 + nested (fieldsAt d a)) (n - nested (fieldsAt d a)))
+  unfolding SoundBody
+  sound-step k a n free κ h = subst (SoundBody free κ) (body-step k d a n) h
+
+  -- of fewer than m
+  walks-fewer : (k : ℕ) → k ≤ 4 → Bodies (innerAt k d) → (m a n e : ℕ) (r : Round) (free : Bool) (κ : Known) (s : Slots) (q : ℕ) → n < m → a + n ≡ e → Run d a e r → SoundBody free κ (bodyAt k d a n)
+      → Same d κ a → Matches s κ → At a s q → Open a e → Walks a e (afterBody (bodyAt k d a n) κ) (namesBody (bodyAt k d a n) v) (layBody (bodyAt k d a n) img false s q)
+  walks-fewer k deep below zero a n e r free κ s q few end run sound same m here o = absurd (omega arith)
+  walks-fewer k deep below (suc f) a zero e r free κ s q few end run sound same m here o =
+      subst (λ (x : ℕ). Walks a x (afterBody (bodyAt k d a 0) κ) (namesBody (bodyAt k d a 0) v) (layBody (bodyAt k d a 0) img false s q)) end (walks-none k a κ s q m here)
+  walks-fewer k deep below (suc f) a (suc n) e r free κ s q few end run sound same m here o =
+      let h = sound-step k a n free κ sound in
+      let fit = fit-node free κ (nodeAt k d a n) (h .0) in
+      let fits = fit-room d k a n fit in
+      let there : a + 1 + nested (fieldsAt d a) ≡ endOf d a = omega arith in
+      walks-more k a n e r free κ s q deep below end fits run same m here o fit (h .0)
+      (λ κ′ t x is run′ same′ m′ here′ o′.
+      walks-fewer k deep below f (endOf d a) (n - nested (fieldsAt d a)) e r free κ′ t x (omega arith) (omega arith) run′ (rw (is, ← there) (h .1)) same′ m′ here′ o′)
+
+  pub walks-body : (k : ℕ) → k ≤ 4 → Bodies (bodyAt k d)
+  unfolding innerAt SoundBody
+  walks-body zero deep a m r free κ s q run sound same g here o =
+      walks-fewer zero deep (λ a m r free κ s q run sound same g here o. absurd (sound .0)) (m + 1) a m (a + m) r free κ s q (omega arith) refl run sound same g here o
+  walks-body (suc k) deep a m r free κ s q run sound same g here o =
+      walks-fewer (suc k) deep (walks-body k (omega arith)) (m + 1) a m (a + m) r free κ s q (omega arith) refl run sound same g here o
