@@ -23,9 +23,9 @@ module _ {d img : List ℕ} {ts : List Seat} {es : List Placed} {s : Slots} {tot
   found-none p n h x a b q g =
       let f = holder o q x g in
       let e = f .element in
-      let z = every-among (Free p n) e es (search-free p n es h) (f .among) x a b (f .has .0) (f .has .1) in
-      let i : fieldsAt d (e .item) .sets ≡ fieldsAt d (q .item) .sets = ap (λ (j : ℕ). fieldsAt d j .sets) (f .item) in
-      le-ltb 0 (fieldsAt d (q .item) .sets) (omega (arith, own o e (f .among) .sets))
+      let z = every-among (Free p n) e es (search-free p n es h) (f .of .among) x a b (f .has .0) (f .has .1) in
+      let i : fieldsAt d (e .item) .sets ≡ fieldsAt d (q .item) .sets = ap (λ (j : ℕ). fieldsAt d j .sets) (f .of .item) in
+      le-ltb 0 (fieldsAt d (q .item) .sets) (omega (arith, own o e (f .of .among) .sets))
 
   -- none is touched: none is found
   pub none-found : (p n : ℕ) → NoDimension ours d img p n → anyDimension es p n ≡ false

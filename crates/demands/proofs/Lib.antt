@@ -7,6 +7,8 @@ pub mod Laid
 pub mod Rules
 pub mod Calendar
 pub mod Octets
+pub mod Outcomes
+pub mod Names
 pub mod Unique
 pub mod Elements
 pub mod Tables
@@ -17,4 +19,5 @@ pub mod Allowed
 pub mod Writes
 pub mod RangeWrites
 pub mod ElementWrites
+pub mod Demand3
 pub mod Demand2

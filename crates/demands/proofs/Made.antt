@@ -44,5 +44,5 @@ table-made-up d img i p n l is reply q x h =
     let lies = every-among (λ u. Every (LiesIn d u) (w .elements)) t (w .seats) (tables-hold d img (w .seats) (w .elements) (w .slots) (w .total) (o .laid)) m in
     let only = every-among (λ u. Every (OfOrBeside d u) (w .elements)) t (w .seats) (tables-only d img (w .seats) (w .elements) (w .slots) (w .total) (o .laid)) m in
     let same = one-table (passed-laws d (o .passes)) (found-table o (w .at .found)) (record { there = l; is = is; manufacturer = refl; number = refl }) in
-    made-up d t e x (every-among (LiesIn d t) e (w .elements) lies (f .among)) (every-among (OfOrBeside d t) e (w .elements) only (f .among))
-    (f .has) same (f .item) (w .at .start) (w .at .size)
+    made-up d t e x (every-among (LiesIn d t) e (w .elements) lies (f .of .among)) (every-among (OfOrBeside d t) e (w .elements) only (f .of .among))
+    (f .has) same (f .of .item) (w .at .start) (w .at .size)

@@ -1,7 +1,8 @@
--- Of demand 3: laid out, the tables are the TABLEs of the description, in its order, each where the reply says, and they follow one another. Assumes nothing.
+-- Of demand 3: laid out, the tables are the TABLEs of the description, in its order, each where the reply says and where the walk has it, and they follow one another. Assumes nothing.
 use Prim.Native.Nat.{ℕ, zero, suc, _+_, _-_, _<_, _≤_}
 use mathlib.Core.Path.{_≡_, refl, _∙_, ap, sym, subst}
-use mathlib.Core.Bool.{Bool, true, false, _&&_}
+use mathlib.Core.Logic.{inl, inr}
+use mathlib.Core.Bool.{Bool, true, false, _&&_, true≢false, and-eq-true-iff}
 use mathlib.Core.List.{List, [], _∷_}
 use mathlib.Core.Option.{some}
 use borrow.Author.Tests.{eqb-true, eq-eqb}
@@ -9,24 +10,26 @@ use native.Mathlib.Decide.{decLt}
 use native.Mathlib.Omega.{arith}
 use Rattle.meaning.specs.Basics.{if_then_else_, _=?_}
 use Rattle.meaning.specs.declared.Reply.{Reply}
-use Rattle.meaning.specs.Description.{itemCount, fieldsAt, isTable, nested, inside, round}
+use Rattle.meaning.specs.Description.{itemCount, fieldsAt, isTable, isTableNamed, nested, inside, round}
 use Rattle.meaning.specs.Layout.{bodyAt, tablesOf, treeOf, Placed, Slots, Laid, laid, stopped}
 use Rattle.meaning.specs.Layout.{Seat, Layout, laidOut, stoppedAt, before, seated, layTables, layOut, layBody, tableNamed}
 use Rattle.meaning.specs.Passed.{PassedLaws, endOf}
-use Rattle.meaning.specs.Refusals.{layoutReply, seatPlace}
+use Rattle.meaning.specs.Refusals.{layoutReply, seatPlace, tablePlaceReply}
 use Rattle.meaning.proofs.Rules.{beyond, in-first, in-second}
 use Rattle.meaning.proofs.Nesting.{upward}
 use Rattle.meaning.proofs.Passed.{passed-laws}
 use Rattle.laying.specs.Every.{Every}
-use Rattle.laying.proofs.Among.{every-among, seat-among}
+use Rattle.laying.proofs.Among.{Among, every-among, seat-among}
 use Rattle.laying.proofs.Every.{every-map, every-both}
 use Rattle.laying.proofs.Steps.{tables-none, tables-step}
 use Rattle.laying.proofs.Nested.{Run, first-keeps, first-ends, rest-body}
 use Rattle.laying.proofs.Tops.{table-is, table-one, top, whole-run}
 use Rattle.laying.proofs.LaidOut.{tables-follow as follow-on}
-use Rattle.demands.specs.Demand3.{tablesFrom, itemsOf, Told, TablesFollow}
-use Rattle.demands.specs.Replies.{ours}
-use Rattle.laying.proofs.Opened.{Opens, table-laid, total-opens}
+use Rattle.demands.specs.Demand3.{tablesFrom, itemsOf, Told, TablesFollow, Seated, TablesStand}
+use Rattle.demands.specs.Replies.{ours, octetsAt}
+use Rattle.laying.proofs.Opened.{Opens, table-laid, table-opens, total-opens}
+use Rattle.laying.proofs.Found.{seat-of}
+use Rattle.demands.proofs.Laid.{laid-facts}
 
 -- THE TABLES OF THE DESCRIPTION
 module _ {d : List ℕ} (p : PassedLaws d) where
@@ -70,6 +73,17 @@ pub record TableNamed (d : List ℕ) (m k i : ℕ) : Type 0 where
   pub is : isTable (fieldsAt d i) ≡ true
   pub manufacturer : fieldsAt d i .manufacturer ≡ m
   pub number : fieldsAt d i .number ≡ k
+
+-- by the test
+pub named-is : {d : List ℕ} {m k i : ℕ} → i < itemCount d → isTableNamed (fieldsAt d i) m k ≡ true → TableNamed d m k i
+named-is {d} {m} {k} {i} l e =
+    let f = fieldsAt d i in
+    let c = and-eq-true-iff (isTable f && f .manufacturer =? m) (f .number =? k) .0 e in
+    let b = and-eq-true-iff (isTable f) (f .manufacturer =? m) .0 (c .0) in
+    record { there = l; is = b .0; manufacturer = eqb-true _ _ (b .1); number = eqb-true _ _ (c .1) }
+
+pub is-named : {d : List ℕ} {m k i : ℕ} → TableNamed d m k i → isTableNamed (fieldsAt d i) m k ≡ true
+is-named h = rw (h .is, eq-eqb _ _ (h .manufacturer), eq-eqb _ _ (h .number))
 
 -- the table of a TABLE of the description, from item lo on
 record SeatIn (d : List ℕ) (lo : ℕ) (t : Seat) : Type 0 where
@@ -132,8 +146,7 @@ module _ {d : List ℕ} (p : PassedLaws d) where
   -- there is one TABLE of a manufacturer bit and number
   pub one-table : {m k i j : ℕ} → TableNamed d m k i → TableNamed d m k j → i ≡ j
   one-table {i = i} {j} a b =
-      p .names i j (a .there) (b .there) (a .is)
-      (rw (b .is, eq-eqb _ _ (b .manufacturer ∙ sym (a .manufacturer)), eq-eqb _ _ (b .number ∙ sym (a .number))))
+      p .names i j (a .there) (b .there) (a .is) (rw (a .manufacturer, a .number) (is-named b))
 
   -- a table is found by its name after others of other items
   found-later : (lo : ℕ) (t : Seat) (ts : List Seat) (u : Seat) → SeatIn d lo t → SeatIn d lo u → t .item < u .item
@@ -160,6 +173,25 @@ module _ {d : List ℕ} (p : PassedLaws d) where
         (every-both (SeatIn d lo) (λ u. t .item < u .item) _ (λ u a b. (a, b)) ts (h .1) (o .0)) (found lo ts (h .1) (o .1)),
   )
 
+-- each TABLE of the description has a table
+listed : (d : List ℕ) (n at i : ℕ) → at ≤ i → i < at + n → isTable (fieldsAt d i) ≡ true → Among i (tablesFrom d n at)
+unfolding tablesFrom Among
+listed d zero at i a b t = absurd (omega arith)
+listed d (suc n) at i a b t = go (decLt at i) (isTable (fieldsAt d at)) refl (λ l. listed d n (at + 1) i l (omega arith) t)
+  where
+    go : Dec (at < i) → (c : Bool) → isTable (fieldsAt d at) ≡ c → (at + 1 ≤ i → Among i (tablesFrom d n (at + 1)))
+        → Among i (if c then at ∷ tablesFrom d n (at + 1) else tablesFrom d n (at + 1))
+    go (yes l) true e rest = inr (rest (omega arith))
+    go (yes l) false e rest = rest (omega arith)
+    go (no l) true e rest = inl (omega arith)
+    go (no l) false e rest = let z : at ≡ i = omega arith in absurd (true≢false (sym t ∙ rw z at e))
+
+of-item : (i : ℕ) (ts : List Seat) → Among i (itemsOf ts) → (t : Seat) × Among t ts × (t .item ≡ i)
+unfolding itemsOf Among
+of-item i [] m = absurd m
+of-item i (t ∷ ts) (inl e) = (t, inl refl, e)
+of-item i (t ∷ ts) (inr m) = let r = of-item i ts m in (r .0, inr (r .1), r .2)
+
 -- OF AN OPENED IMAGE
 module _ {d img : List ℕ} {ts : List Seat} {es : List Placed} {s : Slots} {total : ℕ} (o : Opens d img ts es s total) where
   -- the description is passed
@@ -179,12 +211,26 @@ module _ {d img : List ℕ} {ts : List Seat} {es : List Placed} {s : Slots} {tot
       let f = seat-among m k ts t e in
       rw (f .manufacturer, f .number) at (every-among (SeatIn d 0) t ts (seats .1) (f .among) .named)
 
+  -- each is found by its name
+  all-found : Every (λ t. tableNamed (t .manufacturer) (t .number) ts ≡ some t) ts
+  all-found = found laws 0 ts (seats .1) (seats .2)
+
+  -- and so is the table of each TABLE
+  pub table-found : {m k i : ℕ} → TableNamed d m k i → (t : Seat) × Among t ts × (t .item ≡ i) × (tableNamed m k ts ≡ some t)
+  table-found {m} {k} {i} h =
+      let r = of-item i ts (rw (seats .0) (listed d (itemCount d) 0 i (omega arith) (omega (arith, h .there)) (h .is))) in
+      let t = r .0 in
+      let n = rw (r .2) at (every-among (SeatIn d 0) t ts (seats .1) (r .1) .named) in
+      let same : t .manufacturer ≡ m = sym (n .manufacturer) ∙ h .manufacturer in
+      let also : t .number ≡ k = sym (n .number) ∙ h .number in
+      (t, r .1, r .2, rw (same, also) at (every-among _ t ts all-found (r .1)))
+
   -- each is where the reply says
   all-told : Every (Told ours d img) ts
   unfolding seatPlace
   all-told =
       every-both (SeatIn d 0) (λ t. tableNamed (t .manufacturer) (t .number) ts ≡ some t) (Told ours d img)
-      (λ t h e. record { reply = rw (h .named .manufacturer, h .named .number) (table-laid o _ _ ∙ ap seatPlace e) }) ts (seats .1) (found laws 0 ts (seats .1) (seats .2))
+      (λ t h e. record { reply = rw (h .named .manufacturer, h .named .number) (table-laid o _ _ ∙ ap seatPlace e) }) ts (seats .1) all-found
 
 -- laid out, the tables follow one another up to the total
 pub tables-follow : (d img : List ℕ) (total : ℕ) → layoutReply d img ≡ Reply.Total total → TablesFollow ours d img total
@@ -197,3 +243,34 @@ tables-follow d img total e =
       told = all-told o;
       follow = follow-on d img (t .seats) (t .elements) (t .slots) total (o .laid);
     }
+
+-- each stands from the end of the pieces before it to the end of its own
+pub tables-stand : (d img : List ℕ) (total : ℕ) → layoutReply d img ≡ Reply.Total total → TablesStand ours d img
+unfolding seatPlace
+tables-stand d img total e m k p n = (told, stands)
+  where
+    told : tablePlaceReply d img m k ≡ octetsAt p n → Seated d img m k p n
+    told h =
+        let w = table-opens d img m k p n h in
+        let t = w .at .seat in
+        let f = laid-facts (w .opens) in
+        let i = found-table (w .opens) (w .at .found) in
+        let m = seat-of w .among in
+        record {
+          item = t .item;
+          there = i .there;
+          is = is-named i;
+          starts = every-among _ t (w .seats) (f .starts) m ∙ w .at .start;
+          ends = every-among _ t (w .seats) (f .ends) m ∙ rw (w .at .start, w .at .size);
+        }
+
+    stands : Seated d img m k p n → tablePlaceReply d img m k ≡ octetsAt p n
+    stands s =
+        let o = total-opens d img total e in
+        let f = laid-facts (o .opens) in
+        let r = table-found (o .opens) (named-is (s .there) (s .is)) in
+        let t = r .0 in
+        let start : t .start ≡ p = sym (every-among _ t (o .seats) (f .starts) (r .1)) ∙ rw (r .2) (s .starts) in
+        let ends : t .start + t .size ≡ p + n = sym (every-among _ t (o .seats) (f .ends) (r .1)) ∙ rw (r .2) (s .ends) in
+        let size : t .size ≡ n = omega arith in
+        table-laid (o .opens) m k ∙ rw (r .3, start, size)

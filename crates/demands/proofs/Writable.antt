@@ -15,7 +15,7 @@ use Rattle.meaning.proofs.Nesting.{upward}
 use Rattle.laying.specs.Own.{OfItem}
 use Rattle.laying.proofs.Tops.{table-one}
 use Rattle.demands.specs.Demand2.{TableWritable, RoundWritable}
-use Rattle.demands.proofs.Tables.{TableNamed, one-table, body-none}
+use Rattle.demands.proofs.Tables.{TableNamed, named-is, is-named, one-table, body-none}
 
 -- THE TABLE ROUND AN ITEM
 -- the latest TABLE before item j is the one after which no other comes
@@ -80,13 +80,10 @@ module _ {d : List ℕ} (p : PassedLaws d) (img : List ℕ) where
   -- the table of that name is writable exactly where the TABLE found is
   pub named-writable : {m k i : ℕ} → TableNamed d m k i → TableWritable d img m k → writable d img i ≡ true
   named-writable {m} {k} h w =
-      let f = fieldsAt d (w .item) in
-      let c = and-eq-true-iff (isTable f && f .manufacturer =? m) (f .number =? k) .0 (w .is) in
-      let e = and-eq-true-iff (isTable f) (f .manufacturer =? m) .0 (c .0) in
-      let same = one-table p (record { there = w .there; is = e .0; manufacturer = eqb-true _ _ (e .1); number = eqb-true _ _ (c .1) }) h in
+      let same = one-table p (named-is (w .there) (w .is)) h in
       rw same at (w .marked)
 
   -- and the other way round
   pub writable-named : {m k i : ℕ} → TableNamed d m k i → writable d img i ≡ true → TableWritable d img m k
   writable-named {i = i} h w =
-      record { item = i; there = h .there; is = rw (h .is, eq-eqb _ _ (h .manufacturer), eq-eqb _ _ (h .number)); marked = w }
+      record { item = i; there = h .there; is = is-named h; marked = w }
