@@ -9,6 +9,8 @@ pub mod Calendar
 pub mod Octets
 pub mod Outcomes
 pub mod Names
+pub mod Tests
+pub mod FirstGiven
 pub mod Unique
 pub mod Elements
 pub mod Tables
@@ -21,3 +23,6 @@ pub mod RangeWrites
 pub mod ElementWrites
 pub mod Demand3
 pub mod Demand2
+pub mod Known
+pub mod Demand1
+pub mod Demands

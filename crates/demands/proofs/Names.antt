@@ -6,7 +6,7 @@ use mathlib.Core.Bool.{Bool, true, false, _&&_, true≢false, and-eq-true-iff}
 use mathlib.Core.List.{List, []}
 use mathlib.Core.Option.{Option, some, none}
 use lib.ListN.{length, take}
-use borrow.Author.Tests.{lt-ltb, ltb-true}
+use borrow.Author.Tests.{lt-ltb, ltb-true, eqb-true}
 use native.Mathlib.Omega.{arith}
 use Rattle.meaning.specs.Basics.{if_then_else_, _=?_, _<?_, _≤?_}
 use Rattle.meaning.specs.declared.ElementName.{ElementName}
@@ -65,6 +65,17 @@ module _ {d : List ℕ} {v : ℕ → ℕ} {q : ElementName} where
       go true true true true false p r s t u = refl
       go true true true true true p r s t u = absurd (none-fails p r s t u n)
 
+-- a name that there is has as many subscripts as ARRAYs stand round its item
+pub name-long : (d : List ℕ) (v : ℕ → ℕ) (i : ℕ) (xs : List ℕ) → hasElement d v i xs ≡ true → length xs ≡ length (arraysRound d i)
+unfolding hasElement
+name-long d v i xs h =
+    let one = i <? itemCount d && isElement (fieldsAt d i) in
+    let long = length xs =? length (arraysRound d i) in
+    let below = allBelow d v (arraysRound d i) xs in
+    let chosen = and-eq-true-iff (one && long && below) (isChosen d v i) .0 h in
+    let rest = and-eq-true-iff (one && long) below .0 (chosen .0) in
+    eqb-true _ _ (and-eq-true-iff one long .0 (rest .0) .1)
+
 -- WHAT STANDS ROUND A DIMENSION: no ARRAY or IF
 module _ (d : List ℕ) where
   nests-none : (n at i : ℕ) → ((j : ℕ) → NestRound d j i → ⊥) → nestsIn d n at i ≡ []
@@ -96,7 +107,7 @@ module _ {d img : List ℕ} {ts : List Seat} {es : List Placed} {s : Slots} {tot
     pub of : ElementOf (q .item) (subscriptsOf q) es element
     pub found : elementIn q es ≡ some element
 
-  is-found : (q : ElementName) (e : Placed) → ElementOf (q .item) (subscriptsOf q) es e → (q .count ≤? 4) ≡ true → elementIn q es ≡ some e
+  pub is-found : (q : ElementName) (e : Placed) → ElementOf (q .item) (subscriptsOf q) es e → (q .count ≤? 4) ≡ true → elementIn q es ≡ some e
   unfolding elementIn
   is-found q e n c = rw (c, ← n .item, ← n .subscripts) (every-among _ e es (names-found d img ts es s total (o .laid)) (n .among))
 
@@ -109,7 +120,7 @@ module _ {d img : List ℕ} {ts : List Seat} {es : List Placed} {s : Slots} {tot
       record { element = t .element; of = n; found = is-found q (t .element) n (b .0) }
 
   -- there are no others
-  found-name : (q : ElementName) (e : Placed) → elementIn q es ≡ some e → exists d (numbersIn d img) q ≡ true
+  pub found-name : (q : ElementName) (e : Placed) → elementIn q es ≡ some e → exists d (numbersIn d img) q ≡ true
   unfolding exists elementIn
   found-name q e = go (q .count ≤? 4) refl
     where
