@@ -4,7 +4,7 @@ use Prim.Native.Nat.{ℕ, _+_, _-_, _<_, _≤_}
 use mathlib.Core.Path.{_≡_, refl, sym, _∙_, ap}
 use mathlib.Core.Bool.{Bool, true, false}
 use mathlib.Core.List.{List, _++_}
-use lib.ListN.{length, take, replicate, length-append, length-replicate}
+use lib.ListN.{length, replicate, length-append, length-replicate}
 use lib.Seq.{take-append-seam}
 use borrow.Author.Tests.{le-leb}
 use native.Mathlib.Omega.{arith}
@@ -98,13 +98,13 @@ module _ {d img : List ℕ} {ts : List Seat} {es : List Placed} {s : Slots} {tot
       let f = holder q x h in
       omega (arith, f .has .1, every-among (EndsBy total) (f .element) es (elements-end d img ts es s total (o .laid)) (f .of .among))
 
-  -- NAMES: the element at a place that is replied ends by the total
+  -- the element at a place that is replied ends by the total
   ends-by : (q : ElementName) (p n : ℕ) → elementPlaceReply d img q ≡ octetsAt p n → p + n ≤ total
   ends-by q p n e =
       let f = placed-at q p n e in
       omega (arith, f .start, f .size, every-among (EndsBy total) (f .element) es (elements-end d img ts es s total (o .laid)) (f .of .among))
 
-  -- each name that there is has one
+  -- NAMES: each that there is has an element
   pub name-told : (q : ElementName) → exists d (numbersIn d img) q ≡ true → (f : Found o q) × (elementPlaceReply d img q ≡ octetsAt (f .element .start) (f .element .size))
   unfolding placedPlace
   name-told q h = let f = name-found o q h in (f, where-laid o q ∙ ap placedPlace (f .found))
@@ -121,11 +121,11 @@ module _ {d img : List ℕ} {ts : List Seat} {es : List Placed} {s : Slots} {tot
   -- and no other has
   no-such : (q : ElementName) → Exactly (elementPlaceReply d img q ≡ Place.Refused noElement) (NoSuchElement d (numbersIn d img) q)
   unfolding placedPlace
-  no-such q = (go (exists d (numbersIn d img) q) refl, λ n. where-laid o q ∙ ap placedPlace (none-found o q (caused n)))
+  no-such q = (go (exists d (numbersIn d img) q) refl, λ n. where-laid o q ∙ ap placedPlace (none-found o q (caused d (numbersIn d img) q n)))
     where
       go : (b : Bool) → exists d (numbersIn d img) q ≡ b → elementPlaceReply d img q ≡ Place.Refused noElement → NoSuchElement d (numbersIn d img) q
       go true h e = let z : _≡_ {A = ℕ} 0 1 = cc (name-told q h .1) in absurd (omega arith)
-      go false h e = cause h
+      go false h e = cause d (numbersIn d img) q h
 
   -- the description's order
   in-order : (q r : ElementName) (p n x m : ℕ) → elementPlaceReply d img q ≡ octetsAt p n → elementPlaceReply d img r ≡ octetsAt x m

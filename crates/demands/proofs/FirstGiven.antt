@@ -1,7 +1,7 @@
 -- Of demand 1: each reply's refusal is the first of the question's list that is given. An image is opened, and then none of 1 to 9 is given and the other tests come to what the replies
 -- look at (proofs/Tests); or one of 1 to 9 is given, and every question gets it. Assumes nothing.
 use Prim.Native.Nat.{ℕ, zero, suc, _+_, _^_, _<_, _≤_}
-use mathlib.Core.Path.{_≡_, refl, sym, _∙_, ap}
+use mathlib.Core.Path.{_≡_, refl, sym, _∙_}
 use mathlib.Core.Bool.{Bool, true, false, not, _&&_, _||_}
 use mathlib.Core.List.{List, [], _∷_, _++_}
 use mathlib.Core.Option.{Option, some, none}
@@ -21,7 +21,7 @@ use Rattle.meaning.specs.declared.Refusal.{Refusal}
 use Rattle.meaning.specs.declared.Verdict.{Verdict}
 use Rattle.meaning.specs.Description.{itemCount, fieldsAt, isUint, checkReply}
 use Rattle.meaning.specs.Layout.{Placed, Seat, Slots, tableNamed, dataOrder}
-use Rattle.meaning.specs.Refusals.{verdictReply, placeReply, opened, refused, openImage, layoutIn, layoutReply, seatPlace, tablePlaceIn, tablePlaceReply, placePart, tablePartReply}
+use Rattle.meaning.specs.Refusals.{verdictReply, placeReply, refused, openImage, layoutIn, layoutReply, seatPlace, tablePlaceIn, tablePlaceReply, placePart, tablePartReply}
 use Rattle.meaning.specs.Refusals.{elementIn, placedPlace, elementPlaceIn, elementPlaceReply, integerPlace, placeNumber, elementNumberReply, placeVerdict}
 use Rattle.meaning.specs.Refusals.{writable, anyDimension, allowed, rangeOf, rangeIn, rangePlace, writeRangeReply, fitting, allowedAt, octetsPlaceIn}
 use Rattle.meaning.specs.Refusals.{writeOctetsReply, numberPlaceIn, writeNumberReply, tableAround}
@@ -32,9 +32,8 @@ use Rattle.meaning.specs.Calendar.{tierBySchedule}
 use Rattle.meaning.specs.Questions as ask
 use Rattle.meaning.specs.Questions.{Question, refusalIn}
 use Rattle.meaning.specs.Numbers.{imageShort, noTable, noElement, outsideTable, notWritable, holdsDimension, wrongSize, notADate, seasonChangeArmed, noRowOrColumn, notACalendar}
-use Rattle.meaning.proofs.Either.{tested}
 use Rattle.laying.proofs.Opened.{Opens, opening, opened-image, total-laid, table-laid, where-laid}
-use Rattle.demands.specs.Demand1.{given, firstOf, eight, nineFrom, ten, eleven, elevenNumber, twelve, thirteen, tableItem, touchesDimension, fourteen, fifteen}
+use Rattle.demands.specs.Demand1.{given, firstOf, eight, nineFrom, ten, eleven, elevenNumber, twelve, thirteen, tableItem, fourteen, fifteen}
 use Rattle.demands.specs.Demand1.{noneChosen, chosen, twenty, seventeenAndNineteen, sixteenToNineteen, ofCalendar, ofMoment, refusalsOf}
 use Rattle.demands.specs.Replies.{ours, outcomeBy, startOf, lengthOf}
 use Rattle.demands.specs.Walk.{octetBefore, runsPast, FirstPast}

@@ -1,4 +1,4 @@
--- placeholder
+-- What laying out comes to, in the words of specs/Walk: to be replaced by its proof. Assumes nothing.
 use Prim.Native.Nat.{ℕ}
 use mathlib.Core.Path.{_≡_}
 use mathlib.Core.List.{List}

@@ -1,22 +1,22 @@
 -- Of demands 1 and 3: which names have an element among those laid out is told by the description and the numbers of its dimensions; and a dimension's element has its item's name, without
 -- subscripts. Assumes nothing.
 use Prim.Native.Nat.{ℕ, zero, suc, _+_, _<_}
-use mathlib.Core.Path.{_≡_, refl, sym, _∙_, ap}
+use mathlib.Core.Path.{_≡_, refl, sym, _∙_}
 use mathlib.Core.Bool.{Bool, true, false, _&&_, true≢false, and-eq-true-iff}
 use mathlib.Core.List.{List, []}
 use mathlib.Core.Option.{Option, some, none}
-use lib.ListN.{length, take}
+use lib.ListN.{length}
 use borrow.Author.Tests.{lt-ltb, ltb-true, eqb-true}
 use native.Mathlib.Omega.{arith}
 use Rattle.meaning.specs.Basics.{if_then_else_, _=?_, _<?_, _≤?_}
 use Rattle.meaning.specs.declared.ElementName.{ElementName}
 use Rattle.meaning.specs.Description.{itemCount, fieldsAt, isElement, nests}
 use Rattle.meaning.specs.Layout.{Placed, Seat, Slots, elementNamed}
-use Rattle.meaning.specs.Passed.{Passes, Exactly, endOf}
+use Rattle.meaning.specs.Passed.{Passes, endOf}
 use Rattle.meaning.specs.Refusals.{elementIn}
 use Rattle.meaning.proofs.Either.{tested}
 use Rattle.meaning.proofs.Ranges.{fields-range}
-use Rattle.laying.proofs.Among.{Among, every-among, ElementOf, named-among}
+use Rattle.laying.proofs.Among.{every-among, ElementOf, named-among}
 use Rattle.laying.proofs.LaidOut.{names-found}
 use Rattle.laying.proofs.Opened.{Opens}
 use Rattle.demands.specs.Demand3.{NoSuchElement, notOne, fewOrMany, notBelow, notChosen}
@@ -26,55 +26,67 @@ use Rattle.demands.specs.Walk.{encloses, nestsIn, nestsRound, arraysOf, 
 use Rattle.demands.proofs.Laid.{laid-facts}
 use Rattle.demands.proofs.Rules.{check-in-words}
 
--- THE CAUSES OF "NO SUCH ELEMENT" are those of the test
-module _ {d : List ℕ} {v : ℕ → ℕ} {q : ElementName} where
+-- THE TESTS OF A NAME, and that all hold where there is one
+module _ (d : List ℕ) (v : ℕ → ℕ) (i : ℕ) (xs : List ℕ) where
+  abbrev isOne : Bool
+  isOne = i <? itemCount d && isElement (fieldsAt d i)
+
+  abbrev asMany : Bool
+  asMany = length xs =? length (arraysRound d i)
+
+  abbrev below : Bool
+  below = allBelow d v (arraysRound d i) xs
+
+  name-tests : hasElement d v i xs ≡ true → (isOne ≡ true) × (asMany ≡ true) × (below ≡ true) × (isChosen d v i ≡ true)
+  unfolding hasElement
+  name-tests h =
+      let all = and-eq-true-iff (isOne && asMany && below) (isChosen d v i) .0 h in
+      let three = and-eq-true-iff (isOne && asMany) below .0 (all .0) in
+      let two = and-eq-true-iff isOne asMany .0 (three .0) in
+      (two .0, two .1, three .1, all .1)
+
+  -- it has as many subscripts as ARRAYs stand round its item
+  pub name-long : hasElement d v i xs ≡ true → length xs ≡ length (arraysRound d i)
+  name-long h = eqb-true _ _ (name-tests h .1)
+
+-- THE CAUSES OF "NO SUCH ELEMENT" are the tests that fail
+not-true : (b : Bool) → (b ≡ true → ⊥) → b ≡ false
+not-true true h = absurd (h refl)
+not-true false h = refl
+
+first-cause : {A : Type 0} (few one many low taken : Bool) → (one ≡ false → A) → ((few && many) ≡ false → A) → (low ≡ false → A) → (taken ≡ false → A)
+    → (few && (one && many && low && taken)) ≡ false → A
+first-cause false b c e f k l m n h = l refl
+first-cause true false c e f k l m n h = k refl
+first-cause true true false e f k l m n h = l refl
+first-cause true true true false f k l m n h = m refl
+first-cause true true true true f k l m n h = n h
+
+module _ (d : List ℕ) (v : ℕ → ℕ) (q : ElementName) where
   pub cause : exists d v q ≡ false → NoSuchElement d v q
   unfolding exists hasElement
-  cause = go (q .count ≤? 4) (q .item <? itemCount d && isElement (fieldsAt d (q .item))) (length (subscriptsOf q) =? length (arraysRound d (q .item)))
-      (allBelow d v (arraysRound d (q .item)) (subscriptsOf q)) (isChosen d v (q .item)) refl refl refl refl refl
+  cause =
+      first-cause (q .count ≤? 4) (isOne d v (q .item) (subscriptsOf q)) (asMany d v (q .item) (subscriptsOf q)) (below d v (q .item) (subscriptsOf q)) (isChosen d v (q .item))
+      notOne fewOrMany notBelow notChosen
+
+  exists-tests : exists d v q ≡ true → ((q .count ≤? 4) ≡ true) × (hasElement d v (q .item) (subscriptsOf q) ≡ true)
+  unfolding exists
+  exists-tests h = and-eq-true-iff (q .count ≤? 4) (hasElement d v (q .item) (subscriptsOf q)) .0 h
+
+  no-cause : NoSuchElement d v q → exists d v q ≡ true → ⊥
+  no-cause n h = go n (exists-tests h .0) (name-tests d v (q .item) (subscriptsOf q) (exists-tests h .1))
     where
-      go : (a b c e f : Bool) → (q .count ≤? 4) ≡ a → (q .item <? itemCount d && isElement (fieldsAt d (q .item))) ≡ b
-          → (length (subscriptsOf q) =? length (arraysRound d (q .item))) ≡ c → allBelow d v (arraysRound d (q .item)) (subscriptsOf q) ≡ e → isChosen d v (q .item) ≡ f
-          → (a && (b && c && e && f)) ≡ false → NoSuchElement d v q
-      go false b c e f p r s t u h = fewOrMany (rw p)
-      go true false c e f p r s t u h = notOne r
-      go true true false e f p r s t u h = fewOrMany (rw (p, s))
-      go true true true false f p r s t u h = notBelow t
-      go true true true true f p r s t u h = notChosen (u ∙ h)
+      go : NoSuchElement d v q → (q .count ≤? 4) ≡ true
+          → (isOne d v (q .item) (subscriptsOf q) ≡ true) × (asMany d v (q .item) (subscriptsOf q) ≡ true) × (below d v (q .item) (subscriptsOf q) ≡ true)
+          × (isChosen d v (q .item) ≡ true)
+          → ⊥
+      go (notOne f) few t = true≢false (sym (t .0) ∙ f)
+      go (fewOrMany f) few t = true≢false (rw (few, t .1) at f)
+      go (notBelow f) few t = true≢false (sym (t .2) ∙ f)
+      go (notChosen f) few t = true≢false (sym (t .3) ∙ f)
 
   pub caused : NoSuchElement d v q → exists d v q ≡ false
-  unfolding exists hasElement
-  caused n = go (q .count ≤? 4) (q .item <? itemCount d && isElement (fieldsAt d (q .item))) (length (subscriptsOf q) =? length (arraysRound d (q .item)))
-      (allBelow d v (arraysRound d (q .item)) (subscriptsOf q)) (isChosen d v (q .item)) refl refl refl refl refl
-    where
-      none-fails : (q .count ≤? 4) ≡ true → (q .item <? itemCount d && isElement (fieldsAt d (q .item))) ≡ true
-          → (length (subscriptsOf q) =? length (arraysRound d (q .item))) ≡ true → allBelow d v (arraysRound d (q .item)) (subscriptsOf q) ≡ true → isChosen d v (q .item) ≡ true
-          → NoSuchElement d v q → ⊥
-      none-fails p r s t u (notOne h) = true≢false (sym r ∙ h)
-      none-fails p r s t u (fewOrMany h) = true≢false (rw (p, s) at h)
-      none-fails p r s t u (notBelow h) = true≢false (sym t ∙ h)
-      none-fails p r s t u (notChosen h) = true≢false (sym u ∙ h)
-
-      go : (a b c e f : Bool) → (q .count ≤? 4) ≡ a → (q .item <? itemCount d && isElement (fieldsAt d (q .item))) ≡ b
-          → (length (subscriptsOf q) =? length (arraysRound d (q .item))) ≡ c → allBelow d v (arraysRound d (q .item)) (subscriptsOf q) ≡ e → isChosen d v (q .item) ≡ f
-          → (a && (b && c && e && f)) ≡ false
-      go false b c e f p r s t u = refl
-      go true false c e f p r s t u = refl
-      go true true false e f p r s t u = refl
-      go true true true false f p r s t u = refl
-      go true true true true false p r s t u = refl
-      go true true true true true p r s t u = absurd (none-fails p r s t u n)
-
--- a name that there is has as many subscripts as ARRAYs stand round its item
-pub name-long : (d : List ℕ) (v : ℕ → ℕ) (i : ℕ) (xs : List ℕ) → hasElement d v i xs ≡ true → length xs ≡ length (arraysRound d i)
-unfolding hasElement
-name-long d v i xs h =
-    let one = i <? itemCount d && isElement (fieldsAt d i) in
-    let long = length xs =? length (arraysRound d i) in
-    let below = allBelow d v (arraysRound d i) xs in
-    let chosen = and-eq-true-iff (one && long && below) (isChosen d v i) .0 h in
-    let rest = and-eq-true-iff (one && long) below .0 (chosen .0) in
-    eqb-true _ _ (and-eq-true-iff one long .0 (rest .0) .1)
+  caused n = not-true (exists d v q) (no-cause n)
 
 -- WHAT STANDS ROUND A DIMENSION: no ARRAY or IF
 module _ (d : List ℕ) where
@@ -112,9 +124,8 @@ module _ {d img : List ℕ} {ts : List Seat} {es : List Placed} {s : Slots} {tot
   is-found q e n c = rw (c, ← n .item, ← n .subscripts) (every-among _ e es (names-found d img ts es s total (o .laid)) (n .among))
 
   pub name-found : (q : ElementName) → exists d (numbersIn d img) q ≡ true → Found q
-  unfolding exists
   name-found q h =
-      let b = and-eq-true-iff (q .count ≤? 4) (hasElement d (numbersIn d img) (q .item) (subscriptsOf q)) .0 h in
+      let b = exists-tests d (numbersIn d img) q h in
       let t = laid-facts o .all (q .item) (subscriptsOf q) (b .1) in
       let n : ElementOf (q .item) (subscriptsOf q) es (t .element) = record { among = t .among; item = t .item; subscripts = t .subscripts } in
       record { element = t .element; of = n; found = is-found q (t .element) n (b .0) }

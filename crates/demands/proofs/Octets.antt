@@ -1,6 +1,5 @@
 -- Of demand 2: the octets of a number are octets, each below 256, of any width and in either DATA_ORDER. Assumes nothing.
 use Prim.Native.Nat.{ℕ, zero, suc, _/_, _<_}
-use mathlib.Core.Path.{_≡_}
 use mathlib.Core.Bool.{Bool, true, false}
 use mathlib.Core.List.{List, [], _∷_, reverse, reverse-cons}
 use lib.ListN.{getD}

@@ -10,11 +10,11 @@ use borrow.Author.Tests.{ltb-true}
 use native.Mathlib.Decide.{decLt}
 use native.Mathlib.Omega.{arith}
 use Rattle.meaning.specs.declared.Reply.{Reply}
-use Rattle.meaning.specs.Layout.{Placed, Seat, Slots, short, stoppedAt, layOut}
+use Rattle.meaning.specs.Layout.{Placed, short, stoppedAt, layOut}
 use Rattle.meaning.specs.Refusals.{toldBy, stopRefusal, openLaid, layoutIn, layoutReply}
 use Rattle.meaning.specs.Numbers.{imageShort}
 use Rattle.laying.specs.Outcomes.{Lays}
-use Rattle.laying.proofs.Opened.{Opens, opening, open-laid, total-laid, total-opens}
+use Rattle.laying.proofs.Opened.{opening, open-laid, total-laid, total-opens}
 use Rattle.laying.proofs.Reaches.{passed-lays}
 use Rattle.demands.specs.Demand3.{PassedExactly, Passed, NoneMet, LaysOrShort, ShortExactly, AllInside, TotalExactly}
 use Rattle.demands.specs.Replies.{ours}

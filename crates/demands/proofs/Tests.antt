@@ -1,22 +1,19 @@
 -- Of demand 1: over an opened image, the tests by which a question is refused come to what the replies look at: whether a table and an element are found, which item the table is of, and
 -- whether octets are a dimension's. Assumes nothing.
 use Prim.Native.Nat.{ℕ, zero, suc, _+_, _<_, _≤_, min, max}
-use mathlib.Core.Path.{_≡_, refl, sym, _∙_, ap, subst}
-use mathlib.Core.Logic.{inl, inr}
-use mathlib.Core.Bool.{Bool, true, false, not, _&&_, _||_, true≢false, and-eq-true-iff}
+use mathlib.Core.Path.{_≡_, refl, sym, _∙_, ap}
+use mathlib.Core.Bool.{Bool, true, false, not, _&&_, _||_, true≢false}
 use mathlib.Core.List.{List, [], _∷_}
 use mathlib.Core.Option.{Option, some, none}
 use lib.ListN.{length}
-use borrow.Author.Tests.{eqb-true, ltb-true, ltb-false, le-ltb, lt-ltb}
+use borrow.Author.Tests.{ltb-true, ltb-false, lt-ltb}
 use native.Mathlib.Decide.{decLt}
 use native.Mathlib.Omega.{arith}
-use Rattle.meaning.specs.Basics.{if_then_else_, _=?_, _<?_}
+use Rattle.meaning.specs.Basics.{if_then_else_, _<?_}
 use Rattle.meaning.specs.declared.ElementName.{ElementName}
-use Rattle.meaning.specs.declared.Place.{Place}
-use Rattle.meaning.specs.Description.{itemCount, fieldsAt, isElement, isTableNamed, isDimension, tableGiven}
+use Rattle.meaning.specs.Description.{itemCount, fieldsAt, isTableNamed, isDimension, tableGiven}
 use Rattle.meaning.specs.Layout.{Placed, Seat, Slots, tableNamed}
 use Rattle.meaning.specs.Refusals.{anyDimension, elementIn, placedPlace, elementPlaceReply}
-use Rattle.meaning.proofs.Either.{tested}
 use Rattle.meaning.proofs.Given.{table-given}
 use Rattle.meaning.proofs.Passed.{passed-laws}
 use Rattle.meaning.proofs.Rules.{either-false, both-false}
@@ -26,7 +23,7 @@ use Rattle.laying.proofs.Found.{own}
 use Rattle.laying.proofs.Opened.{Opens, where-laid}
 use Rattle.demands.specs.Demand1.{tableItem, meets, someBefore, touchesDimension}
 use Rattle.demands.specs.Replies.{ours, octetsAt, alone}
-use Rattle.demands.specs.Walk.{numbersIn, arraysOf, arraysRound, allBelow, isChosen, hasElement, subscriptsOf, exists}
+use Rattle.demands.specs.Walk.{numbersIn, arraysOf, hasElement, exists}
 use Rattle.demands.proofs.Elements.{name-told}
 use Rattle.demands.proofs.Laid.{laid-facts}
 use Rattle.demands.proofs.Names.{name-long, dimension-direct, dimension-exists, is-found, name-found, found-name}

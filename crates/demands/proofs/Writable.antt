@@ -1,12 +1,10 @@
 -- Of demand 2: the mark that a write looks at is that of the table named, or of the one table that the element's item stands in. Assumes nothing.
 use Prim.Native.Nat.{ℕ, zero, suc, _+_, _<_, _≤_}
 use mathlib.Core.Path.{_≡_, refl}
-use mathlib.Core.Bool.{Bool, true, false, not, _&&_, and-eq-true-iff}
+use mathlib.Core.Bool.{Bool, true, false, not}
 use mathlib.Core.List.{List}
-use borrow.Author.Tests.{eqb-true, eq-eqb}
 use native.Mathlib.Decide.{decLt}
 use native.Mathlib.Omega.{arith}
-use Rattle.meaning.specs.Basics.{_=?_}
 use Rattle.meaning.specs.Description.{itemCount, fieldsAt, isTable, count, inside, round}
 use Rattle.meaning.specs.Passed.{PassedLaws, endOf}
 use Rattle.meaning.specs.Refusals.{tableAround, writable}
