@@ -1,4 +1,4 @@
--- What laying out comes to, in the words of specs/Walk: to be replaced by its proof. Assumes nothing.
+-- What laying out comes to, in the words of specs/Walk: statements alone, with a hole for each proof. Its proof takes the place of this file.
 use Prim.Native.Nat.{ℕ}
 use mathlib.Core.Path.{_≡_}
 use mathlib.Core.List.{List}
