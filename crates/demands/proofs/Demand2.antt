@@ -1,0 +1,45 @@
+-- DEMAND 2, every clause, for every description and image. Assumes nothing.
+use Prim.Native.Nat.{ℕ}
+use mathlib.Core.Path.{_≡_}
+use mathlib.Core.Bool.{true}
+use mathlib.Core.List.{List}
+use Rattle.meaning.specs.Basics.{part}
+use Rattle.meaning.specs.declared.ElementName.{ElementName}
+use Rattle.meaning.specs.declared.Reply.{Reply}
+use Rattle.meaning.specs.declared.Place.{Place}
+use Rattle.meaning.specs.Description.{fieldsAt, isUint}
+use Rattle.meaning.specs.Layout.{numberAt}
+use Rattle.meaning.specs.Refusals.{elementPlaceReply, placePart, tablePartReply, elementPartReply, integerPlace, placeNumber, elementNumberReply}
+use Rattle.almanac.proofs.Choices.{season-says, special-says}
+use Rattle.almanac.proofs.NextDay.{days}
+use Rattle.demands.specs.Demand2.{Reads, Calendar, Demand2}
+use Rattle.demands.specs.Replies.{octetsAt, ours}
+use Rattle.demands.proofs.Calendar.{tier-says, matrix-says}
+use Rattle.demands.proofs.RangeWrites.{range-writes}
+use Rattle.demands.proofs.ElementWrites.{octets-writes, number-writes}
+
+part-told : (img : List ℕ) (x : Place) (p n : ℕ) → x ≡ octetsAt p n → placePart img x ≡ part img p n
+unfolding placePart
+part-told img x p n e = rw e
+
+number-told : (d img : List ℕ) (q : ElementName) (p n : ℕ) → elementPlaceReply d img q ≡ octetsAt p n → isUint (fieldsAt d (q .item)) ≡ true
+    → elementNumberReply d img q ≡ Reply.Number (numberAt img p n)
+unfolding elementNumberReply integerPlace placeNumber
+number-told d img q p n e u = rw (e, u)
+
+reads : (d img : List ℕ) → Reads ours d img
+unfolding tablePartReply elementPartReply
+reads d img = record { table = λ m k p n e. part-told img _ p n e; element = λ q p n e. part-told img _ p n e; number = number-told d img }
+
+calendar : (d img : List ℕ) → Calendar ours d img
+calendar d img = record { tier = tier-says d img; matrix = matrix-says d img; days = days; season = season-says; special = special-says }
+
+pub demand-2 : (d img : List ℕ) → Demand2 ours d img
+demand-2 d img =
+    record {
+      reads = reads d img;
+      calendar = calendar d img;
+      range = range-writes d img;
+      octets = octets-writes d img;
+      number = number-writes d img;
+    }

@@ -1,0 +1,355 @@
+-- Of demand 1: each reply's refusal is the first of the question's list that is given. An image is opened, and then none of 1 to 9 is given and the other tests come to what the replies
+-- look at (proofs/Tests); or one of 1 to 9 is given, and every question gets it. Assumes nothing.
+use Prim.Native.Nat.{ℕ, zero, suc, _+_, _^_, _<_, _≤_}
+use mathlib.Core.Path.{_≡_, refl, sym, _∙_}
+use mathlib.Core.Bool.{Bool, true, false, not, _&&_, _||_}
+use mathlib.Core.List.{List, [], _∷_, _++_}
+use mathlib.Core.Option.{Option, some, none}
+use lib.ListN.{length}
+use borrow.Author.Tests.{le-ltb}
+use native.Mathlib.Decide.{decLt}
+use native.Mathlib.Omega.{arith}
+use Rattle.offsets.specs.declared.TableOffset.{TableOffset}
+use Rattle.meaning.specs.Basics.{if_then_else_, _=?_, _<?_, _≤?_}
+use Rattle.meaning.specs.declared.Chosen.{Chosen}
+use Rattle.meaning.specs.declared.Controls.{Controls}
+use Rattle.meaning.specs.declared.ElementName.{ElementName}
+use Rattle.meaning.specs.declared.Moment.{Moment}
+use Rattle.meaning.specs.declared.Quantity.{Quantity}
+use Rattle.meaning.specs.declared.Place.{Place}
+use Rattle.meaning.specs.declared.Refusal.{Refusal}
+use Rattle.meaning.specs.declared.Verdict.{Verdict}
+use Rattle.meaning.specs.Description.{itemCount, fieldsAt, isUint, checkReply}
+use Rattle.meaning.specs.Layout.{Placed, Seat, Slots, tableNamed, dataOrder}
+use Rattle.meaning.specs.Refusals.{verdictReply, placeReply, refused, openImage, layoutIn, layoutReply, seatPlace, tablePlaceIn, tablePlaceReply, placePart, tablePartReply}
+use Rattle.meaning.specs.Refusals.{elementIn, placedPlace, elementPlaceIn, elementPlaceReply, integerPlace, placeNumber, elementNumberReply, placeVerdict}
+use Rattle.meaning.specs.Refusals.{writable, anyDimension, allowed, rangeOf, rangeIn, rangePlace, writeRangeReply, fitting, allowedAt, octetsPlaceIn}
+use Rattle.meaning.specs.Refusals.{writeOctetsReply, numberPlaceIn, writeNumberReply, tableAround}
+use Rattle.meaning.specs.Calendar.{Found, found, missing, realDate, realTime, controlsOf, table54Size, missingSpecial}
+use Rattle.meaning.specs.Calendar.{tierFrom, sized, seatOctets, seatsFound, calendarIn, calendar, tierOn, tierDay, tierIn, tierReply}
+use Rattle.meaning.specs.Calendar.{matrixVerdictIn, matrixVerdict}
+use Rattle.meaning.specs.Calendar.{tierBySchedule}
+use Rattle.meaning.specs.Questions as ask
+use Rattle.meaning.specs.Questions.{Question, refusalIn}
+use Rattle.meaning.specs.Numbers.{imageShort, noTable, noElement, outsideTable, notWritable, holdsDimension, wrongSize, notADate, seasonChangeArmed, noRowOrColumn, notACalendar}
+use Rattle.laying.proofs.Opened.{Opens, opening, opened-image, total-laid, table-laid, where-laid}
+use Rattle.demands.specs.Demand1.{given, firstOf, eight, nineFrom, ten, eleven, elevenNumber, twelve, thirteen, tableItem, fourteen, fifteen}
+use Rattle.demands.specs.Demand1.{noneChosen, chosen, twenty, seventeenAndNineteen, sixteenToNineteen, ofCalendar, ofMoment, refusalsOf}
+use Rattle.demands.specs.Replies.{ours, outcomeBy, startOf, lengthOf}
+use Rattle.demands.specs.Walk.{octetBefore, runsPast, FirstPast}
+use Rattle.demands.proofs.Laid.{laid-facts, short-first}
+use Rattle.demands.proofs.Tests.{noSeat, noPlaced, table-test, table-item, element-test, dimension-test}
+
+-- the refusal of a verdict and of a place
+abbrev verdictRefusal : Verdict → Option Refusal
+verdictRefusal v = refusalIn (verdictReply v)
+
+abbrev placeRefusal : Place → Option Refusal
+placeRefusal p = refusalIn (placeReply p)
+
+-- and of the write that comes to that place
+abbrev writeRefusal : Place → Option Refusal
+writeRefusal p = verdictRefusal (placeVerdict p)
+
+-- no test more
+none-given : none ≡ firstOf []
+unfolding firstOf
+none-given = refl
+
+-- A TEST MORE, before others: where it holds, its refusal is told; else what the others come to
+module _ {A : Type 0} (told : A → Option Refusal) (b : Bool) (r : Refusal) (x y : A) (rest : List (Option Refusal)) (e : told x ≡ some r) (f : told y ≡ firstOf rest) where
+  test-first : told (if b then x else y) ≡ firstOf (given b r ∷ rest)
+  unfolding firstOf given
+  test-first = go b
+    where
+      go : (b : Bool) → told (if b then x else y) ≡ firstOf (given b r ∷ rest)
+      go true = e
+      go false = f
+
+  -- and where it fails
+  fails-first : told (if b then y else x) ≡ firstOf (given (not b) r ∷ rest)
+  unfolding firstOf given
+  fails-first = go b
+    where
+      go : (b : Bool) → told (if b then y else x) ≡ firstOf (given (not b) r ∷ rest)
+      go true = f
+      go false = e
+
+-- WHAT IS LOOKED AT ONCE THE IMAGE IS OPENED, question by question: tests in the order of the list
+-- a table, an element, an integer
+table-first : (x : Option Seat) → placeRefusal (seatPlace x) ≡ firstOf (given (noSeat x) noTable ∷ [])
+unfolding refusalIn placeReply seatPlace firstOf given noSeat
+table-first none = refl
+table-first (some t) = refl
+
+element-first : (x : Option Placed) → placeRefusal (placedPlace x) ≡ firstOf (given (noPlaced x) noElement ∷ [])
+unfolding refusalIn placeReply placedPlace firstOf given noPlaced
+element-first none = refl
+element-first (some e) = refl
+
+number-first : (d img : List ℕ) (i : ℕ) (x : Option Placed)
+    → refusalIn (placeNumber img (integerPlace d i (placedPlace x))) ≡ firstOf (given (noPlaced x || not (isUint (fieldsAt d i))) noElement ∷ [])
+unfolding refusalIn placeNumber integerPlace placedPlace firstOf given noPlaced
+number-first d img i none = refl
+number-first d img i (some e) = fails-first (λ v. refusalIn (placeNumber img v)) (isUint (fieldsAt d i)) noElement _ _ [] refl refl
+
+-- 13 and 14, and what comes behind them: a place that fits, or 15
+module _ (d img : List ℕ) (es : List Placed) where
+  abbrev behind : (t p n : ℕ) → List (Option Refusal) → List (Option Refusal)
+  behind t p n rest = given (not (writable d img t)) notWritable ∷ given (anyDimension es p n) holdsDimension ∷ rest
+
+  allowed-first : (t p n : ℕ) → writeRefusal (allowed d img es t p n) ≡ firstOf (behind t p n [])
+  unfolding refusalIn verdictReply placeVerdict allowed
+  allowed-first t p n =
+      test-first writeRefusal (not (writable d img t)) notWritable _ _ _ refl (test-first writeRefusal (anyDimension es p n) holdsDimension _ _ _ refl none-given)
+
+  fitting-first : (fits : ℕ → Bool) (t p n : ℕ)
+      → writeRefusal (fitting fits (allowed d img es t p n)) ≡ firstOf (behind t p n (given (not (fits n)) wrongSize ∷ []))
+  unfolding refusalIn verdictReply placeVerdict fitting allowed
+  fitting-first fits t p n =
+      test-first (λ v. writeRefusal (fitting fits v)) (not (writable d img t)) notWritable _ _ _ refl
+      (test-first (λ v. writeRefusal (fitting fits v)) (anyDimension es p n) holdsDimension _ _ _ refl
+      (fails-first writeRefusal (fits n) wrongSize _ _ _ refl none-given))
+
+  -- the three writes
+  range-first : (o : TableOffset) (n i : ℕ) (x : Option Seat) → ((t : Seat) → x ≡ some t → i ≡ t .item)
+      → writeRefusal (rangeOf d img es o n x)
+      ≡ firstOf (given (noSeat x) noTable ∷ given (lengthOf (seatPlace x) <? o .0 + n) outsideTable ∷ behind i (startOf (seatPlace x) + o .0) n [])
+  unfolding rangeOf noSeat seatPlace lengthOf startOf firstOf given refusalIn verdictReply placeVerdict
+  range-first o n i none h = refl
+  range-first o n i (some t) h =
+      rw (h t refl)
+      (test-first writeRefusal (t .size <? o .0 + n) outsideTable _ _ (behind (t .item) (t .start + o .0) n []) refl (allowed-first (t .item) (t .start + o .0) n))
+
+  module _ (q : ElementName) (fits : ℕ → Bool) where
+    abbrev behindElement : Option Placed → List (Option Refusal)
+    behindElement x = behind (tableAround d (q .item)) (startOf (placedPlace x)) (lengthOf (placedPlace x)) (given (not (fits (lengthOf (placedPlace x)))) wrongSize ∷ [])
+
+    octets-first : (x : Option Placed) → writeRefusal (fitting fits (allowedAt d img q es (placedPlace x))) ≡ firstOf (given (noPlaced x) noElement ∷ behindElement x)
+    unfolding placedPlace allowedAt fitting noPlaced startOf lengthOf firstOf given refusalIn verdictReply placeVerdict
+    octets-first none = refl
+    octets-first (some e) = fitting-first fits (tableAround d (q .item)) (e .start) (e .size)
+
+    integer-first : (x : Option Placed)
+        → writeRefusal (fitting fits (allowedAt d img q es (integerPlace d (q .item) (placedPlace x))))
+        ≡ firstOf (given (noPlaced x || not (isUint (fieldsAt d (q .item)))) noElement ∷ behindElement x)
+    unfolding placedPlace integerPlace allowedAt fitting noPlaced startOf lengthOf firstOf given refusalIn verdictReply placeVerdict
+    integer-first none = refl
+    integer-first (some e) =
+        fails-first (λ v. writeRefusal (fitting fits (allowedAt d img q es v))) (isUint (fieldsAt d (q .item))) noElement _ _ (behindElement (some e)) refl
+        (fitting-first fits (tableAround d (q .item)) (e .start) (e .size))
+
+-- THE CALENDAR
+-- found, and none of 10 and 20 given; or one of them is
+abbrev foundRefusal : Found → Option Refusal
+foundRefusal (found o c t) = none
+foundRefusal (missing r) = some r
+
+-- a table's octets
+unfoldable octetsOf : (image : List ℕ) → Option Seat → List ℕ
+octetsOf img x = placePart img (seatPlace x)
+
+unfoldable tenAndTwenty : (image : List ℕ) → (table00 table51 table54 : Option Seat) → List (Option Refusal)
+tenAndTwenty img a b c =
+    given (noSeat a) noTable ∷ given (noSeat b) noTable ∷ given (noSeat c) noTable ∷ twenty (dataOrder img) (octetsOf img b) (octetsOf img c) ∷ []
+
+calendar-first : (img : List ℕ) (a b c : Option Seat) → foundRefusal (seatsFound img a b c) ≡ firstOf (tenAndTwenty img a b c)
+unfolding seatsFound sized tenAndTwenty twenty octetsOf placePart seatPlace noSeat firstOf given
+calendar-first img none b c = refl
+calendar-first img (some a) none c = refl
+calendar-first img (some a) (some b) none = refl
+calendar-first img (some a) (some b) (some c) =
+    fails-first foundRefusal (length (seatOctets img b) =? 9 && length (seatOctets img c) =? table54Size (controlsOf (dataOrder img) (seatOctets img b)))
+    notACalendar _ _ [] refl refl
+
+matrix-found : (f : Found) → verdictRefusal (matrixVerdictIn f) ≡ foundRefusal f
+unfolding refusalIn verdictReply matrixVerdictIn
+matrix-found (found o c t) = refl
+matrix-found (missing r) = refl
+
+-- a tier that is told, or that none has come yet, is no refusal
+tier-told : (x : Chosen) → refusalIn (tierFrom x) ≡ none
+unfolding refusalIn tierFrom
+tier-told Chosen.Nothing = refl
+tier-told (Chosen.Entry w b) = refl
+
+-- 17 and 19
+season-first : (o : ℕ) (c : Controls) (t : List ℕ) (day m : ℕ) (q : Quantity) (x s : Chosen)
+    → refusalIn (tierOn o c t day m q x s) ≡ firstOf (seventeenAndNineteen c x s)
+unfolding refusalIn tierOn tierBySchedule seventeenAndNineteen firstOf given noneChosen chosen
+season-first o c t day m q x Chosen.Nothing = refl
+season-first o c t day m q x (Chosen.Entry w s) = test-first refusalIn (c .seasons ≤? s || missingSpecial c x) noRowOrColumn _ _ [] refl (tier-told _)
+
+-- 16, 18, then those
+moment-first : (o : ℕ) (c : Controls) (t : List ℕ) (w : Moment) (q : Quantity) → refusalIn (tierIn w q (found o c t)) ≡ firstOf (sixteenToNineteen o c t w)
+unfolding refusalIn tierIn tierDay sixteenToNineteen
+moment-first o c t w q =
+    test-first refusalIn (not (realDate (w .year) (w .month) (w .day) && realTime (w .hour) (w .minute))) notADate _ _ _ refl
+    (test-first refusalIn (c .armed) seasonChangeArmed _ _ _ refl (season-first o c t _ _ q _ _))
+
+-- the calendar's refusal where there is one, else the moment's
+tier-first : (img : List ℕ) (w : Moment) (q : Quantity) (a b c : Option Seat)
+    → refusalIn (tierIn w q (seatsFound img a b c)) ≡ firstOf (tenAndTwenty img a b c ++ sixteenToNineteen (dataOrder img) (controlsOf (dataOrder img) (octetsOf img b)) (octetsOf img c) w)
+unfolding refusalIn tierIn seatsFound sized tenAndTwenty twenty octetsOf placePart seatPlace noSeat firstOf given
+tier-first img w q none b c = refl
+tier-first img w q (some a) none c = refl
+tier-first img w q (some a) (some b) none = refl
+tier-first img w q (some a) (some b) (some c) =
+    let k = controlsOf (dataOrder img) (seatOctets img b) in
+    fails-first (λ f. refusalIn (tierIn w q f)) (length (seatOctets img b) =? 9 && length (seatOctets img c) =? table54Size k) notACalendar _ _
+    (sixteenToNineteen (dataOrder img) k (seatOctets img c) w) refl (moment-first (dataOrder img) k (seatOctets img c) w q)
+
+-- 9
+module _ (d img : List ℕ) where
+  nine-none : (n i : ℕ) → ((j : ℕ) → j < i + n → runsPast d img j ≡ false) → nineFrom d img n i ≡ none
+  unfolding nineFrom
+  nine-none zero i h = refl
+  nine-none (suc n) i h = rw (h i (omega arith)) (nine-none n (i + 1) (λ j l. h j (omega arith)))
+
+  nine-first : {i p : ℕ} → FirstPast d img i p → (n k : ℕ) → k ≤ i → i < k + n → nineFrom d img n k ≡ some (imageShort i p)
+  unfolding nineFrom
+  nine-first f zero k a b = absurd (omega arith)
+  nine-first {i} {p} f (suc n) k a b = go (decLt k i) (λ l. nine-first f n (k + 1) l (omega arith))
+    where
+      go : Dec (k < i) → (k + 1 ≤ i → nineFrom d img n (k + 1) ≡ some (imageShort i p))
+          → (if runsPast d img k then some (imageShort k (octetBefore d img k)) else nineFrom d img n (k + 1)) ≡ some (imageShort i p)
+      go (yes l) rest = rw (f .before k l) (rest (omega arith))
+      go (no l) rest = let e : k ≡ i = omega arith in rw (e, f .past, f .at)
+
+-- FIRST GIVEN
+-- a description alone
+sound-given : (x : Option Refusal) → x ≡ firstOf (x ∷ [])
+unfolding firstOf
+sound-given none = refl
+sound-given (some r) = refl
+
+-- each question's refusal is the first of its list
+abbrev FirstGiven : (description image : List ℕ) → Question → Type 0
+FirstGiven d img q = refusalIn (outcomeBy ours q d img .reply) ≡ firstOf (refusalsOf ours q d img)
+
+-- the questions opened, up to what the image came to
+unfoldable asking : Unit {0}
+unfolding outcomeBy refusalsOf elementPlaceReply elementPlaceIn elementNumberReply tierReply matrixVerdict calendar calendarIn
+asking = tt
+
+unfoldable writing : Unit {0}
+unfolding writeRangeReply rangePlace rangeIn writeOctetsReply octetsPlaceIn writeNumberReply numberPlaceIn
+writing = tt
+
+-- one of 1 to 9 given: every question about an image gets it
+module _ (d img : List ℕ) (r : Refusal) (e : openImage d img ≡ refused r) (f : firstOf (refusalsOf ours ask.layout d img) ≡ some r) where
+  refused-first : (q : Question) → FirstGiven d img q
+  unfolding asking writing firstOf refusalIn verdictReply placeReply layoutReply layoutIn tablePlaceReply tablePlaceIn integerPlace placeNumber placeVerdict tierIn matrixVerdictIn
+  refused-first ask.check = sound-given (verdictRefusal (checkReply d))
+  refused-first ask.layout = rw e (sym f)
+  refused-first (ask.tablePlace m k) = rw e
+  refused-first (ask.tablePart m k) = rw e
+  refused-first (ask.elementPlace q) = rw e
+  refused-first (ask.elementPart q) = rw e
+  refused-first (ask.elementNumber q) = rw e
+  refused-first (ask.writeRange m k o new) = rw e
+  refused-first (ask.writeOctets q new) = rw e
+  refused-first (ask.writeNumber q x) = rw e
+  refused-first (ask.tier w q) = rw e
+  refused-first ask.matrix = rw e
+
+-- none of them given: the question's own tests
+module _ {d img : List ℕ} {ts : List Seat} {es : List Placed} {s : Slots} {n : ℕ} (o : Opens d img ts es s n) where
+  -- behind the layout's refusal, which there is none of
+  behind-layout : (rest : List (Option Refusal)) → firstOf (refusalIn (layoutReply d img) ∷ rest) ≡ firstOf rest
+  unfolding refusalIn firstOf
+  behind-layout rest = rw (total-laid o)
+
+  layout-opened : FirstGiven d img ask.layout
+  unfolding outcomeBy refusalsOf refusalIn firstOf eight given verdictReply
+  layout-opened =
+      rw (total-laid o, o .passes, le-ltb 65535 (length img) (o .allowed), nine-none d img (itemCount d) 0 (λ j l. laid-facts o .inside .pieces j (omega arith)))
+
+  -- what the tests look at
+  ten-is : (m k : ℕ) → ten d m k ≡ given (noSeat (tableNamed m k ts)) noTable
+  unfolding ten
+  ten-is m k = rw (table-test o m k)
+
+  eleven-is : (q : ElementName) → eleven d img q ≡ given (noPlaced (elementIn q es)) noElement
+  unfolding eleven
+  eleven-is q = rw (element-test o q)
+
+  number-is : (q : ElementName) → elevenNumber d img q ≡ given (noPlaced (elementIn q es) || not (isUint (fieldsAt d (q .item)))) noElement
+  unfolding elevenNumber
+  number-is q = rw (element-test o q)
+
+  fourteen-is : (p l : ℕ) → fourteen ours d img p l ≡ given (anyDimension es p l) holdsDimension
+  unfolding fourteen
+  fourteen-is p l = rw (dimension-test o p l)
+
+  part-is : (m k : ℕ) → tablePartReply d img m k ≡ octetsOf img (tableNamed m k ts)
+  unfolding tablePartReply octetsOf
+  part-is m k = rw (table-laid o m k)
+
+  -- places
+  table-opened : (m k : ℕ) → placeRefusal (tablePlaceReply d img m k) ≡ firstOf (refusalIn (layoutReply d img) ∷ ten d m k ∷ [])
+  table-opened m k = rw (behind-layout, ten-is m k, table-laid o m k) (table-first (tableNamed m k ts))
+
+  element-opened : (q : ElementName) → placeRefusal (elementPlaceReply d img q) ≡ firstOf (refusalIn (layoutReply d img) ∷ eleven d img q ∷ [])
+  element-opened q = rw (behind-layout, eleven-is q, where-laid o q) (element-first (elementIn q es))
+
+  number-opened : (q : ElementName) → refusalIn (elementNumberReply d img q) ≡ firstOf (refusalIn (layoutReply d img) ∷ elevenNumber d img q ∷ [])
+  unfolding elementNumberReply
+  number-opened q = rw (behind-layout, number-is q, where-laid o q) (number-first d img (q .item) (elementIn q es))
+
+  -- the three writes
+  range-opened : (m k : ℕ) (p : TableOffset) (new : List ℕ) → FirstGiven d img (ask.writeRange m k p new)
+  unfolding outcomeBy refusalsOf writeRangeReply rangePlace rangeIn twelve thirteen
+  range-opened m k p new =
+      rw (behind-layout, ten-is m k, fourteen-is, table-laid o m k, opened-image o)
+      (range-first d img es p (length new) (tableItem d (itemCount d) m k) (tableNamed m k ts) (table-item o m k))
+
+  octets-opened : (q : ElementName) (new : List ℕ) → FirstGiven d img (ask.writeOctets q new)
+  unfolding outcomeBy refusalsOf writeOctetsReply octetsPlaceIn thirteen fifteen
+  octets-opened q new =
+      rw (behind-layout, eleven-is q, fourteen-is, where-laid o q, opened-image o) (octets-first d img es q (λ l. length new =? l) (elementIn q es))
+
+  integer-opened : (q : ElementName) (x : ℕ) → FirstGiven d img (ask.writeNumber q x)
+  unfolding outcomeBy refusalsOf writeNumberReply numberPlaceIn thirteen fifteen
+  integer-opened q x =
+      rw (behind-layout, number-is q, fourteen-is, where-laid o q, opened-image o) (integer-first d img es q (λ l. x <? 256 ^ l) (elementIn q es))
+
+  -- the calendar
+  calendar-is : ofCalendar ours d img ≡ tenAndTwenty img (tableNamed 0 0 ts) (tableNamed 0 51 ts) (tableNamed 0 54 ts)
+  unfolding ofCalendar tenAndTwenty
+  calendar-is = rw (ten-is 0 0, ten-is 0 51, ten-is 0 54, part-is 0 51, part-is 0 54)
+
+  tier-opened : (w : Moment) (q : Quantity) → FirstGiven d img (ask.tier w q)
+  unfolding outcomeBy refusalsOf tierReply calendar calendarIn ofMoment
+  tier-opened w q =
+      rw (behind-layout, calendar-is, part-is 0 51, part-is 0 54, opened-image o) (tier-first img w q (tableNamed 0 0 ts) (tableNamed 0 51 ts) (tableNamed 0 54 ts))
+
+  matrix-opened : FirstGiven d img ask.matrix
+  unfolding outcomeBy refusalsOf matrixVerdict calendar calendarIn
+  matrix-opened =
+      rw (behind-layout, calendar-is, opened-image o) (matrix-found _ ∙ calendar-first img (tableNamed 0 0 ts) (tableNamed 0 51 ts) (tableNamed 0 54 ts))
+
+  opened-first : (q : Question) → FirstGiven d img q
+  unfolding outcomeBy refusalsOf
+  opened-first ask.check = sound-given (verdictRefusal (checkReply d))
+  opened-first ask.layout = layout-opened
+  opened-first (ask.tablePlace m k) = table-opened m k
+  opened-first (ask.tablePart m k) = table-opened m k
+  opened-first (ask.elementPlace q) = element-opened q
+  opened-first (ask.elementPart q) = element-opened q
+  opened-first (ask.elementNumber q) = number-opened q
+  opened-first (ask.writeRange m k p new) = range-opened m k p new
+  opened-first (ask.writeOctets q new) = octets-opened q new
+  opened-first (ask.writeNumber q x) = integer-opened q x
+  opened-first (ask.tier w q) = tier-opened w q
+  opened-first ask.matrix = matrix-opened
+
+-- each case of opening the image, with what 1 to 9 then are
+pub first-given : (d img : List ℕ) (q : Question) → FirstGiven d img q
+unfolding refusalsOf firstOf eight given refusalIn verdictReply
+first-given d img q =
+    opening d img (λ r e h. refused-first d img r h (rw e) q) (λ p l h. refused-first d img _ h (rw (p, l)) q)
+    (λ p l es i x e h.
+    let f = short-first d img p es i x e in
+    refused-first d img _ h (rw (p, l, nine-first d img f (itemCount d) 0 (omega arith) (omega (arith, f .there)))) q)
+    (λ ts es s n o. opened-first o q)
