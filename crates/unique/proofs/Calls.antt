@@ -1,7 +1,7 @@
 -- ONE REPLY, CALL BY CALL: no second reply fits what a public call of a library states, and no second content of the memory lent to it to be written. Each line is over
 -- the contract that Rattle makes from the call's `ensures`; tests/audit fails where a public call has no line here. Assumes nothing.
 use mathlib.Core.Path.{_≡_, refl, sym, _∙_}
-use denote.Ref.{now}
+use denote.Ref.{ptr, now}
 use Rattle.unique.specs.One.{OneReply, OnePart}
 use Rattle.unique.proofs.kept as kept
 use Rattle.offsets.proofs.TableOffset.new as offsets-TableOffset-new
@@ -116,8 +116,8 @@ one-basics-ends-within κs a x y later other p q = (p ∙ sym q, refl)
 pub one-octets-data-order : OneReply _ octets-data-order.Kinds.ps octets-data-order.Kinds.r octets-data-order.Reads.Learnt
 one-octets-data-order κs a x y later other p q = (p ∙ sym q, refl)
 
-pub one-octets-part : OnePart _ octets-part.Kinds.ps octets-part.Kinds.r (λ κs x. now x) octets-part.Reads.Learnt
-one-octets-part κs a x y later other p q = (p ∙ sym q, refl)
+pub one-octets-part : OnePart _ octets-part.Kinds.ps octets-part.Kinds.r (λ κs x. (ptr x, now x)) octets-part.Reads.Learnt
+one-octets-part κs a x y later other p q = ((λ i. ((p .1 ∙ sym (q .1)) i, (p .0 ∙ sym (q .0)) i)), refl)
 
 pub one-octets-number-in : OneReply _ octets-number-in.Kinds.ps octets-number-in.Kinds.r octets-number-in.Reads.Learnt
 one-octets-number-in κs a x y later other p q = (p .0 ∙ sym (q .0), refl)
@@ -171,11 +171,11 @@ pub one-places-range-in : OneReply _ places-range-in.Kinds.ps places-range-in.Ki
 one-places-range-in κs a x y later other p q = (p ∙ sym q, refl)
 
 -- crates/access
-pub one-access-table-part : OnePart _ access-table-part.Kinds.ps access-table-part.Kinds.r (λ κs x. now x) access-table-part.Reads.Learnt
-one-access-table-part κs a x y later other p q = (p ∙ sym q, refl)
+pub one-access-table-part : OnePart _ access-table-part.Kinds.ps access-table-part.Kinds.r (λ κs x. (ptr x, now x)) access-table-part.Reads.Learnt
+one-access-table-part κs a x y later other p q = ((λ i. ((p .1 ∙ sym (q .1)) i, (p .0 ∙ sym (q .0)) i)), refl)
 
-pub one-access-element-part : OnePart _ access-element-part.Kinds.ps access-element-part.Kinds.r (λ κs x. now x) access-element-part.Reads.Learnt
-one-access-element-part κs a x y later other p q = (p ∙ sym q, refl)
+pub one-access-element-part : OnePart _ access-element-part.Kinds.ps access-element-part.Kinds.r (λ κs x. (ptr x, now x)) access-element-part.Reads.Learnt
+one-access-element-part κs a x y later other p q = ((λ i. ((p .1 ∙ sym (q .1)) i, (p .0 ∙ sym (q .0)) i)), refl)
 
 pub one-access-element-number : OneReply _ access-element-number.Kinds.ps access-element-number.Kinds.r access-element-number.Reads.Learnt
 one-access-element-number κs a x y later other p q = (p ∙ sym q, refl)
@@ -245,8 +245,8 @@ one-words-octets κs a x y later other p q = (p .reply ∙ sym (q .reply), λ i.
 pub one-words-split : OneReply _ words-split.Kinds.ps words-split.Kinds.r words-split.Reads.Learnt
 one-words-split κs a x y later other p q = (p ∙ sym q, refl)
 
-pub one-words-word : OnePart _ words-word.Kinds.ps words-word.Kinds.r (λ κs x. now x) words-word.Reads.Learnt
-one-words-word κs a x y later other p q = (p ∙ sym q, refl)
+pub one-words-word : OnePart _ words-word.Kinds.ps words-word.Kinds.r (λ κs x. (ptr x, now x)) words-word.Reads.Learnt
+one-words-word κs a x y later other p q = ((λ i. ((p .1 ∙ sym (q .1)) i, (p .0 ∙ sym (q .0)) i)), refl)
 
 pub one-words-index-of : OneReply _ words-index-of.Kinds.ps words-index-of.Kinds.r words-index-of.Reads.Learnt
 one-words-index-of κs a x y later other p q = (p ∙ sym q, refl)

@@ -13,8 +13,8 @@ OneReply n ps r says =
     (κs : Lfts n) (arguments : Dens κs ps) (x y : resT r κs .Denot) (later other : Lasts (endedOf n ps r) κs arguments) →
     says κs arguments x (atExit (endedOf n ps r) κs arguments later) → says κs arguments y (atExit (endedOf n ps r) κs arguments other) → (x ≡ y) × (later ≡ other)
 
--- the same of a reply that is a part of lent memory, by what is `seen` of it: its octets
-abbrev pub OnePart : (n : ℕ) (parameters : List (PK n)) (reply : RK n) → ((κs : Lfts n) → resT reply κs .Denot → List ℕ) → Out n parameters reply → Type 0
+-- the same of a reply that is a part of lent memory, by what is seen of it: where it stands, a block of memory and an octet in it, and its octets
+abbrev pub OnePart : (n : ℕ) (parameters : List (PK n)) (reply : RK n) → (seen : (κs : Lfts n) → resT reply κs .Denot → (ℕ × ℕ) × List ℕ) → Out n parameters reply → Type 0
 OnePart n ps r seen says =
     (κs : Lfts n) (arguments : Dens κs ps) (x y : resT r κs .Denot) (later other : Lasts (endedOf n ps r) κs arguments) →
     says κs arguments x (atExit (endedOf n ps r) κs arguments later) → says κs arguments y (atExit (endedOf n ps r) κs arguments other) → (seen κs x ≡ seen κs y) × (later ≡ other)
