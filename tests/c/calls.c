@@ -1,6 +1,6 @@
 /*
  * Calls of the C interface with octets and replies written by hand: what the line language can't ask, and the
- * scope document's starred examples. Prints how many checks there were; fails where one does.
+ * document 01's starred examples. Prints how many checks there were; fails where one does.
  */
 #include "bilashonge.h"
 
@@ -28,7 +28,7 @@ static void check(bool met, const char *what, int line)
 
 /* ----------------------------------------------------------------------------------- what is asked about */
 
-/* D of the scope document. Table 0: DATA_ORDER (slot 1) and an octet (slot 2). Table 5, writable: where bit
+/* D of document 01. Table 0: DATA_ORDER (slot 1) and an octet (slot 2). Table 5, writable: where bit
  * 7 of slot 2 is set, a BLOCK of 2 octets (item 5); then UINTs of 2 octets (item 7), as many as bits 0..2 of
  * slot 2 say. */
 static const uint8_t D[] = {

@@ -7,7 +7,7 @@
 //! and the rarest beside what is wanted of it; with all, every count.
 //! Of 150,000 requests and more, fails where a case came too seldom.
 //!
-//! Slips are cases too: readings of 01 that are easy to get wrong, of each how
+//! Slips are cases too: readings of document 01 that are easy to get wrong, of each how
 //! many requests a program that slips there would answer otherwise. For them
 //! the rules of the calendar stand here once more, in short; without a slip
 //! they must give the second program's reply.

@@ -1,5 +1,5 @@
 -- What is found lies inside the image, and over a description of whole items; so a write that is accepted fits where it goes. Assumes nothing.
-use Prim.Native.Nat.{ℕ, _+_, _^_, _<_, _≤_}
+use Prim.Native.Nat.{ℕ, _+_, _^_, _<_, _≤_, min}
 use mathlib.Core.Path.{_≡_, refl, _∙_, ap, sym, subst}
 use mathlib.Core.Bool.{Bool, true, false, not}
 use mathlib.Core.List.{List}
@@ -7,6 +7,7 @@ use mathlib.Core.Option.{Option, some, none}
 use lib.ListN.{length}
 use borrow.Author.Tests.{ltb-false, eqb-true}
 use native.Mathlib.Omega.{arith}
+use Rattle.offsets.specs.declared.ImageOffset.{ImageOffset}
 use Rattle.offsets.specs.declared.TableOffset.{TableOffset}
 use Rattle.meaning.specs.Basics.{if_then_else_, _<?_, _=?_}
 use Rattle.meaning.specs.declared.ElementName.{ElementName}
@@ -14,7 +15,7 @@ use Rattle.meaning.specs.declared.Refusal.{Refusal}
 use Rattle.meaning.specs.declared.Place.{Place}
 use Rattle.meaning.specs.Description.{itemCount, fieldsAt, isUint}
 use Rattle.meaning.specs.Layout.{Placed, Seat, tableNamed, numberAt}
-use Rattle.meaning.specs.Refusals.{openImage, seatPlace, elementPlaceReply, integerPlace, writable, anyDimension, tableAround, allowed, allowedAt, fitting, rangeOf, rangeIn, rangePlace, octetsPlaceIn, numberPlaceIn}
+use Rattle.meaning.specs.Refusals.{openImage, seatPlace, tablePlaceReply, elementPlaceReply, integerPlace, writable, anyDimension, tableAround, allowed, allowedAt, fitting, rangeOf, rangeIn, rangePlace, octetsPlaceIn, numberPlaceIn}
 use Rattle.meaning.proofs.Ranges.{fields-range}
 use Rattle.meaning.specs.Numbers.{outsideTable, notWritable, holdsDimension, wrongSize}
 use Rattle.laying.proofs.LaidOut.{total-inside}
@@ -22,7 +23,7 @@ use Rattle.laying.proofs.Found.{element-own, element-ends, table-ends}
 use Rattle.laying.proofs.Opened.{Came, opens, refuses, came, opened-image, table-laid, where-opens, table-opens, integer-exactly}
 use Rattle.octets.specs.Octets.{numberRead}
 use Rattle.octets.proofs.Laws.{read-there}
-use Rattle.access.specs.Access.{FitsAt, Inside}
+use Rattle.access.specs.Access.{FitsAt, Inside, firstOctet}
 use Rattle.access.proofs.Laws.{elementsIn, octets-told, number-told}
 
 -- AN ELEMENT
@@ -40,12 +41,28 @@ stands d img q p n e =
       few = λ u. let k = eqb-true (fieldsAt d (q .item) .kind) 2 u in omega (arith, element-own a .long (omega arith), fields-range d (q .item) .integer k);
     }
 
+pub element-inside : (d img : List ℕ) (q : ElementName) (v : Place) → v ≡ elementPlaceReply d img q → Inside img v
+element-inside d img q (Place.At p n) e = stands d img q (p .0) n (sym e) .inside
+element-inside d img q (Place.Refused r) e = tt
+
 -- an integer is read as it stands
 pub read-integer : (d img : List ℕ) (q : ElementName) (p n : ℕ) → integerPlace d (q .item) (elementPlaceReply d img q) ≡ Place.At (record { 0 = p }) n → numberRead img p n ≡ numberAt img p n
 read-integer d img q p n e =
     let i = integer-exactly d (q .item) (elementPlaceReply d img q) p n .0 e in
     let s = stands d img q p n (i .1) in
     read-there img p n (omega (arith, s .few (i .0))) (s .inside)
+
+-- A TABLE
+pub table-inside : (d img : List ℕ) (m k : ℕ) (v : Place) → v ≡ tablePlaceReply d img m k → Inside img v
+table-inside d img m k (Place.At p n) e =
+    let a = table-opens d img m k (p .0) n (sym e) in
+    omega (arith, table-ends a, total-inside d img (a .seats) (a .elements) (a .slots) (a .total) (a .opens .laid))
+table-inside d img m k (Place.Refused r) e = tt
+
+-- A PART stands at the first octet of its place, which the image's end doesn't cut
+pub first-told : (img : List ℕ) (w : Place) (p : ImageOffset) (n : ℕ) → Inside img w → w ≡ Place.At p n → min (p .0) (length img) ≡ firstOctet w
+unfolding firstOctet
+first-told img w p n h e = let k : p .0 + n ≤ length img = subst (Inside img) e h in rw e (omega (arith, k))
 
 -- AN ACCEPTED WRITE FITS WHERE IT GOES
 -- what holds of every refusal, and of the octets asked about, holds of what may be written

@@ -16,12 +16,12 @@ use offsets::ImageOffset;
 use offsets::TableOffset;
 use places::Ranged;
 ghost use mathlib.Core.Path.{_≡_};
-ghost use Prim.Native.Nat.{_^_, _<_};
+ghost use Prim.Native.Nat.{_+_, _^_, _<_};
 ghost use lib.ListN.{length};
 ghost use Rattle.meaning.specs.Basics.{if_then_else_, _<?_, _=?_};
 ghost use Rattle.meaning.specs.Description.{itemCount, isTable, isDimension};
-ghost use Rattle.meaning.specs.Refusals.{openImage, elementPlaceReply, placePart, tablePartReply, elementPartReply, integerPlace, elementNumberReply, placeVerdict, imageWith, rangePlace, octetsPlaceIn, numberPlaceIn, imageWithNumber, writeRangeReply, writeRangeImage, writeOctetsReply, writeOctetsImage, writeNumberReply, writeNumberImage};
-ghost use Rattle.access.specs.Access.{SeenAs, allowedBy, fittedBy, FitsAt};
+ghost use Rattle.meaning.specs.Refusals.{openImage, tablePlaceReply, elementPlaceReply, placePart, tablePartReply, elementPartReply, integerPlace, elementNumberReply, placeVerdict, imageWith, rangePlace, octetsPlaceIn, numberPlaceIn, imageWithNumber, writeRangeReply, writeRangeImage, writeOctetsReply, writeOctetsImage, writeNumberReply, writeNumberImage};
+ghost use Rattle.access.specs.Access.{SeenAs, allowedBy, fittedBy, FitsAt, Inside, firstOctet};
 
 // The kinds of items that are asked for.
 const TABLE: u32 = 1;
@@ -203,7 +203,9 @@ fn number_place(description: &[u8], image: &[u8], name: ElementName, value: u64)
 
 // THE OCTETS AT A PLACE
 fn part_at<'a>(image: &'a [u8], place: Place) -> &'a [u8]
-    ensures { λ r. ⌜ now r ≡ placePart (now (image .entry)) place ⌝ }
+    requires { ⌜ Inside (now image) place ⌝ }
+    ensures reply { λ r. ⌜ now r ≡ placePart (now (image .entry)) place ⌝ }
+    ensures place { λ r. ⌜ r .ptr ≡ (image .entry .ptr .0, image .entry .ptr .1 + firstOctet place) ⌝ }
 {
     match place {
         Place::Refused(_) => &image[0..0],
@@ -234,7 +236,8 @@ pub fn table_part<'a>(
     manufacturer: u32,
     number: u32,
 ) -> &'a [u8]
-    ensures { λ r. ⌜ now r ≡ tablePartReply (now (description .entry)) (now (image .entry)) manufacturer number ⌝ }
+    ensures reply { λ r. ⌜ now r ≡ tablePartReply (now (description .entry)) (now (image .entry)) manufacturer number ⌝ }
+    ensures place { λ r. ⌜ r .ptr ≡ (image .entry .ptr .0, image .entry .ptr .1 + firstOctet (tablePlaceReply (now (description .entry)) (now (image .entry)) manufacturer number)) ⌝ }
 {
     part_at(
         image,
@@ -244,7 +247,8 @@ pub fn table_part<'a>(
 
 // An element's octets, as a part of the image; empty on refusal.
 pub fn element_part<'a>(description: &[u8], image: &'a [u8], name: ElementName) -> &'a [u8]
-    ensures { λ r. ⌜ now r ≡ elementPartReply (now (description .entry)) (now (image .entry)) name ⌝ }
+    ensures reply { λ r. ⌜ now r ≡ elementPartReply (now (description .entry)) (now (image .entry)) name ⌝ }
+    ensures place { λ r. ⌜ r .ptr ≡ (image .entry .ptr .0, image .entry .ptr .1 + firstOctet (elementPlaceReply (now (description .entry)) (now (image .entry)) name)) ⌝ }
 {
     part_at(image, places::element_place(description, image, name))
 }

@@ -1,4 +1,4 @@
 // What the calendar's definitions come to, for the layers that answer by them: no function stands here.
 //
-// specs/ says it in the scope document's words: days and weekdays, what is chosen among records, the
+// specs/ says it in document 01's words: days and weekdays, what is chosen among records, the
 // matrix cell by cell; proofs/ shows it of the definitions of crate `meaning`.

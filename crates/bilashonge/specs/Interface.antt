@@ -1,4 +1,4 @@
--- THE C INTERFACE: what C hands over, as the values of which the definitions speak, and 01's numbers of an answer, as the fields of a struct. Assumes nothing.
+-- THE C INTERFACE: what C hands over, as the values of which the definitions speak, and document 01's numbers of an answer, as the fields of a struct. Assumes nothing.
 use Prim.Native.Nat.{ℕ}
 use mathlib.Core.List.{List, [], _∷_}
 use lib.ListN.{length, getD}

@@ -1,4 +1,4 @@
--- The statements of specs/Passed.antt hold for every description: the reply says what the rules say, and a passed description has what the scope document
+-- The statements of specs/Passed.antt hold for every description: the reply says what the rules say, and a passed description has what document 01
 -- asks of one. Assumes nothing.
 use Prim.Native.Nat.{ℕ, _+_, _<_, _≤_}
 use mathlib.Core.Path.{_≡_, refl, sym, ap, subst, _∙_}

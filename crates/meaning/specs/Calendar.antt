@@ -1,4 +1,4 @@
--- THE CALENDAR: the section of that name in the scope document. Dates and weekdays; tables 51 and 54; season, special schedule, schedule and tier; the matrix.
+-- THE CALENDAR: the section of that name in document 01. Dates and weekdays; tables 51 and 54; season, special schedule, schedule and tier; the matrix.
 -- A table is here the list of its octets, however the description divides it. Assumes nothing.
 use Prim.Native.Nat.{ℕ, zero, suc, _+_, _-_, _*_, _%_}
 use mathlib.Core.Bool.{Bool, false, not, _&&_, _||_}

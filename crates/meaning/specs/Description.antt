@@ -1,4 +1,4 @@
--- DESCRIPTION ITEMS: the section of that name in the scope document, and its refusals 1 to 7.
+-- DESCRIPTION ITEMS: the section of that name in document 01, and its refusals 1 to 7.
 -- A description is a list of octets. The rules are said flat: item i breaks rule n, by what stands before it and what encloses it. Counts include nested
 -- items, so a body is an interval of item numbers, and whatever a rule asks of an item is a search over the items before it. Assumes nothing.
 use Prim.Native.Nat.{ℕ, zero, suc, _+_, _*_, _/_, _%_}

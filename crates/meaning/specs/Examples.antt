@@ -1,5 +1,5 @@
--- EXAMPLES TO HOLD THE RULES AGAINST: the starred ones of the scope document as one statement, over the replies of the other files, in the
--- paper's numbers. proofs/Examples.antt proves it.
+-- EXAMPLES TO HOLD THE RULES AGAINST: the starred ones of document 01 as one statement, over the replies of the other files, in the
+-- document's numbers. proofs/Examples.antt proves it.
 use Prim.Native.Nat.{ℕ, _+_, _*_}
 use mathlib.Core.Path.{_≡_}
 use mathlib.Core.List.{List, [], _∷_}

@@ -1,4 +1,4 @@
--- LAYING OUT: the section of that name in the scope document.
+-- LAYING OUT: the section of that name in document 01.
 -- A description is read into a tree, each item with the bodies inside it. Laying the tree over an image gives the list of the elements that the image holds,
 -- each with its name and its place. What a passed description never meets (a dimension not read yet, a bit outside its element, an array of unequal
 -- elements) is an outcome of its own here, as is the short image, so that nothing is assumed of the description.

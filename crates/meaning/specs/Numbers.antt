@@ -1,4 +1,4 @@
--- THE REFUSALS BY NAME: the table "Refusal numbers" of the scope document. A refusal is its number and what it reports (`Refusal`, src/lib.rt): 2 to 7 report the
+-- THE REFUSALS BY NAME: the table "Refusal numbers" of document 01. A refusal is its number and what it reports (`Refusal`, src/lib.rt): 2 to 7 report the
 -- item, 9 the item and octet, others nothing more. Assumes nothing.
 use Prim.Native.Nat.{ℕ}
 use mathlib.Core.Bool.{Bool, _&&_, _||_}
@@ -12,7 +12,7 @@ reportsItem n = 2 ≤? n && n ≤? 7 || n =? 9
 abbrev pub reportsOctet : ℕ → Bool
 reportsOctet n = n =? 9
 
--- the last number on the paper
+-- the last number in document 01
 abbrev pub lastNumber : ℕ
 lastNumber = 20
 

@@ -1,4 +1,4 @@
--- WHAT A PASSED DESCRIPTION IS: that the reply says what the rules say, and what follows of a description that is passed, in the scope document's words.
+-- WHAT A PASSED DESCRIPTION IS: that the reply says what the rules say, and what follows of a description that is passed, in document 01's words.
 -- Statements only; proofs/Passed.antt proves each for every description. Assumes nothing.
 use Prim.Native.Nat.{ℕ, _+_, _*_, _<_, _≤_}
 use mathlib.Core.Path.{_≡_}

@@ -1,4 +1,4 @@
--- THE QUESTIONS: the list of "What the tool holds" in the scope document, a case each, with all that is asked and lent beside description and image; and what each
+-- THE QUESTIONS: the list of "What the tool holds" in document 01, a case each, with all that is asked and lent beside description and image; and what each
 -- comes to: its reply, the octets that it tells, and the image afterwards. The callers that know numbers and octets alone, C and lines of text, state their replies by
 -- these. Assumes nothing.
 use Prim.Native.Nat.{ℕ}

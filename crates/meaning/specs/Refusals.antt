@@ -1,4 +1,4 @@
--- REFUSAL NUMBERS: the section of that name in the scope document, and with it every question's reply and every write's later image.
+-- REFUSAL NUMBERS: the section of that name in document 01, and with it every question's reply and every write's later image.
 -- Each reply is a function of the description, the image and what is asked, so no second reply fits. Nothing is assumed of any of them.
 use Prim.Native.Nat.{ℕ, zero, suc, _+_, _^_, min, max}
 use mathlib.Core.Bool.{Bool, false, not, _&&_, _||_}

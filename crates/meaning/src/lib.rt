@@ -1,5 +1,5 @@
 // What a description's items are, what each question answers, and why it may be refused: the values that pass between the layers and to callers.
-// No function stands here. The definitions in specs/ say what these values mean, section by section of the scope document; the layers above make them.
+// No function stands here. The definitions in specs/ say what these values mean, section by section of document 01; the layers above make them.
 
 use offsets::ImageOffset;
 
@@ -86,7 +86,7 @@ pub enum Chosen {
     Entry { when: u32, brings: u32 },
 }
 
-// Why a question is refused: the paper's number, and what it reports, an item and an octet, each 0 where it reports none. C has this very struct. The numbers that
+// Why a question is refused: document 01's number, and what it reports, an item and an octet, each 0 where it reports none. C has this very struct. The numbers that
 // report nothing have their names here; specs/Numbers.antt has the same names, for the definitions.
 #[repr(C)]
 pub struct Refusal {

@@ -102,6 +102,10 @@ take-least l n = go (leb n (length l)) refl
         let m : min n (length l) ≡ length l = omega arith in
         rw m (take-length l ∙ sym (take-all n l (omega arith)))
 
+-- a part from octet a on stands so many octets further on in the memory's block
+pub stands-at : (b o : ℕ) {a p : ℕ} → a ≡ p → _≡_ {A = ℕ × ℕ} (b, a + o) (b, o + p)
+stands-at b o e = ap (λ x. (b, x)) (omega (arith, e))
+
 -- a part from where the image ends at the latest, and no longer than the image goes on
 pub part-cut : (img : List ℕ) (p n a k : ℕ) → a ≡ min p (length img) → k ≡ min n (length img - a) → take (a + k - a) (drop a img) ≡ part img p n
 unfolding part

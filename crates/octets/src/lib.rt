@@ -9,7 +9,7 @@ use basics::least;
 use basics::wide;
 use offsets::ImageOffset;
 ghost use mathlib.Core.Path.{_≡_};
-ghost use Prim.Native.Nat.{_^_, _<_, _≤_};
+ghost use Prim.Native.Nat.{_+_, _^_, _<_, _≤_, min};
 ghost use lib.ListN.{length};
 ghost use Rattle.meaning.specs.Basics.{part, numberIn, octetsIn};
 ghost use Rattle.meaning.specs.Layout.{dataOrder};
@@ -25,9 +25,11 @@ pub fn data_order(image: &[u8]) -> u32
     wide(image[0]) % 2
 }
 
-// So many octets from `start` on, fewer where the image ends.
+// So many octets from `start` on, fewer where the image ends. They stand there in the image; a part
+// that starts past the end stands at the end.
 pub fn part<'a>(image: &'a [u8], start: ImageOffset, octets: usize) -> &'a [u8]
-    ensures { λ r. ⌜ now r ≡ part (now (image .entry)) (start .0) octets ⌝ }
+    ensures reply { λ r. ⌜ now r ≡ part (now (image .entry)) (start .0) octets ⌝ }
+    ensures place { λ r. ⌜ r .ptr ≡ (image .entry .ptr .0, image .entry .ptr .1 + min (start .0) (length (now (image .entry)))) ⌝ }
 {
     let at = least(start.octet(), image.len());
     let end = at + least(octets, image.len() - at);

@@ -1,4 +1,4 @@
-// A reply as the paper's numbers, for callers that know no enum: a line of text, or C. What they ask by a
+// A reply as document 01's numbers, for callers that know no enum: a line of text, or C. What they ask by a
 // number is turned into its value here too.
 //
 // What is told is a refusal, all 0 where nothing is refused, and two numbers of the answer's own.

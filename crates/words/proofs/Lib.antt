@@ -5,4 +5,3 @@ pub mod PutLaws
 pub mod LineLaws
 pub mod IndexLaws
 pub mod ReadBack
-pub mod Unique

@@ -13,7 +13,7 @@ use lib.ListN.{length, getD, set, take, drop, replicate, length-append, length-d
 use lib.Seq.{sets, sets-eq, take-length, take-append-seam, drop-at, drop-drop, length-take-le}
 use Rattle.bytes.specs.Bytes.{slice, indexOf, indexAfter}
 use Rattle.words.specs.declared.types.Words.{Words}
-use Rattle.words.specs.Line.{longer, wordsOf, noneEmpty, startsFrom, endsFrom, forty, lineWords, placesOf, splitOf, partOf, wordIn, isName}
+use Rattle.words.specs.Line.{longer, wordsOf, noneEmpty, startsFrom, endsFrom, forty, lineWords, placesOf, splitOf, partOf, partStart, wordIn, isName}
 use Rattle.words.proofs.Cases.{by-test, by-less}
 use Rattle.words.proofs.ReadBack.{joined, one-word, line-back}
 
@@ -140,6 +140,22 @@ part-crossed line s e h = rw (lt-leb _ _ h)
 pub part-over : (line : List ℕ) (s e : ℕ) → length line < e → partOf line s e ≡ []
 unfolding partOf
 part-over line s e h = rw (lt-leb e (length line) h, and-false)
+
+-- the same of where the part stands, octet a of the memory that starts at octet o of block b
+stands-at : (b o : ℕ) {a p : ℕ} → a ≡ p → _≡_ {A = ℕ × ℕ} (b, a + o) (b, o + p)
+stands-at b o e = ap (λ x. (b, x)) (omega (arith, e))
+
+pub stands-of : (line : List ℕ) (s e b o : ℕ) → s ≤ e → e ≤ length line → _≡_ {A = ℕ × ℕ} (b, s + o) (b, o + partStart line s e)
+unfolding partStart
+stands-of line s e b o h l = stands-at b o (rw (le-leb _ _ h, le-leb _ _ l))
+
+pub stands-crossed : (line : List ℕ) (s e b o : ℕ) → e < s → _≡_ {A = ℕ × ℕ} (b, 0 + o) (b, o + partStart line s e)
+unfolding partStart
+stands-crossed line s e b o h = stands-at b o (rw (lt-leb _ _ h))
+
+pub stands-over : (line : List ℕ) (s e b o : ℕ) → length line < e → _≡_ {A = ℕ × ℕ} (b, 0 + o) (b, o + partStart line s e)
+unfolding partStart
+stands-over line s e b o h = stands-at b o (rw (lt-leb e (length line) h, and-false))
 
 -- a word that stands in a text behind `front`, as the part from its start to its end
 part-in : (front w rest : List ℕ) {at : ℕ} → length front ≡ at → partOf (front ++ (w ++ rest)) at (at + length w) ≡ w

@@ -52,9 +52,17 @@ splitOf line = placesOf (lineWords line)
 unfoldable pub partOf : List ℕ → ℕ → ℕ → List ℕ
 partOf line start end = cond (leb start end && leb end (length line)) (take (end - start) (drop start line)) []
 
+-- the octet of the line at which that part stands; where the two do not stand in order, it is empty and stands at octet 0
+unfoldable pub partStart : List ℕ → ℕ → ℕ → ℕ
+partStart line start end = cond (leb start end && leb end (length line)) start 0
+
 -- word k of a line, by places
 unfoldable pub wordIn : List ℕ → Words → ℕ → List ℕ
 wordIn line places k = partOf line (getD (places .starts) k 0) (getD (places .ends) k 0)
+
+-- the octet of the line at which it stands
+unfoldable pub wordStart : List ℕ → Words → ℕ → ℕ
+wordStart line places k = partStart line (getD (places .starts) k 0) (getD (places .ends) k 0)
 
 -- a word is a name, octet by octet
 unfoldable pub isName : List ℕ → List ℕ → Bool

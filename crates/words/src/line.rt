@@ -1,7 +1,8 @@
 // A line as words.
 use crate::types::Words;
 ghost use mathlib.Core.Path.{_≡_};
-ghost use Rattle.words.specs.Line.{lineWords, splitOf, placesOf, partOf, wordIn, wordIndex};
+ghost use Prim.Native.Nat.{_+_};
+ghost use Rattle.words.specs.Line.{lineWords, splitOf, placesOf, partOf, partStart, wordIn, wordStart, wordIndex};
 ghost use mathlib.Core.List.{[]};
 
 // The answer for what is not a line of words.
@@ -46,7 +47,8 @@ pub fn split(line: &[u8]) -> Words
 
 // The octets from start up to end, or none where these do not stand in order inside the line.
 fn part(line: &[u8], start: usize, end: usize) -> &[u8]
-    ensures { λ r. ⌜ now r ≡ partOf (now (line .entry)) start end ⌝ }
+    ensures reply { λ r. ⌜ now r ≡ partOf (now (line .entry)) start end ⌝ }
+    ensures place { λ r. ⌜ r .ptr ≡ (line .entry .ptr .0, line .entry .ptr .1 + partStart (now (line .entry)) start end) ⌝ }
 {
     if end < start {
         return &line[0..0];
@@ -59,7 +61,8 @@ fn part(line: &[u8], start: usize, end: usize) -> &[u8]
 
 // Word k of a line by the places that split answered for it; no octets where there is no word k.
 pub fn word(line: &[u8], places: Words, k: usize) -> &[u8]
-    ensures { λ r. ⌜ now r ≡ wordIn (now (line .entry)) places k ⌝ }
+    ensures reply { λ r. ⌜ now r ≡ wordIn (now (line .entry)) places k ⌝ }
+    ensures place { λ r. ⌜ r .ptr ≡ (line .entry .ptr .0, line .entry .ptr .1 + wordStart (now (line .entry)) places k) ⌝ }
 {
     if k < 40 {
         let starts = places.starts;

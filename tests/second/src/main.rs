@@ -1,5 +1,5 @@
 //! The second program: the questions about meter tables, asked in lines of
-//! text and answered from the paper alone. See the README beside this
+//! text and answered from document 01 alone. See the README beside this
 //! directory.
 
 mod access;

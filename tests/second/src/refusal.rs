@@ -1,4 +1,4 @@
-//! A refusal, as the paper numbers it.
+//! A refusal, as document 01 numbers it.
 
 /// "2 to 7 report the item, 9 the item and octet, others nothing more.
 /// Refused numbers are 0 elsewhere."
@@ -27,7 +27,7 @@ impl Refusal {
 ///
 /// Every question of this program checks the description first, so none of
 /// these outcomes should ever be seen. If one were, it would be answered with
-/// a number that the paper doesn't have, and a comparison would show it.
+/// a number that document 01 doesn't have, and a comparison would show it.
 /// Unequal elements can't be told apart here: an element is measured once,
 /// because dimensions stand directly in TABLE bodies and so don't change
 /// inside an array.

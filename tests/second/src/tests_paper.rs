@@ -1,4 +1,4 @@
-//! All examples of the paper, starred or not, and those of the line language.
+//! All examples of document 01, starred or not, and those of the line language.
 
 use crate::tests_support::*;
 

@@ -441,7 +441,7 @@ fn tou_tables() -> String {
 /// Annex C, Table 51, set 3: TOU_SELF_READ, SEASON_SELF_READ and SORT_DATES
 /// flags 1 (bits 0, 1, 4: 13 hex), SORT_TIER_SWITCHES 1 (bit 3: 08), 2 seasons
 /// and 1 special schedule (12 hex), 10 and 10 dates, 9 switches, printed size
-/// 131 (83 hex). By the paper's sizes Table 54 has 30 + 30 + 27 + 2 * (3 + 1) =
+/// 131 (83 hex). By document 01's sizes Table 54 has 30 + 30 + 27 + 2 * (3 + 1) =
 /// 95 octets; the printed 131 is "not used here". The set says nothing of Table
 /// 54's contents: here it is made whole with zeros, which are no dates.
 #[test]
@@ -454,8 +454,8 @@ fn annex_c_table_51_set_3_blank() {
         holds(&format!("tier {d} {m} 1997 7 4 12 0 0"), "17 0 0 0 0");
         holds(&format!("matrix {d} {m}"), &format!("0 0 0 {}", "0".repeat(660)));
     }
-    // With the printed size of 131 octets instead, Table 54 isn't the size the
-    // paper gives.
+    // With the printed size of 131 octets instead, Table 54 isn't of the size that
+    // document 01 gives.
     let d = desc(&[table(0, 1), uint(1, 1), table(51, 1), block(9), table(54, 1), block(131)]);
     let m = image(&format!("00|13 08 12 0a 0a 0900 8300|{}", "00".repeat(131)));
     holds(&format!("tier {d} {m} 1997 7 4 12 0 0"), "20 0 0 0 0");

@@ -2,7 +2,7 @@
 
 use crate::lines;
 
-/// The paper's example description D, and its first image.
+/// Document 01's example description D, and its first image.
 pub const D: &str = "10000002201000002020000010058004608e0040300200005080200124000000";
 pub const FIRST: &str = "0082aabb34127856";
 

@@ -26,4 +26,4 @@ calendar-at-spec =
     let told = c .before .before .before .before .before .before .before .before .table-places .ensures in
     let at51 = c .before .before .before .before .before .before .table512 .given .1 in
     let at54 = c .before .before .before .table542 .given .1 in
-    (rw (← by-places _ _ _ _ (told .0) (told .1) at51 at54, ← c .before .part .ensures) (c .sized .ensures .0), c .sized .ensures .1)))
+    (rw (← by-places _ _ _ _ (told .0) (told .1) at51 at54, ← c .before .part .ensures .0) (c .sized .ensures .0), c .sized .ensures .1)))

@@ -19,7 +19,7 @@ matrix-into-spec =
     (λ c κs.
     let start = c .before .before .before .before .before .before .before in
     let at = c .before .before .calendar2 .given .1 in
-    rw (c .part .ensures) (subst (Stands (start .args .image .now)) at (c .before .before .before .before .calendar-at .ensures .1)))
+    rw (c .part .ensures .0) (subst (Stands (start .args .image .now)) at (c .before .before .before .before .calendar-at .ensures .1)))
     (λ c.
     let told = asked matrixVerdictIn _ _ _ (c .before .before .before .calendar-at .ensures .0) (c .before .calendar .given .1) in
     (told, rw (← told)))
@@ -27,4 +27,4 @@ matrix-into-spec =
     let found = c .before .before .before .before .before .calendar-at .ensures .0 in
     let at = c .before .before .before .calendar2 .given .1 in
     let told = asked matrixVerdictIn _ _ _ found at in
-    (told, rw (← told) (c .rows-of .ensures ∙ rw (c .before .part .ensures) (asked matrixIn _ _ _ found at)))))
+    (told, rw (← told) (c .rows-of .ensures ∙ rw (c .before .part .ensures .0) (asked matrixIn _ _ _ found at)))))

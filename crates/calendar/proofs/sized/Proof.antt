@@ -22,7 +22,7 @@ sized-spec =
     let if1 = c .before .before .before .before .before .before .if1 in
     let size = ap (λ (s : Sections). s .size) (c .before .before .before .sections-of .ensures) in (
       rw (
-        ← c .before .before .part .ensures,
+        ← c .before .before .part .ensures .0,
         ← c .before .before .before .before .before .data-order .ensures,
         ← c .before .before .before .before .controls-of .ensures .0,
         ← size,
@@ -35,7 +35,7 @@ sized-spec =
     let if1 = c .before .before .before .before .before .before .if1 in
     let size = ap (λ (s : Sections). s .size) (c .before .before .before .sections-of .ensures) in (
       rw (
-        ← c .before .before .part .ensures,
+        ← c .before .before .part .ensures .0,
         ← c .before .before .before .before .before .data-order .ensures,
         ← c .before .before .before .before .controls-of .ensures .0,
         ← size,
@@ -44,6 +44,6 @@ sized-spec =
       ),
       record {
         small = c .before .before .before .before .controls-of .ensures .1;
-        long = rw (← c .before .before .part .ensures, c .if2 .left) size;
+        long = rw (← c .before .before .part .ensures .0, c .if2 .left) size;
       },
     )))

@@ -19,10 +19,10 @@ tier-spec =
     (λ c κs. search needs)
     (λ c κs.
     let start = c .before .before .before .before .before .before .before .before in
-    rw (c .part .ensures)
+    rw (c .part .ensures .0)
     (subst (Stands (start .args .image .now)) (c .before .before .before .calendar2 .given .1) (c .before .before .before .before .before .calendar-at .ensures .1)))
     (λ c. asked (tierIn _ _) _ _ _ (c .before .before .before .calendar-at .ensures .0) (c .before .calendar .given .1))
     (λ c.
     let calendar-at = c .before .before .before .before .before .before .calendar-at in
-    c .tier-in .ensures ∙ rw (c .before .before .data-order .ensures, c .before .part .ensures)
+    c .tier-in .ensures ∙ rw (c .before .before .data-order .ensures, c .before .part .ensures .0)
     (asked (tierIn _ _) _ _ _ (calendar-at .ensures .0) (c .before .before .before .before .calendar2 .given .1))))

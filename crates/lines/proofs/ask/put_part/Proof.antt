@@ -17,20 +17,20 @@ put-part-spec =
     (tie.spec
     (λ c κs. (search (fits-at 3 0 1 refl), search (fits-at 3 1 65535 refl)))
     (λ c κs. search needs)
-    (λ c κs. let short = place-short _ _ _ (c .table-part .ensures) in omega arith)
+    (λ c κs. let short = place-short _ _ _ (c .table-part .ensures .0) in omega arith)
     (λ c. search needs)
     (λ c.
     let if1 = c .before .before .before .before .before .before .if1 in
-    let short = place-short _ _ _ (c .before .before .before .table-part .ensures) in
-    parted 3 _ (if1 .taken) refl (rw (c .before .before .before .table-part .ensures, c .before .before .before .before .before .table .ensures)) (omega arith) (c .before .before .put-octets .ensures))
+    let short = place-short _ _ _ (c .before .before .before .table-part .ensures .0) in
+    parted 3 _ (if1 .taken) refl (rw (c .before .before .before .table-part .ensures .0, c .before .before .before .before .before .table .ensures)) (omega arith) (c .before .before .put-octets .ensures))
     (λ c κs. search needs)
     (λ c κs. search needs)
-    (λ c κs. let short = place-short _ _ _ (c .element-part .ensures) in omega arith)
+    (λ c κs. let short = place-short _ _ _ (c .element-part .ensures .0) in omega arith)
     (λ c. search needs)
     (λ c.
     let if2 = c .before .before .before .before .before .before .if2 in
-    let short = place-short _ _ _ (c .before .before .before .element-part .ensures) in
-    parted 5 _ (if2 .taken) refl (rw (c .before .before .before .element-part .ensures, c .before .before .before .before .element .ensures)) (omega arith) (c .before .before .put-octets2 .ensures))
+    let short = place-short _ _ _ (c .before .before .before .element-part .ensures .0) in
+    parted 5 _ (if2 .taken) refl (rw (c .before .before .before .element-part .ensures .0, c .before .before .before .before .element .ensures)) (omega arith) (c .before .before .put-octets2 .ensures))
     (λ c κs. search needs)
     (λ c κs. search needs)
     (λ c. search needs)

@@ -20,7 +20,7 @@ loop-again c =
     let pre = c .before .before .before .before .before .before .before .before .pre in
     let s = c .before .before .before .before .before .before .loop .inv in
     let number = c .before .before .before .number in
-    let w = word-at _ _ (pre .0) _ _ (c .before .before .before .before .word .ensures) in
+    let w = word-at _ _ (pre .0) _ _ (c .before .before .before .before .word .ensures .0) in
     so-far-more (pre .1) s (omega arith) w (number .ensures) _ (c .before .read .given .1)
 
 pub read-numbers-spec : {M : Type 1} → statement M
@@ -44,6 +44,6 @@ read-numbers-spec =
     (λ c. search needs)
     (λ c.
     let start = c .before .before .before .before .before .before .before in
-    let w = word-at _ _ (start .pre .0) _ _ (c .before .before .before .word .ensures) in
+    let w = word-at _ _ (start .pre .0) _ _ (c .before .before .before .word .ensures .0) in
     so-far-not (start .pre .1) (c .before .before .before .before .before .loop .inv) (omega arith) w (c .before .before .number .ensures) (c .enum-told .given .1))
     (λ c. so-far-all (c .before .loop .inv) (omega (arith, limits-long (c .before .before .before .pre .1)))))

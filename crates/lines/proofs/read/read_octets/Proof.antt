@@ -14,7 +14,7 @@ returns-2 c =
     let word = c .before .before .before .before .before .before .before .word in
     let octets = c .before .before .before .before .before .octets in
     let there = not-false _ (if1 .left) in
-    word-read _ _ (pre .0) _ _ there (word .ensures) (pre .1 .0) (octets .ensures) (pre .1 .1) (ap partFrom (c .before .read .given .1))
+    word-read _ _ (pre .0) _ _ there (word .ensures .0) (pre .1 .0) (octets .ensures) (pre .1 .1) (ap partFrom (c .before .read .given .1))
 
 returns-3 : tie.Need-returns-3
 returns-3 c =
@@ -23,7 +23,7 @@ returns-3 c =
     let word = c .before .before .before .before .before .before .word in
     let octets = c .before .before .before .before .octets in
     let there = not-false _ (if1 .left) in
-    word-read _ _ (pre .0) _ _ there (word .ensures) (pre .1 .0) (octets .ensures) (pre .1 .1) (ap partFrom (c .enum-told .given .1))
+    word-read _ _ (pre .0) _ _ there (word .ensures .0) (pre .1 .0) (octets .ensures) (pre .1 .1) (ap partFrom (c .enum-told .given .1))
 
 pub read-octets-spec : {M : Type 1} → statement M
 read-octets-spec =

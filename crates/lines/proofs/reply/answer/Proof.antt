@@ -19,7 +19,7 @@ reply-requires c κs =
     let start = c .before .before .before .before .before .before .before .before .before .before .before .before .before .before .before .before .before .before .before .before .before .before .before .before .before .before .before .before in
     let inside = c .before .before .before .before .before .before .before .before .before .before .before .before .before .before .before .before .before .before .if2 .left in
     let asked = c .before .before .before .before .before .before .before .before .before .before .before .before .before .read-asked in
-    let name = word-at _ _ (split .ensures) _ _ (word .ensures) in (
+    let name = word-at _ _ (split .ensures) _ _ (word .ensures .0) in (
       inside,
       (
         asked-room _ _ (kind-of .ensures) (form-of .ensures) name inside (asked .ensures) (start .args .image .now) (start .args .out .now) (asked .kept .1 .1 .1 .1 .0) (start .pre .reply),
@@ -44,7 +44,7 @@ answer-spec =
     let word = c .before .before .before .before .before .before .word in
     let split = c .before .before .before .before .before .before .before .split in
     let if1 = c .before .before .before .before .before .before .before .before .if1 in
-    let name = word-at _ _ (split .ensures) _ _ (word .ensures) in
+    let name = word-at _ _ (split .ensures) _ _ (word .ensures .0) in
     put-as _ (c .before .before .no-form2 .ensures) (unknown _ _ (c .before .before .before .before .before .kind-of .ensures) name (c .before .before .before .before .if2 .taken) (omega (arith, if1 .left))))
     (λ c κs. search needs)
     (λ c κs.
@@ -66,7 +66,7 @@ answer-spec =
     let word = c .before .before .before .before .before .before .before .before .before .before .before .before .before .before .before .before .before .before .before .word in
     let split = c .before .before .before .before .before .before .before .before .before .before .before .before .before .before .before .before .before .before .before .before .split in
     let if1 = c .before .before .before .before .before .before .before .before .before .before .before .before .before .before .before .before .before .before .before .before .before .if1 in
-    let name = word-at _ _ (split .ensures) _ _ (word .ensures) in
+    let name = word-at _ _ (split .ensures) _ _ (word .ensures .0) in
     put-as _ (c .before .before .no-form3 .ensures)
     (asked-none _ _ (kind-of .ensures) (form-of .ensures) name (if2 .left) (read-asked .ensures) (not-true _ (c .before .before .before .before .if3 .taken)) (omega (arith, if1 .left))))
     (λ c. search needs)
@@ -95,6 +95,6 @@ answer-spec =
     let word = c .before .before .before .before .before .before .before .before .before .before .before .before .before .before .before .before .before .before .before .before .before .before .before .before .before .word in
     let split = c .before .before .before .before .before .before .before .before .before .before .before .before .before .before .before .before .before .before .before .before .before .before .before .before .before .before .split in
     let if1 = c .before .before .before .before .before .before .before .before .before .before .before .before .before .before .before .before .before .before .before .before .before .before .before .before .before .before .before .if1 in
-    let name = word-at _ _ (split .ensures) _ _ (word .ensures) in
+    let name = word-at _ _ (split .ensures) _ _ (word .ensures .0) in
     put-as _ (c .before .before .before .before .reply .ensures)
     (asked-reply _ _ (kind-of .ensures) (form-of .ensures) name (if2 .left) (read-asked .ensures) (not-false _ (if3 .left)) (omega (arith, if1 .left)))))

@@ -28,14 +28,14 @@ index-of-spec =
     (λ c.
     let at = c .before .before .before .before in
     let split = at .before .split .ensures in
-    let word = word-of _ _ _ _ split (c .before .before .word .ensures) in
+    let word = word-of _ _ _ _ split (c .before .before .word .ensures .0) in
     looked-here (at .loop .inv) (omega (arith, count-of _ _ split)) (rw word at (sym (same-is _ _ _ (c .before .same .ensures)) ∙ c .if1 .taken)))
     (λ c. omega arith)
     (λ c. omega arith)
     (λ c.
     let at = c .before .before .before .before in
     let split = at .before .split .ensures in
-    let word = word-of _ _ _ _ split (c .before .before .word .ensures) in
+    let word = word-of _ _ _ _ split (c .before .before .word .ensures .0) in
     looked-on (at .loop .inv) (omega (arith, count-of _ _ split)) (rw word at (sym (same-is _ _ _ (c .before .same .ensures)) ∙ c .if1 .left)))
     (λ c.
     let count = count-of _ _ (c .before .before .split .ensures) in
