@@ -5,3 +5,5 @@ pub mod Told
 pub mod Surrounds
 pub mod Rules
 pub mod Calendar
+pub mod OnlyTiles
+pub mod OnlyNames
