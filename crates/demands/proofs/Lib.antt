@@ -7,3 +7,6 @@ pub mod Rules
 pub mod Calendar
 pub mod OnlyTiles
 pub mod OnlyNames
+pub mod OnlyFirst
+pub mod OnlyPlaces
+pub mod OnlyReads

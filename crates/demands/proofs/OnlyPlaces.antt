@@ -1,0 +1,133 @@
+-- THE DEMANDS DECIDE WHERE EVERYTHING STANDS: two families R and S that meet them tell the same total, tables and elements, the same parts of the image and the same numbers. Of S it is
+-- assumed besides that a name's places past its count aren't read.
+use Prim.Native.Nat.{ℕ, _+_, _<_, _≤_}
+use mathlib.Core.Path.{_≡_, refl, sym, _∙_, ap}
+use mathlib.Core.Logic.{_⊎_, inl, inr}
+use mathlib.Core.Bool.{Bool, true, false, not, _||_}
+use mathlib.Core.List.{List, [], _∷_}
+use mathlib.Core.Option.{some, none}
+use lib.ListN.{length}
+use borrow.Author.Tests.{ltb-false, not-false}
+use native.Mathlib.Omega.{arith}
+use Rattle.meaning.specs.Basics.{_<?_}
+use Rattle.meaning.specs.declared.ElementName.{ElementName}
+use Rattle.meaning.specs.declared.Place.{Place}
+use Rattle.meaning.specs.declared.Place.the-variants as place
+use Rattle.meaning.specs.declared.Reply.{Reply}
+use Rattle.meaning.specs.declared.Verdict.{Verdict}
+use Rattle.meaning.specs.Description.{itemCount, fieldsAt, isUint, tableGiven}
+use Rattle.meaning.specs.Numbers.{imageTooLong, noTable, noElement}
+use Rattle.meaning.specs.Questions as ask
+use Rattle.meaning.specs.Questions.{refusalIn}
+use Rattle.meaning.specs.Refusals.{verdictReply, placeReply}
+use Rattle.meaning.proofs.Rules.{either-false}
+use Rattle.laying.specs.Sizes.{Numbers}
+use Rattle.demands.specs.Demand1.{firstOf, eight, nineFrom, ten, eleven, elevenNumber, refusalsOf}
+use Rattle.demands.specs.Demand3.{Passed, LaysOut, IsShort, LaysOrShort, SameName, lengthIn}
+use Rattle.demands.specs.Demands.{Demands}
+use Rattle.demands.specs.Replies.{Replies, outcomeBy, octetsAt, startOf, lengthOf}
+use Rattle.demands.specs.Walk.{octetsIn, numbersIn, exists, wayTo, Earlier}
+use Rattle.demands.proofs.OnlyFirst.{clash, reply-same, place-same, verdict-passed, first-none, given-none, refusal-same, check-decided}
+use Rattle.demands.proofs.OnlyNames.{Existing, existing, names-compared}
+use Rattle.demands.proofs.OnlyTiles.{SetOut, Tiled, Over, stands-there}
+
+-- a place that isn't refused
+pub told : (x : Place) → refusalIn (placeReply x) ≡ none → x ≡ octetsAt (startOf x) (lengthOf x)
+unfolding refusalIn placeReply startOf lengthOf
+told (place.At p n) e = refl
+told (place.Refused r) e = clash (cc)
+
+told-none : (x : Place) (p n : ℕ) → x ≡ octetsAt p n → refusalIn (placeReply x) ≡ none
+unfolding refusalIn placeReply
+told-none x p n e = rw e
+
+-- ONE FAMILY
+module _ (R : Replies) (r : Demands R) (d img : List ℕ) where
+  -- not refused, the image lays out up to the end of the last piece
+  pub total-is : refusalIn (R .layout d img) ≡ none → R .layout d img ≡ Reply.Total (octetsIn d img)
+  unfolding outcomeBy refusalsOf eight refusalIn
+  total-is e = go (r .third d img .laysOrShort passed)
+    where
+      given : firstOf (refusalsOf R ask.layout d img) ≡ none
+      given = sym (r .first d img .asked ask.layout .first) ∙ e
+
+      passed : Passed R d img
+      passed =
+          let f = first-none (refusalIn (verdictReply (R .check d))) (eight img ∷ nineFrom d img (itemCount d) 0 ∷ []) given in
+          let g = first-none (eight img) (nineFrom d img (itemCount d) 0 ∷ []) (f .1) in
+          record { passes = verdict-passed (R .check d) (f .0); allowed = ltb-false 65535 (length img) (given-none (65535 <? length img) imageTooLong (g .0)) }
+
+      go : LaysOrShort R d img → R .layout d img ≡ Reply.Total (octetsIn d img)
+      go (inl h) = h .reply ∙ ap (λ n. Reply.Total n) (sym (r .third d img .totalExactly passed (h .total) .0 (h .reply) .ends))
+      go (inr h) = clash (cc)
+
+  -- a place that is told is one of an image that lays out, and of a name that there is
+  abbrev pub v : Numbers
+  v = numbersIn d img
+
+  abbrev pub Is : ElementName → Type 0
+  Is q = exists d v q ≡ true
+
+  pub record Told (Named : Type 0) : Type 0 where
+    pub layout : R .layout d img ≡ Reply.Total (octetsIn d img)
+    pub named : Named
+
+  pub table-told : (m k : ℕ) → refusalIn (placeReply (R .tablePlace d img m k)) ≡ none → Told (tableGiven d (itemCount d) m k ≡ true)
+  unfolding outcomeBy refusalsOf ten
+  table-told m k e =
+      let f = first-none (refusalIn (R .layout d img)) (ten d m k ∷ []) (sym (r .first d img .asked (ask.tablePlace m k) .first) ∙ e) in
+      let g = first-none (ten d m k) [] (f .1) in
+      record { layout = total-is (f .0); named = not-false _ (given-none (not (tableGiven d (itemCount d) m k)) noTable (g .0)) }
+
+  pub element-told : (q : ElementName) → refusalIn (placeReply (R .elementPlace d img q)) ≡ none → Told (Is q)
+  unfolding outcomeBy refusalsOf eleven
+  element-told q e =
+      let f = first-none (refusalIn (R .layout d img)) (eleven d img q ∷ []) (sym (r .first d img .asked (ask.elementPlace q) .first) ∙ e) in
+      let g = first-none (eleven d img q) [] (f .1) in
+      record { layout = total-is (f .0); named = not-false _ (given-none (not (exists d v q)) noElement (g .0)) }
+
+  pub number-told : (q : ElementName) → refusalIn (R .elementNumber d img q) ≡ none → Told (Is q × (isUint (fieldsAt d (q .item)) ≡ true))
+  unfolding outcomeBy refusalsOf elevenNumber
+  number-told q e =
+      let f = first-none (refusalIn (R .layout d img)) (elevenNumber d img q ∷ []) (sym (r .first d img .asked (ask.elementNumber q) .first) ∙ e) in
+      let g = first-none (elevenNumber d img q) [] (f .1) in
+      let h = either-false _ _ (given-none (not (exists d v q) || not (isUint (fieldsAt d (q .item)))) noElement (g .0)) in
+      record { layout = total-is (f .0); named = (not-false _ (h .0), not-false _ (h .1)) }
+
+  -- THE ELEMENTS SET OUT, by their starts
+  abbrev pub start : ElementName → ℕ
+  start q = startOf (R .elementPlace d img q)
+
+  abbrev pub size : ElementName → ℕ
+  size q = lengthIn d v (q .item)
+
+  abbrev pub Before : ElementName → ElementName → Type 0
+  Before q s = Earlier (wayTo d q) (wayTo d s)
+
+  module _ (laid : R .layout d img ≡ Reply.Total (octetsIn d img)) where
+    pub stands-at : (q : ElementName) → Is q → R .elementPlace d img q ≡ octetsAt (start q) (size q)
+    unfolding startOf
+    stands-at q h = let p = r .third d img .elementsStand _ laid .there q h in rw (p .1)
+
+    pub set-out : SetOut Is Before size start (octetsIn d img)
+    set-out =
+        let e = r .third d img .elementsStand _ laid in
+        record { order = λ q s h k. e .order q s _ _ _ _ (stands-at q h) (stands-at s k); ends = λ q h. e .ends q _ _ (stands-at q h) }
+
+    -- without gaps, and each in one place where names are read up to their counts
+    pub tiled : ((q s : ElementName) → SameName q s → q .count ≤ 4 → s .count ≤ 4 → R .elementPlace d img q ≡ R .elementPlace d img s)
+        → Tiled Is SameName size start (octetsIn d img)
+    unfolding startOf
+    tiled counted =
+        record {
+          over = λ x l.
+              let h = r .third d img .elementsStand _ laid .one x l .holds in
+              let q = r .third d img .elementsStand _ laid .one x l .name in
+              let is = element-told q (told-none _ _ _ (h .reply)) .named in
+              let at = stands-at q is in
+              let first : h .start ≡ start q = cc (ap startOf (h .reply)) in
+              let long : h .size ≡ size q = cc (h .reply) in
+              record { name = q; is = is; from = omega (arith, h .from); to = omega (arith, h .to) };
+          once = λ q s h k e. ap startOf (counted q s e (existing d v q h .few) (existing d v s k .few));
+          long = λ q s h k e. ap (lengthIn d v) (e .item);
+        }
