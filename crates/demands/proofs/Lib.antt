@@ -10,3 +10,5 @@ pub mod OnlyNames
 pub mod OnlyFirst
 pub mod OnlyPlaces
 pub mod OnlyReads
+pub mod OnlyWrites
+pub mod OnlyOctets
