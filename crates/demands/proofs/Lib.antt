@@ -12,3 +12,5 @@ pub mod OnlyPlaces
 pub mod OnlyReads
 pub mod OnlyWrites
 pub mod OnlyOctets
+pub mod OnlyOrder
+pub mod OnlyImages

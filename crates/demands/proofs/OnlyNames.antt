@@ -51,13 +51,13 @@ same-so f (same h) = same (f h)
 same-so f (later h) = later h
 
 module _ (d : List ℕ) where
-  abbrev Element : ℕ → Type 0
+  abbrev pub Element : ℕ → Type 0
   Element i = isElement (fieldsAt d i) ≡ true
 
-  abbrev Array : ℕ → Type 0
+  abbrev pub Array : ℕ → Type 0
   Array i = isArray (fieldsAt d i) ≡ true
 
-  arrays-are : (js : List ℕ) → Every Array (arraysOf d js)
+  pub arrays-are : (js : List ℕ) → Every Array (arraysOf d js)
   unfolding arraysOf Every
   arrays-are [] = tt
   arrays-are (j ∷ js) = tested (Every Array) (isArray (fieldsAt d j)) _ _ (λ e. (e, arrays-are js)) (λ e. arrays-are js)

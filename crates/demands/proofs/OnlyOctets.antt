@@ -1,13 +1,9 @@
--- A NUMBER HAS ONE WRITING in octets of a width, in either DATA_ORDER; and DATA_ORDER isn't written where no dimension is, for it is the image's first octet. Assumes nothing.
-use Prim.Native.Nat.{ℕ, zero, suc, _+_, _*_, _<_, _≤_}
+-- A NUMBER HAS ONE WRITING in octets of a width, in either DATA_ORDER. Assumes nothing.
+use Prim.Native.Nat.{ℕ, suc, _<_}
 use mathlib.Core.Path.{_≡_, refl, sym, _∙_, ap}
-use mathlib.Core.Logic.{_⊎_, inl, inr}
-use mathlib.Core.Bool.{Bool, true, false, cond, true≢false}
-use mathlib.Core.List.{List, [], _∷_, _++_, reverse, reverse-cons, reverse-reverse}
-use mathlib.Core.Option.{none}
+use mathlib.Core.Bool.{Bool, true, false, cond}
+use mathlib.Core.List.{List, [], _∷_, reverse, reverse-cons, reverse-reverse}
 use lib.ListN.{length, getD, length-reverse}
-use borrow.Author.Tests.{leb-true, eqb-true, ltb-true}
-use native.Mathlib.Decide.{decLt}
 use native.Mathlib.Omega.{arith}
 use Rattle.meaning.specs.Basics.{_=?_, leastFirst, mostFirst, numberIn}
 use Rattle.meaning.proofs.Octets.{most-reverse}

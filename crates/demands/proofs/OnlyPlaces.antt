@@ -37,28 +37,28 @@ unfolding refusalIn placeReply startOf lengthOf
 told (place.At p n) e = refl
 told (place.Refused r) e = clash (cc)
 
-told-none : (x : Place) (p n : ℕ) → x ≡ octetsAt p n → refusalIn (placeReply x) ≡ none
+pub told-none : (x : Place) (p n : ℕ) → x ≡ octetsAt p n → refusalIn (placeReply x) ≡ none
 unfolding refusalIn placeReply
 told-none x p n e = rw e
 
 -- ONE FAMILY
 module _ (R : Replies) (r : Demands R) (d img : List ℕ) where
-  -- not refused, the image lays out up to the end of the last piece
+  -- not refused, the description is passed and the image not too long
+  pub passed-is : refusalIn (R .layout d img) ≡ none → Passed R d img
+  unfolding outcomeBy refusalsOf eight
+  passed-is e =
+      let rest = nineFrom d img (itemCount d) 0 ∷ [] in
+      let f = first-none (refusalIn (verdictReply (R .check d))) (eight img ∷ rest) (sym (r .first d img .asked ask.layout .first) ∙ e) in
+      let g = first-none (eight img) rest (f .1) in
+      record { passes = verdict-passed (R .check d) (f .0); allowed = ltb-false 65535 (length img) (given-none (65535 <? length img) imageTooLong (g .0)) }
+
+  -- and it lays out, up to the end of the last piece
   pub total-is : refusalIn (R .layout d img) ≡ none → R .layout d img ≡ Reply.Total (octetsIn d img)
-  unfolding outcomeBy refusalsOf eight refusalIn
-  total-is e = go (r .third d img .laysOrShort passed)
+  unfolding refusalIn
+  total-is e = go (r .third d img .laysOrShort (passed-is e))
     where
-      given : firstOf (refusalsOf R ask.layout d img) ≡ none
-      given = sym (r .first d img .asked ask.layout .first) ∙ e
-
-      passed : Passed R d img
-      passed =
-          let f = first-none (refusalIn (verdictReply (R .check d))) (eight img ∷ nineFrom d img (itemCount d) 0 ∷ []) given in
-          let g = first-none (eight img) (nineFrom d img (itemCount d) 0 ∷ []) (f .1) in
-          record { passes = verdict-passed (R .check d) (f .0); allowed = ltb-false 65535 (length img) (given-none (65535 <? length img) imageTooLong (g .0)) }
-
       go : LaysOrShort R d img → R .layout d img ≡ Reply.Total (octetsIn d img)
-      go (inl h) = h .reply ∙ ap (λ n. Reply.Total n) (sym (r .third d img .totalExactly passed (h .total) .0 (h .reply) .ends))
+      go (inl h) = h .reply ∙ ap (λ n. Reply.Total n) (sym (r .third d img .totalExactly (passed-is e) (h .total) .0 (h .reply) .ends))
       go (inr h) = clash (cc)
 
   -- a place that is told is one of an image that lays out, and of a name that there is
