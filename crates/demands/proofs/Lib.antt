@@ -14,3 +14,5 @@ pub mod OnlyWrites
 pub mod OnlyOctets
 pub mod OnlyOrder
 pub mod OnlyImages
+pub mod OnlyCalendar
+pub mod Only

@@ -28,7 +28,7 @@ use Rattle.demands.proofs.Rules.{check-in-words}
 pub clash : {A : Type 0} → _≡_ {A = ℕ} 0 1 → A
 clash e = absurd (omega arith)
 
-reply-refused : (x : Reply) (r : Refusal) → refusalIn x ≡ some r → x ≡ Reply.Refused r
+pub reply-refused : (x : Reply) (r : Refusal) → refusalIn x ≡ some r → x ≡ Reply.Refused r
 unfolding refusalIn
 reply-refused (reply.Refused s) r e = cc
 reply-refused reply.Passed r e = clash (cc)
