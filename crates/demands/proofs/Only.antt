@@ -19,7 +19,7 @@ use Rattle.demands.proofs.OnlyCalendar as kinds
 use Rattle.demands.proofs.OnlyCalendar.{TierKind, had-only, matrix-only, cells-only, tier-only}
 use Rattle.demands.proofs.OnlyImages.{range-image-only, octets-image-only, number-image-only}
 use Rattle.demands.proofs.OnlyReads.{Counted, check-only, layout-only, table-only, table-part-only, element-only, element-part-only, number-only}
-use Rattle.demands.proofs.OnlyWrites.{range-only, octets-only, written-only}
+use Rattle.demands.proofs.OnlyWrites.{range-only, octets-only, number-write-only}
 
 -- OURS
 counted : Counted ours
@@ -59,14 +59,11 @@ only R r o =
       elementPart = λ d img. element-part-only R ours r o d img counted;
       elementNumber = λ d img. number-only R ours r o d img counted;
       writeRange = λ d img. range-only R ours r o d img (layout d img) (table d img) (element d img);
-      rangeImage = λ d img m k x new.
-          range-image-only R ours r o d img m k x new (table d img m k) (range-only R ours r o d img (layout d img) (table d img) (element d img) m k x new);
+      rangeImage = λ d img. range-image-only R ours r o d img (layout d img) (table d img) (element d img);
       writeOctets = λ d img. octets-only R ours r o d img (layout d img) (table d img) (element d img);
-      octetsImage = λ d img q new.
-          octets-image-only R ours r o d img q (element d img q) new (octets-only R ours r o d img (layout d img) (table d img) (element d img) q new);
-      writeNumber = λ d img. written-only R ours r o d img (layout d img) (table d img) (element d img);
-      numberImage = λ d img q x.
-          number-image-only R ours r o d img q (element d img q) x (written-only R ours r o d img (layout d img) (table d img) (element d img) q x);
+      octetsImage = λ d img. octets-image-only R ours r o d img (layout d img) (table d img) (element d img);
+      writeNumber = λ d img. number-write-only R ours r o d img (layout d img) (table d img) (element d img);
+      numberImage = λ d img. number-image-only R ours r o d img (layout d img) (table d img) (element d img);
       tier = λ d img w q. tier-only R ours r o d img (layout d img) (part d img) w q (tier-kind d img w q);
       matrix = λ d img. matrix-only R ours r o d img (layout d img) (part d img);
       matrixVerdict = λ d img. had-only R ours r o d img (layout d img) (part d img);

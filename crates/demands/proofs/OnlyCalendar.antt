@@ -4,7 +4,7 @@ use Prim.Native.Nat.{ℕ, _<_, _≤_}
 use mathlib.Core.Path.{_≡_, refl, sym, _∙_, ap}
 use mathlib.Core.Logic.{_⊎_, inl, inr}
 use mathlib.Core.List.{List, []}
-use lib.ListN.{length, getD}
+use lib.ListN.{getD}
 use lib.Seq.{ext-getD}
 use native.Mathlib.Omega.{arith}
 use Rattle.meaning.specs.declared.Controls.{Controls}
@@ -76,7 +76,7 @@ module _ (R S : Replies) (r : Demands R) (s : Demands S) (d img : List ℕ) (lay
     (part : (m k : ℕ) → R .tablePart d img m k ≡ S .tablePart d img m k) where
   pub had-only : R .matrixVerdict d img ≡ S .matrixVerdict d img
   unfolding outcomeBy refusalsOf ofCalendar
-  had-only = verdict-same _ _ (refusal-same R S d img (r .first d img) (s .first d img) ask.matrix (rw (layout, part 0 51, part 0 54)))
+  had-only = verdict-same _ _ (refusal-same R S r s d img ask.matrix (rw (layout, part 0 51, part 0 54)))
 
   matrix-says : MatrixSays (dataOrder img) (S .tablePart d img 0 51) (S .tablePart d img 0 54) (S .matrixVerdict d img) (R .matrix d img) (R .matrixCells d img)
   matrix-says = rw (← part 0 51, ← part 0 54, ← had-only) (r .second d img .calendar .matrix)
@@ -92,4 +92,4 @@ module _ (R S : Replies) (r : Demands R) (s : Demands S) (d img : List ℕ) (lay
   tier-only w q =
       tier-same (dataOrder img) (S .tablePart d img 0 51) (S .tablePart d img 0 54) (S .matrixVerdict d img) w q _ _
       (rw (← part 0 51, ← part 0 54, ← had-only) (r .second d img .calendar .tier w q)) (s .second d img .calendar .tier w q)
-      (refusal-same R S d img (r .first d img) (s .first d img) (ask.tier w q) (rw (layout, part 0 51, part 0 54)))
+      (refusal-same R S r s d img (ask.tier w q) (rw (layout, part 0 51, part 0 54)))

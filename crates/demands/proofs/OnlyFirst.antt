@@ -1,9 +1,9 @@
 -- REFUSALS DECIDE: two replies with the same refusal are the same, unless neither is refused; and what a question that isn't refused has met. Of the check, which rule is broken is decided
 -- by the rules alone. Assumes nothing.
 use mathlib.Core.Path.{_≡_, refl, sym, _∙_, ap}
-use mathlib.Core.Logic.{_⊎_, inl, inr}
+use mathlib.Core.Logic.{inl, inr}
 use mathlib.Core.Bool.{Bool, true, false}
-use mathlib.Core.List.{List, [], _∷_}
+use mathlib.Core.List.{List, _∷_}
 use mathlib.Core.Option.{Option, some, none}
 use Prim.Native.Nat.{ℕ}
 use native.Mathlib.Omega.{arith}
@@ -19,7 +19,8 @@ use Rattle.meaning.specs.Passed.{OfRules}
 use Rattle.meaning.specs.Questions.{Question, refusalIn}
 use Rattle.meaning.specs.Refusals.{verdictReply, placeReply}
 use Rattle.meaning.proofs.Passed.{check-says}
-use Rattle.demands.specs.Demand1.{given, firstOf, refusalsOf, Demand1}
+use Rattle.demands.specs.Demand1.{given, firstOf, refusalsOf}
+use Rattle.demands.specs.Demands.{Demands}
 use Rattle.demands.specs.Replies.{Replies, outcomeBy}
 use Rattle.demands.specs.Rules.{CheckSays}
 use Rattle.demands.proofs.Rules.{check-in-words}
@@ -86,9 +87,9 @@ given-none true r e = clash (cc)
 given-none false r e = refl
 
 -- the same list, the same refusal
-pub refusal-same : (R S : Replies) (d img : List ℕ) → Demand1 R d img → Demand1 S d img → (q : Question) → refusalsOf R q d img ≡ refusalsOf S q d img
+pub refusal-same : (R S : Replies) → Demands R → Demands S → (d img : List ℕ) (q : Question) → refusalsOf R q d img ≡ refusalsOf S q d img
     → refusalIn (outcomeBy R q d img .reply) ≡ refusalIn (outcomeBy S q d img .reply)
-refusal-same R S d img r s q e = r .asked q .first ∙ ap firstOf e ∙ sym (s .asked q .first)
+refusal-same R S r s d img q e = r .first d img .asked q .first ∙ ap firstOf e ∙ sym (s .first d img .asked q .first)
 
 -- THE CHECK: what the rules say is said of one reply only
 pub check-decided : (d : List ℕ) (v : Verdict) → CheckSays d v → v ≡ checkReply d

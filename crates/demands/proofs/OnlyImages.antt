@@ -1,8 +1,8 @@
--- THE DEMANDS DECIDE WHAT IS IN THE IMAGE AFTER A WRITE: two families R and S that meet them and accept the same write at the same place leave the same octets. Assumes nothing.
+-- THE DEMANDS DECIDE WHAT IS IN THE IMAGE AFTER A WRITE: two families R and S that meet them and lay out alike leave the same octets. Assumes nothing.
 use Prim.Native.Nat.{ℕ, _+_, _-_, min}
 use mathlib.Core.Path.{_≡_, refl, sym, _∙_, ap}
 use mathlib.Core.List.{List}
-use lib.ListN.{length, getD}
+use lib.ListN.{length}
 use native.Mathlib.Omega.{arith}
 use Rattle.offsets.specs.declared.TableOffset.{TableOffset}
 use Rattle.meaning.specs.Basics.{bits, part, numberIn}
@@ -16,7 +16,7 @@ use Rattle.demands.specs.Demands.{Demands}
 use Rattle.demands.specs.Replies.{Replies, octetsAt, startOf}
 use Rattle.demands.proofs.OnlyOctets.{Octets, octets-at, writing-only}
 use Rattle.demands.proofs.OnlyOrder.{order-kept}
-use Rattle.demands.proofs.OnlyWrites.{later-same, range-written, octets-written}
+use Rattle.demands.proofs.OnlyWrites.{later-same, range-only, octets-only, number-write-only, range-written, octets-written}
 
 -- A NUMBER WRITTEN, by one family: its octets, in the DATA_ORDER of before
 record NumberPut (img : List ℕ) (x p n : ℕ) (later : List ℕ) : Type 0 where
@@ -56,32 +56,34 @@ image-same img a b u v e h k same = go u refl
     go verdict.Passed f = same f (sym e ∙ f)
     go (verdict.Refused r) f = h r f ∙ sym (k r (sym e ∙ f))
 
-module _ (R S : Replies) (r : Demands R) (s : Demands S) (d img : List ℕ) where
-  pub range-image-only : (m k : ℕ) (o : TableOffset) (new : List ℕ) → R .tablePlace d img m k ≡ S .tablePlace d img m k → R .writeRange d img m k o new ≡ S .writeRange d img m k o new
-      → R .rangeImage d img m k o new ≡ S .rangeImage d img m k o new
-  range-image-only m k o new place verdict =
+module _ (R S : Replies) (r : Demands R) (s : Demands S) (d img : List ℕ)
+    (layout : R .layout d img ≡ S .layout d img)
+    (table : (m k : ℕ) → R .tablePlace d img m k ≡ S .tablePlace d img m k)
+    (element : (q : ElementName) → R .elementPlace d img q ≡ S .elementPlace d img q) where
+  pub range-image-only : (m k : ℕ) (o : TableOffset) (new : List ℕ) → R .rangeImage d img m k o new ≡ S .rangeImage d img m k o new
+  range-image-only m k o new =
       let a = r .second d img .range m k o new in
       let b = s .second d img .range m k o new in
-      image-same img _ _ _ _ verdict (a .unchanged) (b .unchanged) (λ e f.
+      image-same img _ _ _ _ (range-only R S r s d img layout table element m k o new) (a .unchanged) (b .unchanged) (λ e f.
       let at = a .accepted .0 e .exists in
-      let there = sym place ∙ at in
+      let there = sym (table m k) ∙ at in
       later-same img _ _ _ (length new) (a .others _ _ e at) (b .others _ _ f there)
       (range-written R r d img m k o new _ _ e at ∙ sym (range-written S s d img m k o new _ _ f there)))
 
-  module _ (q : ElementName) (place : R .elementPlace d img q ≡ S .elementPlace d img q) where
-    pub octets-image-only : (new : List ℕ) → R .writeOctets d img q new ≡ S .writeOctets d img q new → R .octetsImage d img q new ≡ S .octetsImage d img q new
-    octets-image-only new verdict =
-        let a = r .second d img .octets q new in
-        let b = s .second d img .octets q new in
-        image-same img _ _ _ _ verdict (a .unchanged) (b .unchanged) (λ e f.
-        let at = a .accepted .0 e .exists in
-        let there = sym place ∙ at in
-        later-same img _ _ _ _ (a .others _ _ e at) (b .others _ _ f there)
-        (octets-written R r d img q new _ _ e at ∙ sym (octets-written S s d img q new _ _ f there)))
+  pub octets-image-only : (q : ElementName) (new : List ℕ) → R .octetsImage d img q new ≡ S .octetsImage d img q new
+  octets-image-only q new =
+      let a = r .second d img .octets q new in
+      let b = s .second d img .octets q new in
+      image-same img _ _ _ _ (octets-only R S r s d img layout table element q new) (a .unchanged) (b .unchanged) (λ e f.
+      let at = a .accepted .0 e .exists in
+      let there = sym (element q) ∙ at in
+      later-same img _ _ _ _ (a .others _ _ e at) (b .others _ _ f there)
+      (octets-written R r d img q new _ _ e at ∙ sym (octets-written S s d img q new _ _ f there)))
 
-    pub number-image-only : (x : ℕ) → R .writeNumber d img q x ≡ S .writeNumber d img q x → R .numberImage d img q x ≡ S .numberImage d img q x
-    number-image-only x verdict =
-        let a = r .second d img .number q x in
-        image-same img _ _ _ _ verdict (a .unchanged) (s .second d img .number q x .unchanged) (λ e f.
-        let at = a .accepted .0 e .1 .exists in
-        number-same img x _ _ _ _ (number-put R r d img q x _ _ e at) (number-put S s d img q x _ _ f (sym place ∙ at)))
+  pub number-image-only : (q : ElementName) (x : ℕ) → R .numberImage d img q x ≡ S .numberImage d img q x
+  number-image-only q x =
+      let a = r .second d img .number q x in
+      let b = s .second d img .number q x in
+      image-same img _ _ _ _ (number-write-only R S r s d img layout table element q x) (a .unchanged) (b .unchanged) (λ e f.
+      let at = a .accepted .0 e .1 .exists in
+      number-same img x _ _ _ _ (number-put R r d img q x _ _ e at) (number-put S s d img q x _ _ f (sym (element q) ∙ at)))

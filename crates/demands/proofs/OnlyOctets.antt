@@ -42,8 +42,8 @@ most-least xs = ap mostFirst (sym (reverse-reverse xs)) ∙ most-reverse (revers
 most-only : (xs ys : List ℕ) → length xs ≡ length ys → Octets xs → Octets ys → mostFirst xs ≡ mostFirst ys → xs ≡ ys
 most-only xs ys l h k e =
     let same =
-        least-only (reverse xs) (reverse ys) (length-reverse xs ∙ l ∙ sym (length-reverse ys)) (octets-reverse xs h) (octets-reverse ys k)
-        (sym (most-least xs) ∙ e ∙ most-least ys) in
+    least-only (reverse xs) (reverse ys) (length-reverse xs ∙ l ∙ sym (length-reverse ys)) (octets-reverse xs h) (octets-reverse ys k)
+    (sym (most-least xs) ∙ e ∙ most-least ys) in
     sym (reverse-reverse xs) ∙ ap reverse same ∙ reverse-reverse ys
 
 pub writing-only : (order : ℕ) (xs ys : List ℕ) → length xs ≡ length ys → Octets xs → Octets ys → numberIn order xs ≡ numberIn order ys → xs ≡ ys

@@ -2,18 +2,16 @@
 use Prim.Native.Nat.{ℕ, _+_, _<_, _≤_}
 use mathlib.Core.Path.{_≡_, refl, sym, _∙_, ap}
 use mathlib.Core.Logic.{_⊎_, inl, inr}
-use mathlib.Core.Bool.{true, false, _&&_, true≢false}
+use mathlib.Core.Bool.{true, _&&_, true≢false}
 use mathlib.Core.List.{List, [], _∷_}
-use mathlib.Core.Option.{none}
 use lib.ListN.{length}
 use borrow.Author.Tests.{leb-true, eqb-true, ltb-true, lt-ltb, le-ltb}
 use native.Mathlib.Decide.{decLt}
 use native.Mathlib.Omega.{arith}
-use Rattle.meaning.specs.Basics.{_≤?_, _<?_, _=?_}
+use Rattle.meaning.specs.Basics.{_≤?_, _=?_}
 use Rattle.meaning.specs.declared.ElementName.{ElementName}
-use Rattle.meaning.specs.declared.Fields.{Fields}
 use Rattle.meaning.specs.declared.Reply.{Reply}
-use Rattle.meaning.specs.Description.{itemCount, fieldsAt, isTable, isElement, isTableNamed, isTable00, isDimension, isDataOrder}
+use Rattle.meaning.specs.Description.{itemCount, fieldsAt, isTable, isTableNamed, isTable00, isDimension, isDataOrder}
 use Rattle.meaning.specs.Layout.{leafOctets}
 use Rattle.meaning.specs.Passed.{PassedLaws}
 use Rattle.meaning.specs.Questions.{refusalIn}
@@ -28,8 +26,8 @@ use Rattle.demands.specs.Demands.{Demands}
 use Rattle.demands.specs.Replies.{Replies, octetsAt, startOf, alone}
 use Rattle.demands.specs.Walk.{octetsIn, arraysRound, subscriptsOf, way, wayTo, Earlier}
 use Rattle.demands.proofs.OnlyFirst.{check-decided}
-use Rattle.demands.proofs.OnlyNames.{Element, Array, Existing, existing, arrays-are, names-compared}
-use Rattle.demands.proofs.OnlyPlaces.{told-none, passed-is, element-told, number-told, v, Is, start, size, stands-at, set-out}
+use Rattle.demands.proofs.OnlyNames.{Element, Array, existing, arrays-are, names-compared}
+use Rattle.demands.proofs.OnlyPlaces.{told-none, passed-is, element-told, number-told, v, Is, start, size, set-out}
 use Rattle.demands.proofs.OnlyTiles.{Compared, earlier, same, later}
 
 -- THE LEAST WAY

@@ -1,11 +1,11 @@
--- THE DEMANDS DECIDE WHERE EVERYTHING STANDS: two families R and S that meet them tell the same total, tables and elements, the same parts of the image and the same numbers. Of S it is
--- assumed besides that a name's places past its count aren't read.
-use Prim.Native.Nat.{ℕ, _+_, _<_, _≤_}
+-- WHAT ONE FAMILY THAT MEETS THE DEMANDS TELLS OF PLACES: a place that is told is one of an image that lays out, and of a name that there is; and the elements that there are stand set out
+-- by their ways, without gaps. Assumes nothing.
+use Prim.Native.Nat.{ℕ, _≤_}
 use mathlib.Core.Path.{_≡_, refl, sym, _∙_, ap}
-use mathlib.Core.Logic.{_⊎_, inl, inr}
-use mathlib.Core.Bool.{Bool, true, false, not, _||_}
+use mathlib.Core.Logic.{inl, inr}
+use mathlib.Core.Bool.{true, not, _||_}
 use mathlib.Core.List.{List, [], _∷_}
-use mathlib.Core.Option.{some, none}
+use mathlib.Core.Option.{none}
 use lib.ListN.{length}
 use borrow.Author.Tests.{ltb-false, not-false}
 use native.Mathlib.Omega.{arith}
@@ -14,7 +14,6 @@ use Rattle.meaning.specs.declared.ElementName.{ElementName}
 use Rattle.meaning.specs.declared.Place.{Place}
 use Rattle.meaning.specs.declared.Place.the-variants as place
 use Rattle.meaning.specs.declared.Reply.{Reply}
-use Rattle.meaning.specs.declared.Verdict.{Verdict}
 use Rattle.meaning.specs.Description.{itemCount, fieldsAt, isUint, tableGiven}
 use Rattle.meaning.specs.Numbers.{imageTooLong, noTable, noElement}
 use Rattle.meaning.specs.Questions as ask
@@ -22,14 +21,14 @@ use Rattle.meaning.specs.Questions.{refusalIn}
 use Rattle.meaning.specs.Refusals.{verdictReply, placeReply}
 use Rattle.meaning.proofs.Rules.{either-false}
 use Rattle.laying.specs.Sizes.{Numbers}
-use Rattle.demands.specs.Demand1.{firstOf, eight, nineFrom, ten, eleven, elevenNumber, refusalsOf}
-use Rattle.demands.specs.Demand3.{Passed, LaysOut, IsShort, LaysOrShort, SameName, lengthIn}
+use Rattle.demands.specs.Demand1.{eight, nineFrom, ten, eleven, elevenNumber, refusalsOf}
+use Rattle.demands.specs.Demand3.{Passed, LaysOrShort, SameName, lengthIn}
 use Rattle.demands.specs.Demands.{Demands}
 use Rattle.demands.specs.Replies.{Replies, outcomeBy, octetsAt, startOf, lengthOf}
 use Rattle.demands.specs.Walk.{octetsIn, numbersIn, exists, wayTo, Earlier}
-use Rattle.demands.proofs.OnlyFirst.{clash, reply-same, place-same, verdict-passed, first-none, given-none, refusal-same, check-decided}
-use Rattle.demands.proofs.OnlyNames.{Existing, existing, names-compared}
-use Rattle.demands.proofs.OnlyTiles.{SetOut, Tiled, Over, stands-there}
+use Rattle.demands.proofs.OnlyFirst.{clash, verdict-passed, first-none, given-none}
+use Rattle.demands.proofs.OnlyNames.{existing}
+use Rattle.demands.proofs.OnlyTiles.{SetOut, Tiled}
 
 -- a place that isn't refused
 pub told : (x : Place) → refusalIn (placeReply x) ≡ none → x ≡ octetsAt (startOf x) (lengthOf x)
@@ -61,13 +60,14 @@ module _ (R : Replies) (r : Demands R) (d img : List ℕ) where
       go (inl h) = h .reply ∙ ap (λ n. Reply.Total n) (sym (r .third d img .totalExactly (passed-is e) (h .total) .0 (h .reply) .ends))
       go (inr h) = clash (cc)
 
-  -- a place that is told is one of an image that lays out, and of a name that there is
+  -- the numbers of the dimensions, and the names that there are
   abbrev pub v : Numbers
   v = numbersIn d img
 
   abbrev pub Is : ElementName → Type 0
   Is q = exists d v q ≡ true
 
+  -- what isn't refused is of an image that lays out, and of a name that there is
   pub record Told (Named : Type 0) : Type 0 where
     pub layout : R .layout d img ≡ Reply.Total (octetsIn d img)
     pub named : Named

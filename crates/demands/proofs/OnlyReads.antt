@@ -3,20 +3,15 @@
 use Prim.Native.Nat.{ℕ, _≤_}
 use mathlib.Core.Path.{_≡_, refl, sym, _∙_, ap}
 use mathlib.Core.List.{List, []}
-use mathlib.Core.Option.{none}
 use Rattle.meaning.specs.declared.ElementName.{ElementName}
 use Rattle.meaning.specs.declared.Place.{Place}
 use Rattle.meaning.specs.declared.Place.the-variants as place
-use Rattle.meaning.specs.declared.Reply.{Reply}
-use Rattle.meaning.specs.declared.Verdict.{Verdict}
 use Rattle.meaning.specs.Questions as ask
-use Rattle.meaning.specs.Questions.{refusalIn}
-use Rattle.meaning.specs.Refusals.{placeReply}
 use Rattle.demands.specs.Demand1.{refusalsOf}
 use Rattle.demands.specs.Demand3.{SameName}
 use Rattle.demands.specs.Demands.{Demands}
-use Rattle.demands.specs.Replies.{Replies, outcomeBy, octetsAt, startOf}
-use Rattle.demands.specs.Walk.{numbersIn, exists}
+use Rattle.demands.specs.Replies.{Replies, outcomeBy, octetsAt}
+use Rattle.demands.specs.Walk.{numbersIn}
 use Rattle.demands.proofs.OnlyFirst.{reply-same, place-same, refusal-same, check-decided}
 use Rattle.demands.proofs.OnlyNames.{existing, names-compared}
 use Rattle.demands.proofs.OnlyPlaces.{told, total-is, table-told, element-told, number-told, Is, start, size, Before, stands-at, set-out, tiled}
@@ -34,13 +29,13 @@ module _ (R S : Replies) (r : Demands R) (s : Demands S) where
     pub layout-only : R .layout d img ≡ S .layout d img
     unfolding outcomeBy refusalsOf
     layout-only =
-        let e = refusal-same R S d img (r .first d img) (s .first d img) ask.layout (rw (check-only d)) in
+        let e = refusal-same R S r s d img ask.layout (rw (check-only d)) in
         reply-same (R .layout d img) (S .layout d img) e (λ f. total-is R r d img f ∙ sym (total-is S s d img (sym e ∙ f)))
 
     pub table-only : (m k : ℕ) → R .tablePlace d img m k ≡ S .tablePlace d img m k
     unfolding outcomeBy refusalsOf
     table-only m k =
-        let e = refusal-same R S d img (r .first d img) (s .first d img) (ask.tablePlace m k) (rw layout-only) in
+        let e = refusal-same R S r s d img (ask.tablePlace m k) (rw layout-only) in
         place-same (R .tablePlace d img m k) (S .tablePlace d img m k) e (λ f.
         let at = told (R .tablePlace d img m k) f in
         let seated = r .third d img .tablesStand _ (table-told R r d img m k f .layout) m k _ _ .0 at in
@@ -59,15 +54,15 @@ module _ (R S : Replies) (r : Demands R) (s : Demands S) where
       pub element-only : (q : ElementName) → R .elementPlace d img q ≡ S .elementPlace d img q
       unfolding outcomeBy refusalsOf
       element-only q =
-          let e = refusal-same R S d img (r .first d img) (s .first d img) (ask.elementPlace q) (rw layout-only) in
+          let e = refusal-same R S r s d img (ask.elementPlace q) (rw layout-only) in
           place-same (R .elementPlace d img q) (S .elementPlace d img q) e (λ f.
           let a = element-told R r d img q f in
           let b = element-told S s d img q (sym e ∙ f) .layout in
           let v = numbersIn d img in
           let same =
-              stands-there (Is R r d img) (Before R r d img) SameName (size R r d img) (start S s d img) (start R r d img) _
-              (λ q t h k. names-compared d q t (existing d v q h) (existing d v t k))
-              (set-out S s d img b) (tiled S s d img b (counted d img)) (set-out R r d img (a .layout)) q (a .named) in
+          stands-there (Is R r d img) (Before R r d img) SameName (size R r d img) (start S s d img) (start R r d img) _
+          (λ q t h k. names-compared d q t (existing d v q h) (existing d v t k))
+          (set-out S s d img b) (tiled S s d img b (counted d img)) (set-out R r d img (a .layout)) q (a .named) in
           stands-at R r d img (a .layout) q (a .named) ∙ ap (λ p. octetsAt p (size R r d img q)) same ∙ sym (stands-at S s d img b q (a .named)))
 
       pub element-part-only : (q : ElementName) → R .elementPart d img q ≡ S .elementPart d img q
@@ -82,7 +77,7 @@ module _ (R S : Replies) (r : Demands R) (s : Demands S) where
       pub number-only : (q : ElementName) → R .elementNumber d img q ≡ S .elementNumber d img q
       unfolding outcomeBy refusalsOf
       number-only q =
-          let e = refusal-same R S d img (r .first d img) (s .first d img) (ask.elementNumber q) (rw layout-only) in
+          let e = refusal-same R S r s d img (ask.elementNumber q) (rw layout-only) in
           reply-same (R .elementNumber d img q) (S .elementNumber d img q) e (λ f.
           let a = number-told R r d img q f in
           let at = stands-at R r d img (a .layout) q (a .named .0) in

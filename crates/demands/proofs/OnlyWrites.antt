@@ -1,9 +1,10 @@
--- THE DEMANDS DECIDE EVERY WRITE: two families R and S that meet them and read alike accept the same writes, and leave the same octets. Assumes nothing.
-use Prim.Native.Nat.{ℕ, zero, suc, _+_, _-_, _^_, _<_, _≤_}
+-- THE DEMANDS DECIDE WHICH WRITES ARE ACCEPTED: two families R and S that meet them and lay out alike give the same verdicts. And what reading back says of the octets written. Assumes
+-- nothing.
+use Prim.Native.Nat.{ℕ, zero, suc, _+_, _-_, _<_}
 use mathlib.Core.Path.{_≡_, refl, sym, _∙_, ap}
-use mathlib.Core.Logic.{_⊎_, inl, inr}
-use mathlib.Core.Bool.{Bool, true, false, _&&_, _||_}
-use mathlib.Core.List.{List, [], _∷_}
+use mathlib.Core.Logic.{inl, inr}
+use mathlib.Core.Bool.{Bool, _&&_}
+use mathlib.Core.List.{List}
 use lib.ListN.{length, getD}
 use lib.Seq.{ext-getD}
 use native.Mathlib.Decide.{decLt}
@@ -12,7 +13,6 @@ use Rattle.offsets.specs.declared.TableOffset.{TableOffset}
 use Rattle.meaning.specs.Basics.{part}
 use Rattle.meaning.specs.declared.ElementName.{ElementName}
 use Rattle.meaning.specs.declared.Verdict.{Verdict}
-use Rattle.meaning.specs.declared.Verdict.the-variants as verdict
 use Rattle.meaning.specs.Description.{itemCount, fieldsAt, isDimension}
 use Rattle.meaning.specs.Questions as ask
 use Rattle.meaning.proofs.Splices.{part-at, part-part}
@@ -54,20 +54,17 @@ module _ (R S : Replies) (r : Demands R) (s : Demands S) (d img : List ℕ)
   pub range-only : (m k : ℕ) (o : TableOffset) (new : List ℕ) → R .writeRange d img m k o new ≡ S .writeRange d img m k o new
   unfolding outcomeBy refusalsOf
   range-only m k o new =
-      verdict-same _ _ (refusal-same R S d img (r .first d img) (s .first d img) (ask.writeRange m k o new)
-      (rw (layout, table m k, fourteen-same)))
+      verdict-same _ _ (refusal-same R S r s d img (ask.writeRange m k o new) (rw (layout, table m k, fourteen-same)))
 
   pub octets-only : (q : ElementName) (new : List ℕ) → R .writeOctets d img q new ≡ S .writeOctets d img q new
   unfolding outcomeBy refusalsOf
   octets-only q new =
-      verdict-same _ _ (refusal-same R S d img (r .first d img) (s .first d img) (ask.writeOctets q new)
-      (rw (layout, element q, fourteen-same)))
+      verdict-same _ _ (refusal-same R S r s d img (ask.writeOctets q new) (rw (layout, element q, fourteen-same)))
 
-  pub written-only : (q : ElementName) (x : ℕ) → R .writeNumber d img q x ≡ S .writeNumber d img q x
+  pub number-write-only : (q : ElementName) (x : ℕ) → R .writeNumber d img q x ≡ S .writeNumber d img q x
   unfolding outcomeBy refusalsOf
-  written-only q x =
-      verdict-same _ _ (refusal-same R S d img (r .first d img) (s .first d img) (ask.writeNumber q x)
-      (rw (layout, element q, fourteen-same)))
+  number-write-only q x =
+      verdict-same _ _ (refusal-same R S r s d img (ask.writeNumber q x) (rw (layout, element q, fourteen-same)))
 
 -- THE OCTETS WRITTEN, of one family
 module _ (R : Replies) (r : Demands R) (d img : List ℕ) where
