@@ -24,10 +24,10 @@ use Rattle.demands.specs.Demand2.{NoDimension}
 use Rattle.demands.specs.Demand3.{SameName}
 use Rattle.demands.specs.Demands.{Demands}
 use Rattle.demands.specs.Replies.{Replies, octetsAt, startOf, alone}
-use Rattle.demands.specs.Walk.{octetsIn, arraysRound, subscriptsOf, way, wayTo, Earlier}
+use Rattle.demands.specs.Walk.{octetsIn, numbersIn, arraysRound, subscriptsOf, way, wayTo, Earlier}
 use Rattle.demands.proofs.OnlyFirst.{check-decided}
 use Rattle.demands.proofs.OnlyNames.{Element, Array, existing, arrays-are, names-compared}
-use Rattle.demands.proofs.OnlyPlaces.{told-none, passed-is, element-told, number-told, v, Is, start, size, set-out}
+use Rattle.demands.proofs.OnlyPlaces.{told-none, passed-is, element-told, number-told, Is, start, size, set-out}
 use Rattle.demands.proofs.OnlyTiles.{Compared, earlier, same, later}
 
 -- THE LEAST WAY
@@ -37,7 +37,8 @@ way-alone [] i = refl
 way-alone (k ∷ ks) i = refl
 
 -- none is less than item 1's, for item 0 is neither an element nor an ARRAY
-none-less : (d : List ℕ) → isTable (fieldsAt d 0) ≡ true → (ks xs : List ℕ) (i : ℕ) → Every (Array d) ks → length xs ≡ length ks → Element d i → Earlier (way ks xs i) (1 ∷ []) → ⊥
+none-less : (d : List ℕ) → isTable (fieldsAt d 0) ≡ true → (ks xs : List ℕ) (i : ℕ) → Every (Array d) ks → length xs ≡ length ks → Element d i
+    → Earlier (way ks xs i) (1 ∷ []) → ⊥
 unfolding way Every Earlier
 none-less d t [] xs i h l is (inl e) =
     let f : i ≡ 0 = omega arith in
@@ -78,20 +79,20 @@ begins d p =
 -- THE IMAGE'S FIRST OCTET
 module _ (R : Replies) (r : Demands R) (d img : List ℕ) where
   -- an element that there is stands after it, or is item 1's, a dimension
-  first-octet : (laid : R .layout d img ≡ Reply.Total (octetsIn d img)) (q : ElementName) → Is R r d img q → (0 < start R r d img q) ⊎ (isDimension (fieldsAt d (q .item)) ≡ true)
+  first-octet : (laid : R .layout d img ≡ Reply.Total (octetsIn d img)) (q : ElementName) → Is d img q → (0 < start R r d img q) ⊎ (isDimension (fieldsAt d (q .item)) ≡ true)
   unfolding refusalIn
   first-octet laid q is =
       let b = begins d (passed-laws d (sym (check-decided d (R .check d) (r .first d img .rules)) ∙ passed-is R r d img (rw laid) .passes)) in
       let number = r .third d img .elementsStand _ laid .dimensions 1 (b .two) (b .sets) in
       let one = number-told R r d img (alone 1) (rw number) .named .0 in
-      go b one (names-compared d (alone 1) q (existing d (v R r d img) (alone 1) one) (existing d (v R r d img) q is))
+      go b one (names-compared d (alone 1) q (existing d (numbersIn d img) (alone 1) one) (existing d (numbersIn d img) q is))
     where
-      go : Begins d → Is R r d img (alone 1) → Compared (Earlier (wayTo d (alone 1)) (wayTo d q)) (SameName (alone 1) q) (Earlier (wayTo d q) (wayTo d (alone 1)))
+      go : Begins d → Is d img (alone 1) → Compared (Earlier (wayTo d (alone 1)) (wayTo d q)) (SameName (alone 1) q) (Earlier (wayTo d q) (wayTo d (alone 1)))
           → (0 < start R r d img q) ⊎ (isDimension (fieldsAt d (q .item)) ≡ true)
-      go b one (earlier e) = inl (omega (arith, set-out R r d img laid .order (alone 1) q one is e, b .octet (value (v R r d img) (fieldsAt d 1))))
+      go b one (earlier e) = inl (omega (arith, set-out R r d img laid .order (alone 1) q one is e, b .octet (value (numbersIn d img) (fieldsAt d 1))))
       go b one (same e) = inr (rw (sym (e .item)) (lt-ltb 0 (fieldsAt d 1 .sets) (b .sets)))
       go b one (later e) =
-          let x = existing d (v R r d img) q is in
+          let x = existing d (numbersIn d img) q is in
           absurd (none-less d (b .table) (arraysRound d (q .item)) (subscriptsOf q) (q .item) (arrays-are d _) (x .many) (x .element)
           (rw (way-alone (arraysRound d 1) 1) at e))
 

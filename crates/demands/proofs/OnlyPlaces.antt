@@ -3,7 +3,7 @@
 use Prim.Native.Nat.{ℕ, _≤_}
 use mathlib.Core.Path.{_≡_, refl, sym, _∙_, ap}
 use mathlib.Core.Logic.{inl, inr}
-use mathlib.Core.Bool.{true, not, _||_}
+use mathlib.Core.Bool.{Bool, true, false}
 use mathlib.Core.List.{List, [], _∷_}
 use mathlib.Core.Option.{none}
 use lib.ListN.{length}
@@ -13,15 +13,15 @@ use Rattle.meaning.specs.Basics.{_<?_}
 use Rattle.meaning.specs.declared.ElementName.{ElementName}
 use Rattle.meaning.specs.declared.Place.{Place}
 use Rattle.meaning.specs.declared.Place.the-variants as place
+use Rattle.meaning.specs.declared.Refusal.{Refusal}
 use Rattle.meaning.specs.declared.Reply.{Reply}
-use Rattle.meaning.specs.Description.{itemCount, fieldsAt, isUint, tableGiven}
+use Rattle.meaning.specs.Description.{itemCount, fieldsAt, isUint}
 use Rattle.meaning.specs.Numbers.{imageTooLong, noTable, noElement}
 use Rattle.meaning.specs.Questions as ask
-use Rattle.meaning.specs.Questions.{refusalIn}
+use Rattle.meaning.specs.Questions.{Question, refusalIn}
 use Rattle.meaning.specs.Refusals.{verdictReply, placeReply}
 use Rattle.meaning.proofs.Rules.{either-false}
-use Rattle.laying.specs.Sizes.{Numbers}
-use Rattle.demands.specs.Demand1.{eight, nineFrom, ten, eleven, elevenNumber, refusalsOf}
+use Rattle.demands.specs.Demand1.{given, firstOf, eight, nineFrom, ten, eleven, elevenNumber, refusalsOf}
 use Rattle.demands.specs.Demand3.{Passed, LaysOrShort, SameName, lengthIn}
 use Rattle.demands.specs.Demands.{Demands}
 use Rattle.demands.specs.Replies.{Replies, outcomeBy, octetsAt, startOf, lengthOf}
@@ -39,6 +39,17 @@ told (place.Refused r) e = clash (cc)
 pub told-none : (x : Place) (p n : ℕ) → x ≡ octetsAt p n → refusalIn (placeReply x) ≡ none
 unfolding refusalIn placeReply
 told-none x p n e = rw e
+
+-- the names that there are, how long their elements are, and which stand earlier
+module _ (d img : List ℕ) where
+  abbrev pub Is : ElementName → Type 0
+  Is q = exists d (numbersIn d img) q ≡ true
+
+  abbrev pub size : ElementName → ℕ
+  size q = lengthIn d (numbersIn d img) (q .item)
+
+  abbrev pub Before : ElementName → ElementName → Type 0
+  Before q t = Earlier (wayTo d q) (wayTo d t)
 
 -- ONE FAMILY
 module _ (R : Replies) (r : Demands R) (d img : List ℕ) where
@@ -60,63 +71,50 @@ module _ (R : Replies) (r : Demands R) (d img : List ℕ) where
       go (inl h) = h .reply ∙ ap (λ n. Reply.Total n) (sym (r .third d img .totalExactly (passed-is e) (h .total) .0 (h .reply) .ends))
       go (inr h) = clash (cc)
 
-  -- the numbers of the dimensions, and the names that there are
-  abbrev pub v : Numbers
-  v = numbersIn d img
+  -- of what may be refused where the image doesn't lay out, and by one test more: where it isn't, the image lays out and the test fails
+  not-refused : (q : Question) (t : Bool) (x : Refusal) → refusalsOf R q d img ≡ refusalIn (R .layout d img) ∷ given t x ∷ [] → refusalIn (outcomeBy R q d img .reply) ≡ none
+      → (R .layout d img ≡ Reply.Total (octetsIn d img)) × (t ≡ false)
+  not-refused q t x are e =
+      let f = first-none _ (given t x ∷ []) (ap firstOf (sym are) ∙ sym (r .first d img .asked q .first) ∙ e) in
+      (total-is (f .0), given-none t x (first-none (given t x) [] (f .1) .0))
 
-  abbrev pub Is : ElementName → Type 0
-  Is q = exists d v q ≡ true
+  -- so what is told is of an image that lays out, and of a name that there is
+  pub table-told : (m k : ℕ) → refusalIn (placeReply (R .tablePlace d img m k)) ≡ none → R .layout d img ≡ Reply.Total (octetsIn d img)
+  unfolding outcomeBy refusalsOf ten
+  table-told m k e = not-refused (ask.tablePlace m k) _ noTable refl e .0
 
-  -- what isn't refused is of an image that lays out, and of a name that there is
   pub record Told (Named : Type 0) : Type 0 where
     pub layout : R .layout d img ≡ Reply.Total (octetsIn d img)
     pub named : Named
 
-  pub table-told : (m k : ℕ) → refusalIn (placeReply (R .tablePlace d img m k)) ≡ none → Told (tableGiven d (itemCount d) m k ≡ true)
-  unfolding outcomeBy refusalsOf ten
-  table-told m k e =
-      let f = first-none (refusalIn (R .layout d img)) (ten d m k ∷ []) (sym (r .first d img .asked (ask.tablePlace m k) .first) ∙ e) in
-      let g = first-none (ten d m k) [] (f .1) in
-      record { layout = total-is (f .0); named = not-false _ (given-none (not (tableGiven d (itemCount d) m k)) noTable (g .0)) }
-
-  pub element-told : (q : ElementName) → refusalIn (placeReply (R .elementPlace d img q)) ≡ none → Told (Is q)
+  pub element-told : (q : ElementName) → refusalIn (placeReply (R .elementPlace d img q)) ≡ none → Told (Is d img q)
   unfolding outcomeBy refusalsOf eleven
-  element-told q e =
-      let f = first-none (refusalIn (R .layout d img)) (eleven d img q ∷ []) (sym (r .first d img .asked (ask.elementPlace q) .first) ∙ e) in
-      let g = first-none (eleven d img q) [] (f .1) in
-      record { layout = total-is (f .0); named = not-false _ (given-none (not (exists d v q)) noElement (g .0)) }
+  element-told q e = let f = not-refused (ask.elementPlace q) _ noElement refl e in record { layout = f .0; named = not-false _ (f .1) }
 
-  pub number-told : (q : ElementName) → refusalIn (R .elementNumber d img q) ≡ none → Told (Is q × (isUint (fieldsAt d (q .item)) ≡ true))
+  pub number-told : (q : ElementName) → refusalIn (R .elementNumber d img q) ≡ none → Told (Is d img q × (isUint (fieldsAt d (q .item)) ≡ true))
   unfolding outcomeBy refusalsOf elevenNumber
   number-told q e =
-      let f = first-none (refusalIn (R .layout d img)) (elevenNumber d img q ∷ []) (sym (r .first d img .asked (ask.elementNumber q) .first) ∙ e) in
-      let g = first-none (elevenNumber d img q) [] (f .1) in
-      let h = either-false _ _ (given-none (not (exists d v q) || not (isUint (fieldsAt d (q .item)))) noElement (g .0)) in
-      record { layout = total-is (f .0); named = (not-false _ (h .0), not-false _ (h .1)) }
+      let f = not-refused (ask.elementNumber q) _ noElement refl e in
+      let g = either-false _ _ (f .1) in
+      record { layout = f .0; named = (not-false _ (g .0), not-false _ (g .1)) }
 
   -- THE ELEMENTS SET OUT, by their starts
   abbrev pub start : ElementName → ℕ
   start q = startOf (R .elementPlace d img q)
 
-  abbrev pub size : ElementName → ℕ
-  size q = lengthIn d v (q .item)
-
-  abbrev pub Before : ElementName → ElementName → Type 0
-  Before q s = Earlier (wayTo d q) (wayTo d s)
-
   module _ (laid : R .layout d img ≡ Reply.Total (octetsIn d img)) where
-    pub stands-at : (q : ElementName) → Is q → R .elementPlace d img q ≡ octetsAt (start q) (size q)
+    pub stands-at : (q : ElementName) → Is d img q → R .elementPlace d img q ≡ octetsAt (start q) (size d img q)
     unfolding startOf
     stands-at q h = let p = r .third d img .elementsStand _ laid .there q h in rw (p .1)
 
-    pub set-out : SetOut Is Before size start (octetsIn d img)
+    pub set-out : SetOut (Is d img) (Before d img) (size d img) start (octetsIn d img)
     set-out =
         let e = r .third d img .elementsStand _ laid in
         record { order = λ q s h k. e .order q s _ _ _ _ (stands-at q h) (stands-at s k); ends = λ q h. e .ends q _ _ (stands-at q h) }
 
     -- without gaps, and each in one place where names are read up to their counts
     pub tiled : ((q s : ElementName) → SameName q s → q .count ≤ 4 → s .count ≤ 4 → R .elementPlace d img q ≡ R .elementPlace d img s)
-        → Tiled Is SameName size start (octetsIn d img)
+        → Tiled (Is d img) SameName (size d img) start (octetsIn d img)
     unfolding startOf
     tiled counted =
         record {
@@ -126,8 +124,8 @@ module _ (R : Replies) (r : Demands R) (d img : List ℕ) where
               let is = element-told q (told-none _ _ _ (h .reply)) .named in
               let at = stands-at q is in
               let first : h .start ≡ start q = cc (ap startOf (h .reply)) in
-              let long : h .size ≡ size q = cc (h .reply) in
+              let long : h .size ≡ size d img q = cc (h .reply) in
               record { name = q; is = is; from = omega (arith, h .from); to = omega (arith, h .to) };
-          once = λ q s h k e. ap startOf (counted q s e (existing d v q h .few) (existing d v s k .few));
-          long = λ q s h k e. ap (lengthIn d v) (e .item);
+          once = λ q s h k e. ap startOf (counted q s e (existing d _ q h .few) (existing d _ s k .few));
+          long = λ q s h k e. ap (lengthIn d (numbersIn d img)) (e .item);
         }

@@ -11,7 +11,6 @@ use Rattle.demands.specs.Demand1.{refusalsOf}
 use Rattle.demands.specs.Demand3.{SameName}
 use Rattle.demands.specs.Demands.{Demands}
 use Rattle.demands.specs.Replies.{Replies, outcomeBy, octetsAt}
-use Rattle.demands.specs.Walk.{numbersIn}
 use Rattle.demands.proofs.OnlyFirst.{reply-same, place-same, refusal-same, check-decided}
 use Rattle.demands.proofs.OnlyNames.{existing, names-compared}
 use Rattle.demands.proofs.OnlyPlaces.{told, total-is, table-told, element-told, number-told, Is, start, size, Before, stands-at, set-out, tiled}
@@ -38,8 +37,8 @@ module _ (R S : Replies) (r : Demands R) (s : Demands S) where
         let e = refusal-same R S r s d img (ask.tablePlace m k) (rw layout-only) in
         place-same (R .tablePlace d img m k) (S .tablePlace d img m k) e (λ f.
         let at = told (R .tablePlace d img m k) f in
-        let seated = r .third d img .tablesStand _ (table-told R r d img m k f .layout) m k _ _ .0 at in
-        at ∙ sym (s .third d img .tablesStand _ (table-told S s d img m k (sym e ∙ f) .layout) m k _ _ .1 seated))
+        let seated = r .third d img .tablesStand _ (table-told R r d img m k f) m k _ _ .0 at in
+        at ∙ sym (s .third d img .tablesStand _ (table-told S s d img m k (sym e ∙ f)) m k _ _ .1 seated))
 
     pub table-part-only : (m k : ℕ) → R .tablePart d img m k ≡ S .tablePart d img m k
     table-part-only m k = go (R .tablePlace d img m k) refl
@@ -58,12 +57,11 @@ module _ (R S : Replies) (r : Demands R) (s : Demands S) where
           place-same (R .elementPlace d img q) (S .elementPlace d img q) e (λ f.
           let a = element-told R r d img q f in
           let b = element-told S s d img q (sym e ∙ f) .layout in
-          let v = numbersIn d img in
           let same =
-          stands-there (Is R r d img) (Before R r d img) SameName (size R r d img) (start S s d img) (start R r d img) _
-          (λ q t h k. names-compared d q t (existing d v q h) (existing d v t k))
+          stands-there (Is d img) (Before d img) SameName (size d img) (start S s d img) (start R r d img) _
+          (λ q t h k. names-compared d q t (existing d _ q h) (existing d _ t k))
           (set-out S s d img b) (tiled S s d img b (counted d img)) (set-out R r d img (a .layout)) q (a .named) in
-          stands-at R r d img (a .layout) q (a .named) ∙ ap (λ p. octetsAt p (size R r d img q)) same ∙ sym (stands-at S s d img b q (a .named)))
+          stands-at R r d img (a .layout) q (a .named) ∙ ap (λ p. octetsAt p (size d img q)) same ∙ sym (stands-at S s d img b q (a .named)))
 
       pub element-part-only : (q : ElementName) → R .elementPart d img q ≡ S .elementPart d img q
       element-part-only q = go (R .elementPlace d img q) refl

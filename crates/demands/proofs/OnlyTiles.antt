@@ -11,6 +11,9 @@ pub data Compared (Before Same After : Type 0) : Type 0 where
   same : Same → Compared Before Same After
   later : After → Compared Before Same After
 
+abbrev pub Comparison : {A : Type 0} (Before Same : A → A → Type 0) → A → A → Type 0
+Comparison Before Same q r = Compared (Before q r) (Same q r) (Before r q)
+
 -- PIECES SET OUT, each as long as `size` says, one after another and up to `total`
 pub record SetOut {A : Type 0} (Piece : A → Type 0) (Before : A → A → Type 0) (size start : A → ℕ) (total : ℕ) : Type 0 where
   pub order : (q r : A) → Piece q → Piece r → Before q r → start q + size q ≤ start r
@@ -30,7 +33,7 @@ pub record Tiled {A : Type 0} (Piece : A → Type 0) (Same : A → A → Type 0)
   pub long : (q r : A) → Piece q → Piece r → Same q r → size q ≡ size r
 
 module _ {A : Type 0} (Piece : A → Type 0) (Before Same : A → A → Type 0) (size f g : A → ℕ) (total : ℕ)
-    (compare : (q r : A) → Piece q → Piece r → Compared (Before q r) (Same q r) (Before r q))
+    (compare : (q r : A) → Piece q → Piece r → Comparison Before Same q r)
     (F : SetOut Piece Before size f total) (tiles : Tiled Piece Same size f total) (G : SetOut Piece Before size g total) where
   -- none stands before its place: the piece whose octet it begins at is earlier, and stands before its place too
   not-before : (n : ℕ) (q : A) → Piece q → f q ≤ n → g q < f q → ⊥
@@ -39,7 +42,7 @@ module _ {A : Type 0} (Piece : A → Type 0) (Before Same : A → A → Type 0) 
       let o = tiles .over (g q) (omega (arith, F .ends q h)) in
       go o (λ r k. not-before n r k) (compare (o .name) q (o .is) h)
     where
-      go : (o : Over Piece size f (g q)) → ((r : A) → Piece r → f r ≤ n → g r < f r → ⊥) → Compared (Before (o .name) q) (Same (o .name) q) (Before q (o .name)) → ⊥
+      go : (o : Over Piece size f (g q)) → ((r : A) → Piece r → f r ≤ n → g r < f r → ⊥) → Comparison Before Same (o .name) q → ⊥
       go o rec (earlier e) = rec (o .name) (o .is) (omega (arith, o .from)) (omega (arith, o .to, G .order (o .name) q (o .is) h e))
       go o rec (same e) = omega (arith, o .from, tiles .once (o .name) q (o .is) h e)
       go o rec (later e) = omega (arith, o .from, F .order q (o .name) h (o .is) e)
@@ -51,7 +54,7 @@ module _ {A : Type 0} (Piece : A → Type 0) (Before Same : A → A → Type 0) 
       let o = tiles .over (g q + size q - 1) (omega (arith, G .ends q h)) in
       go o (λ r k. not-after n r k) (compare (o .name) q (o .is) h)
     where
-      go : (o : Over Piece size f (g q + size q - 1)) → ((r : A) → Piece r → total ≤ f r + size r + n → f r < g r → ⊥) → Compared (Before (o .name) q) (Same (o .name) q) (Before q (o .name)) → ⊥
+      go : (o : Over Piece size f (g q + size q - 1)) → ((r : A) → Piece r → total ≤ f r + size r + n → f r < g r → ⊥) → Comparison Before Same (o .name) q → ⊥
       go o rec (earlier e) = omega (arith, o .to, F .order (o .name) q (o .is) h e)
       go o rec (same e) = omega (arith, o .to, tiles .once (o .name) q (o .is) h e, tiles .long (o .name) q (o .is) h e)
       go o rec (later e) = rec (o .name) (o .is) (omega (arith, o .to)) (omega (arith, o .from, G .order q (o .name) h (o .is) e))
