@@ -121,7 +121,7 @@ module _ (o : ℕ) (c : Controls) (t : List ℕ) (w : Moment) (q : Quantity) whe
       rw (a .date, a .time, season-says day dates .chosen (h .from) (h .season) .1 (h .chosen), lt-leb _ _ (h .row), p .0, p .1, h .entry, a .unarmed)
 
   -- so the reply is one of these
-  data OneOf : Type 0 where
+  pub data OneOf : Type 0 where
     refusal : (r : Refusal) → reply ≡ Reply.Refused r → OneOf
     none : (s : Holds) → switchOf s ≡ Nothing → reply ≡ Reply.NoneYet → OneOf
     tier : (s : Holds) (v x : ℕ) → switchOf s ≡ Entry v x → reply ≡ Reply.Tier x → OneOf
@@ -134,6 +134,10 @@ module _ (o : ℕ) (c : Controls) (t : List ℕ) (w : Moment) (q : Quantity) whe
       go : (y : Chosen) → switchOf s ≡ y → OneOf
       go Nothing e = none s e (by-switch s ∙ rw e)
       go (Entry v x) e = tier s v x e (by-switch s ∙ rw e)
+
+  -- whichever
+  pub answer : OneOf
+  answer = one-of decided
 
   tier-only : (x : ℕ) → reply ≡ Reply.Tier x → OneOf → TierIs o c t Verdict.Passed w q x
   tier-only x e (refusal r f) = clash (cc)
@@ -149,8 +153,8 @@ module _ (o : ℕ) (c : Controls) (t : List ℕ) (w : Moment) (q : Quantity) whe
   unfolding tierFrom
   tier-told =
       record {
-        tier = λ x. (λ e. tier-only x e (one-of decided), λ h. by-switch (h .scheduled) ∙ rw (says (h .scheduled) .chosen (h .time) x .1 (h .switch)));
-        none = (λ e. none-only e (one-of decided), λ h. by-switch (h .scheduled) ∙ rw (says (h .scheduled) .none .1 (h .none)));
+        tier = λ x. (λ e. tier-only x e answer, λ h. by-switch (h .scheduled) ∙ rw (says (h .scheduled) .chosen (h .time) x .1 (h .switch)));
+        none = (λ e. none-only e answer, λ h. by-switch (h .scheduled) ∙ rw (says (h .scheduled) .none .1 (h .none)));
       }
 
 -- OUR REPLIES: a calendar is found in the octets of the two tables, or every reply is the refusal

@@ -18,6 +18,17 @@ pub mod Made
 pub mod Names
 pub mod Naming
 pub mod Octets
+pub mod Only
+pub mod OnlyCalendar
+pub mod OnlyFirst
+pub mod OnlyImages
+pub mod OnlyNames
+pub mod OnlyOctets
+pub mod OnlyOrder
+pub mod OnlyPlaces
+pub mod OnlyReads
+pub mod OnlyTiles
+pub mod OnlyWrites
 pub mod Outcomes
 pub mod Pieces
 pub mod RangeWrites

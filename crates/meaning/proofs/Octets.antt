@@ -30,7 +30,7 @@ most-after (x ∷ xs) y =
     rw (e, pow-suc 256 (length xs), most-after xs y, m) (omega arith)
 
 -- octets in the other order make the same number in that order
-most-reverse : (xs : List ℕ) → mostFirst (reverse xs) ≡ leastFirst xs
+pub most-reverse : (xs : List ℕ) → mostFirst (reverse xs) ≡ leastFirst xs
 unfolding mostFirst leastFirst
 most-reverse [] = refl
 most-reverse (x ∷ xs) = rw (reverse-cons x xs, most-after (reverse xs) x, most-reverse xs) (omega arith)
