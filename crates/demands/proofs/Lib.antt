@@ -1,3 +1,4 @@
+pub mod Wrong
 pub mod Allowed
 pub mod Around
 pub mod Calendar

@@ -1,0 +1,160 @@
+-- The wrong programs of specs/Wrong.antt break their clauses: what a clause says of our replies doesn't mention whose they are, so it says it of theirs. Assumes nothing.
+use Prim.Native.Nat.{ℕ, _<_, _≤_}
+use mathlib.Core.Path.{_≡_, refl, sym, _∙_, ap, subst}
+use mathlib.Core.Bool.{Bool, true, false, true≢false}
+use mathlib.Core.List.{List, [], _∷_}
+use lib.ListN.{length}
+use native.Mathlib.Omega.{arith}
+use Rattle.meaning.specs.Basics.{part}
+use Rattle.meaning.specs.declared.ElementName.{ElementName}
+use Rattle.meaning.specs.declared.Place.{Place}
+use Rattle.meaning.specs.declared.Quantity.{Quantity}
+use Rattle.meaning.specs.declared.Reply.{Reply}
+use Rattle.meaning.specs.declared.Verdict.{Verdict}
+use Rattle.meaning.specs.Description.{checkReply, fieldsAt, isUint, isDimension}
+use Rattle.meaning.specs.Examples.{D, D-writable, first, second, at, offset, clock, clock-image, moment}
+use Rattle.meaning.specs.Layout.{numberAt}
+use Rattle.meaning.specs.Refusals.{layoutReply, elementPlaceReply}
+use Rattle.meaning.specs.Calendar.{tierReply, matrixVerdict}
+use Rattle.meaning.proofs.Computing.{computing}
+use Rattle.demands.specs.Demand3.{Passed, TotalExactly, AllInside, ElementsStand, lengthIn, Holds}
+use Rattle.demands.specs.Replies.{Replies, ours, octetsAt, alone, startOf, lengthOf}
+use Rattle.demands.specs.Walk.{numbersIn, exists}
+use Rattle.demands.specs.Wrong.{TotalsOfD, WrongPrograms}
+use Rattle.demands.proofs.Calendar.{tier-says}
+use Rattle.demands.proofs.Demand3.{demand-3}
+use Rattle.demands.proofs.Names.{cause}
+use Rattle.demands.proofs.OnlyFirst.{clash}
+
+-- OUR REPLIES, COMPUTED
+D-passed : checkReply D ≡ Verdict.Passed
+unfolding computing
+D-passed = refl
+
+first-total : layoutReply D first ≡ Reply.Total 8
+unfolding computing
+first-total = refl
+
+second-total : layoutReply D second ≡ Reply.Total 6
+unfolding computing
+second-total = refl
+
+-- six octets of zero, of which only the first two are a table's
+abbrev zeros : List ℕ
+zeros = 0 ∷ 0 ∷ 0 ∷ 0 ∷ 0 ∷ 0 ∷ []
+
+zeros-total : layoutReply D zeros ≡ Reply.Total 2
+unfolding computing
+zeros-total = refl
+
+block-there : elementPlaceReply D first (alone 5) ≡ octetsAt 2 2
+unfolding computing
+block-there = refl
+
+number-there : elementPlaceReply D first (at 7 0) ≡ octetsAt 4 2
+unfolding computing
+number-there = refl
+
+half-past : tierReply (clock 12) clock-image (moment 2024 3 5 7 30) Quantity.Summations ≡ Reply.Tier 2
+unfolding computing
+half-past = refl
+
+clock-had : matrixVerdict (clock 12) clock-image ≡ Verdict.Passed
+unfolding computing
+clock-had = refl
+
+-- what isn't written reads as it was
+unwritten : part (part first 2 6) 0 2 ≡ 1 ∷ 2 ∷ [] → ⊥
+unfolding part
+unwritten e = let z : _≡_ {A = ℕ} 0xAA 1 = cc in omega arith
+
+unwritten-octets : part first 2 2 ≡ 1 ∷ 2 ∷ [] → ⊥
+unfolding part
+unwritten-octets e = let z : _≡_ {A = ℕ} 0xAA 1 = cc in omega arith
+
+unwritten-number : numberAt first 4 2 ≡ 0x1234
+unfolding computing
+unwritten-number = refl
+
+integer : isUint (fieldsAt D 7) ≡ true
+unfolding computing
+integer = refl
+
+dimension : isDimension (fieldsAt D-writable 2) ≡ true
+unfolding computing
+dimension = refl
+
+-- one place starts at one octet
+place-start : (p q n m : ℕ) → octetsAt p n ≡ octetsAt q m → p ≡ q
+unfolding startOf
+place-start p q n m e = ap startOf e
+
+-- D's images lay out, up to where our totals say
+laid : (img : List ℕ) (n : ℕ) → length img ≤ 65535 → layoutReply D img ≡ Reply.Total n → AllInside D img n
+laid img n l e = demand-3 D img .totalExactly (record { passes = D-passed; allowed = l }) n .0 e
+
+-- AN ELEMENT THAT STANDS SOMEWHERE is one that there is, and as long as its item says
+module _ (R : Replies) (d img : List ℕ) (total : ℕ) (stand : ElementsStand R d img total) where
+  is-there : (q : ElementName) (p n : ℕ) → R .elementPlace d img q ≡ octetsAt p n → exists d (numbersIn d img) q ≡ true
+  is-there q p n e = go (exists d (numbersIn d img) q) refl
+    where
+      go : (b : Bool) → exists d (numbersIn d img) q ≡ b → exists d (numbersIn d img) q ≡ true
+      go true h = h
+      go false h = let none = stand .none q .1 (cause d (numbersIn d img) q h) in clash (cc)
+
+  as-long : (q : ElementName) (p n : ℕ) → R .elementPlace d img q ≡ octetsAt p n → n ≡ lengthIn d (numbersIn d img) (q .item)
+  unfolding lengthOf
+  as-long q p n e = let t = stand .there q (is-there q p n e) in ap lengthOf (sym e ∙ t .1)
+
+-- D's elements stand, by our replies
+D-stands : ElementsStand ours D first 8
+D-stands = demand-3 D first .elementsStand 8 first-total
+
+number-is : exists D (numbersIn D first) (at 7 0) ≡ true
+number-is = is-there ours D first 8 D-stands (at 7 0) 4 2 number-there
+
+module _ (R : Replies) where
+  totals : TotalsOfD R → (img : List ℕ) (n : ℕ) → length img ≤ 65535 → layoutReply D img ≡ Reply.Total n → R .layout D img ≡ Reply.Total n
+  totals t img n l e = t .exactly img (record { passes = t .passes; allowed = l }) n .1 (laid img n l e)
+
+  pub wrong-programs : WrongPrograms R
+  wrong-programs =
+      record {
+        saysNo = λ w c. w .no D (c .1 (demand-3 D first .passedExactly .0 D-passed));
+        oneLayout = λ w t.
+            let a = totals t first 8 (omega arith) first-total in
+            let b = totals t second 6 (omega arith) second-total in
+            let same = w .same D first second in
+            let z : _≡_ {A = ℕ} 8 6 = cc in omega arith;
+        notWalked = λ w t.
+            let a = totals t second 6 (omega arith) second-total in
+            let b = totals t zeros 2 (omega arith) zeros-total in
+            let c = w .told D second in
+            let e = w .told D zeros in
+            let z : _≡_ {A = ℕ} 6 2 = cc in omega arith;
+        writesNoRange = λ w yes-said place reads writes.
+            unwritten (subst (λ (xs : List ℕ). part xs 0 2 ≡ 1 ∷ 2 ∷ []) (reads .table 0 5 2 6 place)
+            (subst (λ (img : List ℕ). part (R .tablePart D img 0 5) 0 2 ≡ 1 ∷ 2 ∷ []) (w .range D first 0 5 (offset 0) (1 ∷ 2 ∷ [])) (writes .readBack yes-said)));
+        writesNoOctets = λ w yes-said place reads writes.
+            unwritten-octets (subst (λ (xs : List ℕ). xs ≡ 1 ∷ 2 ∷ []) (reads .element (alone 5) 2 2 place)
+            (subst (λ (img : List ℕ). R .elementPart D img (alone 5) ≡ 1 ∷ 2 ∷ []) (w .octets D first (alone 5) (1 ∷ 2 ∷ [])) (writes .readBack yes-said)));
+        writesNoNumber = λ w yes-said place reads writes.
+            let back = subst (λ (img : List ℕ). R .elementNumber D img (at 7 0) ≡ Reply.Number 1) (w .number D first (at 7 0) 1) (writes .readBack yes-said) in
+            let told = reads .number (at 7 0) 4 2 place integer in
+            let z : _≡_ {A = ℕ} 0x1234 1 = cc (back, told, unwritten-number) in omega arith;
+        padded = λ w stand. let t = stand .there (at 7 0) number-is in let none = w .rest (at 7 0) (omega arith) in clash (cc (t .1, none));
+        stretched = λ w stand.
+            let long = as-long R D first 8 stand (alone 5) 2 6 (w .place) in
+            let ours-long = as-long ours D first 8 D-stands (alone 5) 2 2 block-there in
+            omega (arith, long, ours-long);
+        alwaysEleven = λ w stand. let t = stand .there (at 7 0) number-is in let none = w .none D first (at 7 0) in clash (cc (t .1, none));
+        alwaysZero = λ w c.
+            let is = tier-says (clock 12) clock-image (moment 2024 3 5 7 30) Quantity.Summations .tier 2 .0 half-past in
+            let told = rw (c .table51, c .table54, c .had, ← clock-had) at (c .tier (moment 2024 3 5 7 30) Quantity.Summations) in
+            let zero = w .zero (clock 12) clock-image (moment 2024 3 5 7 30) Quantity.Summations 2 (told .tier 2 .1 is) in
+            omega arith;
+        writesDimensions = λ w place there writes.
+            let good = writes .accepted .0 (w .accepted) in
+            let start : good .start ≡ 0 = place-start (good .start) 0 (good .size) 2 (sym (good .exists) ∙ place) in
+            true≢false (sym dimension ∙ good .free 1 (omega (arith, start)) (omega (arith, start)) (alone 2) (record { start = 1; size = 1; reply = there; from = omega arith; to = omega arith }));
+      }

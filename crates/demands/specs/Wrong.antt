@@ -1,0 +1,94 @@
+-- WRONG PROGRAMS, each with the clause that it breaks: those that document 01 lists where it says how full a statement it expects, and some more. A wrong program is any family of
+-- replies that does what is said of it, on whatever description or image; the clause that refutes it is said of the example D and its first image, with what the clause
+-- leans on. proofs/Wrong.antt proves each. Assumes nothing.
+use Prim.Native.Nat.{ℕ, _<_}
+use mathlib.Core.Path.{_≡_}
+use mathlib.Core.List.{List, [], _∷_}
+use lib.ListN.{length}
+use Rattle.offsets.specs.declared.TableOffset.{TableOffset}
+use Rattle.meaning.specs.declared.ElementName.{ElementName}
+use Rattle.meaning.specs.declared.Moment.{Moment}
+use Rattle.meaning.specs.declared.Place.{Place}
+use Rattle.meaning.specs.declared.Quantity.{Quantity}
+use Rattle.meaning.specs.declared.Reply.{Reply}
+use Rattle.meaning.specs.declared.Verdict.{Verdict}
+use Rattle.meaning.specs.Examples.{D, D-writable, first, at, offset, clock, clock-image}
+use Rattle.meaning.specs.Numbers.{noElement}
+use Rattle.meaning.specs.Layout.{dataOrder}
+use Rattle.meaning.specs.Refusals.{tablePartReply}
+use Rattle.demands.specs.Calendar.{TierSays}
+use Rattle.demands.specs.Demand2.{Reads, RangeWrites, OctetsWrites, NumberWrites}
+use Rattle.demands.specs.Demand3.{PassedExactly, Passed, TotalExactly, ElementsStand}
+use Rattle.demands.specs.Replies.{Replies, octetsAt, alone}
+
+module _ (R : Replies) where
+  -- D is passed, and then the clause on totals holds over every image
+  pub record TotalsOfD : Type 0 where
+    pub passes : R .check D ≡ Verdict.Passed
+    pub exactly : (img : List ℕ) → Passed R D img → TotalExactly R D img
+
+  -- 1. A TEST THAT SAYS NO TO EVERYTHING breaks "a description is passed exactly when it meets the rules"
+  pub record SaysNo : Type 0 where
+    pub no : (d : List ℕ) → R .check d ≡ Verdict.Passed → ⊥
+
+  -- 2. ONE LAYOUT FOR ALL IMAGES breaks "the total is the end of the last piece"
+  pub record OneLayout : Type 0 where
+    pub same : (d img later : List ℕ) → R .layout d img ≡ R .layout d later
+
+  -- 3. A TOTAL NOT WALKED, told by the image's length, breaks the same
+  pub record NotWalked : Type 0 where
+    pub total : (d : List ℕ) → ℕ → Reply
+    pub told : (d img : List ℕ) → R .layout d img ≡ total d (length img)
+
+  -- 4. A WRITE THAT DOES NOTHING, and says that it was accepted, breaks "afterwards reading that place gives what was written"
+  pub record NeverWrites : Type 0 where
+    pub range : (d img : List ℕ) (m k : ℕ) (o : TableOffset) (new : List ℕ) → R .rangeImage d img m k o new ≡ img
+    pub octets : (d img : List ℕ) (q : ElementName) (new : List ℕ) → R .octetsImage d img q new ≡ img
+    pub number : (d img : List ℕ) (q : ElementName) (x : ℕ) → R .numberImage d img q x ≡ img
+
+  -- 5. THE FIRST TABLE LAID AND THE REST PADDED, so that no item after the first table's has an element, breaks "each name that there is has an element"
+  pub record Padded : Type 0 where
+    pub rest : (q : ElementName) → 2 < q .item → R .elementPlace D first q ≡ Place.Refused noElement
+
+  -- 6. AN ELEMENT STRETCHED OVER ITS NEIGHBOURS' OCTETS, here the block of Table 5 over the whole table, breaks its length
+  pub record Stretched : Type 0 where
+    pub place : R .elementPlace D first (alone 5) ≡ octetsAt 2 6
+
+  -- 7. NO SUCH ELEMENT, WHATEVER IS ASKED, breaks what 5 does
+  pub record AlwaysEleven : Type 0 where
+    pub none : (d img : List ℕ) (q : ElementName) → R .elementPlace d img q ≡ Place.Refused noElement
+
+  -- 8. A TIER THAT IS ALWAYS 0 breaks "tier x is that of the latest switch"
+  pub record AlwaysZero : Type 0 where
+    pub zero : (d img : List ℕ) (w : Moment) (q : Quantity) (x : ℕ) → R .tier d img w q ≡ Reply.Tier x → x ≡ 0
+
+  -- the tables' octets are those of the example, and the calendar can be had
+  pub record ClockRead : Type 0 where
+    pub table51 : R .tablePart (clock 12) clock-image 0 51 ≡ tablePartReply (clock 12) clock-image 0 51
+    pub table54 : R .tablePart (clock 12) clock-image 0 54 ≡ tablePartReply (clock 12) clock-image 0 54
+    pub had : R .matrixVerdict (clock 12) clock-image ≡ Verdict.Passed
+    pub tier : (w : Moment) (q : Quantity)
+        → TierSays (dataOrder clock-image) (R .tablePart (clock 12) clock-image 0 51) (R .tablePart (clock 12) clock-image 0 54) (R .matrixVerdict (clock 12) clock-image) w q
+        (R .tier (clock 12) clock-image w q)
+
+  -- 9. A WRITE THAT ASKS ONLY WHETHER THE TABLE IS WRITABLE, here Table 00 at its dimension of item 2, breaks "no dimension octet is touched"
+  pub record WritesDimensions : Type 0 where
+    pub accepted : R .writeRange D-writable first 0 0 (offset 1) (0 ∷ []) ≡ Verdict.Passed
+
+-- ALL NINE
+pub record WrongPrograms (R : Replies) : Type 0 where
+  pub saysNo : SaysNo R → PassedExactly R D → ⊥
+  pub oneLayout : OneLayout R → TotalsOfD R → ⊥
+  pub notWalked : NotWalked R → TotalsOfD R → ⊥
+  pub writesNoRange : NeverWrites R → R .writeRange D first 0 5 (offset 0) (1 ∷ 2 ∷ []) ≡ Verdict.Passed → R .tablePlace D first 0 5 ≡ octetsAt 2 6
+      → Reads R D first → RangeWrites R D first 0 5 (offset 0) (1 ∷ 2 ∷ []) → ⊥
+  pub writesNoOctets : NeverWrites R → R .writeOctets D first (alone 5) (1 ∷ 2 ∷ []) ≡ Verdict.Passed → R .elementPlace D first (alone 5) ≡ octetsAt 2 2
+      → Reads R D first → OctetsWrites R D first (alone 5) (1 ∷ 2 ∷ []) → ⊥
+  pub writesNoNumber : NeverWrites R → R .writeNumber D first (at 7 0) 1 ≡ Verdict.Passed → R .elementPlace D first (at 7 0) ≡ octetsAt 4 2
+      → Reads R D first → NumberWrites R D first (at 7 0) 1 → ⊥
+  pub padded : Padded R → ElementsStand R D first 8 → ⊥
+  pub stretched : Stretched R → ElementsStand R D first 8 → ⊥
+  pub alwaysEleven : AlwaysEleven R → ElementsStand R D first 8 → ⊥
+  pub alwaysZero : AlwaysZero R → ClockRead R → ⊥
+  pub writesDimensions : WritesDimensions R → R .tablePlace D-writable first 0 0 ≡ octetsAt 0 2 → R .elementPlace D-writable first (alone 2) ≡ octetsAt 1 1
+      → RangeWrites R D-writable first 0 0 (offset 1) (0 ∷ []) → ⊥
