@@ -2,21 +2,18 @@
 -- Assumes nothing.
 use Prim.Native.Nat.{ℕ, zero, suc, _+_, _-_, _<_, _≤_}
 use mathlib.Core.Path.{_≡_, refl, _∙_, ap, ap₂, sym, subst}
-use mathlib.Core.Logic.{_⊎_, inl, inr}
-use mathlib.Core.Bool.{Bool, true, false, _&&_, and-eq-true-iff, true≢false, false≢true}
+use mathlib.Core.Bool.{true, false, true≢false, false≢true}
 use mathlib.Core.List.{List, [], _∷_, _++_}
 use lib.ListN.{length}
-use borrow.Author.Tests.{eqb-true, ltb-true, lt-ltb, eq-eqb}
+use borrow.Author.Tests.{eqb-true}
 use native.Mathlib.Decide.{decLt, ℕ-discrete}
 use native.Mathlib.Omega.{arith}
-use Rattle.meaning.specs.Basics.{_=?_, _<?_}
 use Rattle.meaning.specs.declared.Fields.{Fields}
 use Rattle.meaning.specs.Description.{itemCount, fieldsAt, isTable, isElement, isArray, nests, nested, count}
 use Rattle.meaning.specs.Description.{inside as enclosed}
-use Rattle.meaning.specs.Layout.{Tables, noMore, table, strayTable, bodyAt, tablesOf, treeOf, Slots, unread, Placed, Stop, fault, short, Laid, laid, stopped}
+use Rattle.meaning.specs.Layout.{bodyAt, tablesOf, treeOf, Slots, unread, Placed, fault, short, Laid, laid, stopped}
 use Rattle.meaning.specs.Layout.{Seat, Layout, laidOut, stoppedAt, before, seated, layTables, layOut, layBody}
-use Rattle.meaning.specs.Passed.{Passes, PassedLaws, endOf}
-use Rattle.meaning.proofs.Passed.{passed-laws}
+use Rattle.meaning.specs.Passed.{PassedLaws, endOf}
 use Rattle.meaning.proofs.Ranges.{fields-range, sets-none}
 use Rattle.meaning.proofs.Rules.{slot-step, slot-none}
 use Rattle.laying.specs.Every.{Every}
@@ -28,12 +25,12 @@ use Rattle.laying.proofs.Every.{every-append}
 use Rattle.laying.proofs.Nested.{Run, first-keeps, first-ends, first-body, rest-body}
 use Rattle.laying.proofs.Steps.{tables-none, tables-step}
 use Rattle.laying.proofs.Tops.{table-is, table-one, top, whole-run, fit-body}
-use Rattle.demands.specs.Walk.{arraysOf, arraysRound, allChosen, isChosen, Reached, reached, octetBefore, numbersBefore, numbersIn, runsPast, FirstPast, allBelow, hasElement, way, Earlier}
-use Rattle.demands.proofs.Around.{nestsFrom, round-from, nestsTo, to-count, from-after, from-other}
-use Rattle.demands.proofs.Naming.{Name, namesBody, namesTables, Named, Allowed, wayFrom, Names, Sorted, names-from, names-append, names-body}
+use Rattle.demands.specs.Walk.{arraysOf, allChosen, Reached, reached, octetBefore, numbersBefore, numbersIn, runsPast}
+use Rattle.demands.proofs.Around.{nestsTo, to-count, from-after, from-other}
+use Rattle.demands.proofs.Naming.{Name, namesBody, namesTables, Names, Sorted, names-from, names-append, names-body}
 use Rattle.demands.proofs.Pieces.{no-piece, no-runs, octets-grow}
-use Rattle.demands.proofs.Stripped.{nameIn, strip, strip-append}
-use Rattle.demands.proofs.Walked.{At, Open, DimensionIs, Walked, FirstIn, Walks, other-piece, walks-body}
+use Rattle.demands.proofs.Stripped.{strip, strip-append}
+use Rattle.demands.proofs.Walked.{At, DimensionIs, FirstIn, Walks, other-piece, walks-body}
 
 no-more-of : (js : List ℕ) → length js ≡ 0 → js ≡ []
 no-more-of [] e = refl

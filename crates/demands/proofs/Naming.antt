@@ -1,33 +1,33 @@
 -- The elements of a passed description's tree by name, where slots have the numbers v: in the tree's order, each is one that the items round it allow, each name that they allow is
 -- there, and those earlier in the list stand earlier by their ways. Body by body: of the items from `at` on. Assumes nothing.
 use Prim.Native.Nat.{ℕ, zero, suc, _+_, _-_, _<_, _≤_}
-use mathlib.Core.Path.{_≡_, refl, _∙_, ap, sym, subst}
-use mathlib.Core.Logic.{_⊎_, inl, inr}
-use mathlib.Core.Bool.{Bool, true, false, _&&_, _||_, and-eq-true-iff, or-true, false≢true, true≢false}
+use mathlib.Core.Path.{_≡_, refl, _∙_, ap, sym}
+use mathlib.Core.Logic.{inl, inr}
+use mathlib.Core.Bool.{Bool, true, false, and-eq-true-iff, or-true, false≢true}
 use mathlib.Core.List.{List, [], _∷_, _++_}
 use lib.ListN.{length}
 use borrow.Author.Tests.{ltb-true, lt-ltb, leb-true, le-leb, eqb-true}
 use native.Mathlib.Decide.{decLt, ℕ-discrete}
 use native.Mathlib.Omega.{arith}
-use Rattle.meaning.specs.Basics.{if_then_else_, _<?_, _≤?_}
+use Rattle.meaning.specs.Basics.{if_then_else_, _<?_}
 use Rattle.meaning.specs.declared.Fields.{Fields}
-use Rattle.meaning.specs.Description.{itemCount, fieldsAt, isTable, isElement, isArray, isChoice, nests, nested}
+use Rattle.meaning.specs.Description.{itemCount, fieldsAt, isElement, isArray, isChoice, nests, nested}
 use Rattle.meaning.specs.Layout.{Node, Body, Arms, Tables, leaf, array, choice, stray, done, more, lastArm, arm, noMore, table, strayTable, leafOctets}
-use Rattle.meaning.specs.Layout.{Branches, otherwise, branch, branchesIn, ifBranches, branchesOf, taken, bodyIn, armsOf, bodyAt, tablesOf, treeOf}
+use Rattle.meaning.specs.Layout.{Branches, otherwise, branch, branchesIn, ifBranches, branchesOf, taken, bodyIn, armsOf, bodyAt}
 use Rattle.meaning.specs.Passed.{BodiesNest, endOf}
 use Rattle.meaning.proofs.Either.{tested}
 use Rattle.meaning.proofs.Ranges.{fields-range}
 use Rattle.laying.specs.Every.{Every}
 use Rattle.laying.specs.Sizes.{Numbers, value}
-use Rattle.laying.specs.Sound.{FitBody, FitNode, FitArms, FitTables}
+use Rattle.laying.specs.Sound.{FitBody, FitNode}
 use Rattle.laying.specs.Tree.{innerAt, nodeAt}
-use Rattle.laying.proofs.Among.{Among, every-among}
+use Rattle.laying.proofs.Among.{Among}
 use Rattle.laying.proofs.Arms.{picked, takenBody, taken-fit}
 use Rattle.laying.proofs.Every.{every-map, every-append}
 use Rattle.laying.proofs.Nodes.{node-cases, choice-no-array}
 use Rattle.laying.proofs.Steps.{body-none, body-step}
-use Rattle.demands.specs.Walk.{nestsIn, arraysOf, inChosen, allChosen, allBelow, way, Earlier}
-use Rattle.demands.proofs.Around.{bodyTaken, fit-room, fit-step, nestsFrom, from-here, from-nest, from-other, from-range, from-after, from-second}
+use Rattle.demands.specs.Walk.{arraysOf, inChosen, allChosen, allBelow, way, Earlier}
+use Rattle.demands.proofs.Around.{bodyTaken, fit-room, fit-step, nestsFrom, from-here, from-nest, from-range, from-after, from-second}
 
 -- THE NAMES, each with how long its element is
 pub record Name : Type 0 where

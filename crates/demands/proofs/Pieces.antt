@@ -1,20 +1,16 @@
 -- The pieces of a passed description: what is no piece moves nothing; a slot's number, once read, stays; a piece that ends inside the image, or is the first that doesn't. Assumes
 -- nothing.
-use Prim.Native.Nat.{ℕ, zero, suc, _+_, _-_, _*_, _<_, _≤_}
-use mathlib.Core.Path.{_≡_, refl, _∙_, ap, ap₂, sym, subst}
-use mathlib.Core.Logic.{_⊎_, inl, inr}
-use mathlib.Core.Bool.{Bool, true, false, not, cond, _&&_, _||_, and-eq-true-iff, or-true, false≢true, true≢false, and-false}
-use mathlib.Core.List.{List, [], _∷_, _++_}
-use lib.Dec.{eqb}
+use Prim.Native.Nat.{ℕ, zero, suc, _+_, _<_, _≤_}
+use mathlib.Core.Path.{_≡_, refl, _∙_, ap, sym, subst}
+use mathlib.Core.Bool.{Bool, true, false, cond, and-false}
+use mathlib.Core.List.{List, [], _∷_}
 use lib.ListN.{length}
-use borrow.Author.Tests.{ltb-true, ltb-false, lt-ltb, le-ltb, leb-true, le-leb, eqb-true, eqb-false, eq-eqb, ne-eqb}
-use native.Mathlib.Decide.{decLt, ℕ-discrete}
+use borrow.Author.Tests.{ltb-true, lt-ltb, le-ltb, eq-eqb, ne-eqb}
 use native.Mathlib.Omega.{arith}
-use Rattle.meaning.specs.Basics.{if_then_else_, _=?_, _<?_, _≤?_}
-use Rattle.meaning.specs.declared.Fields.{Fields}
-use Rattle.meaning.specs.Description.{itemCount, fieldsAt, isElement, isArray, isChoice, nests, nested, refers, slotOctets}
+use Rattle.meaning.specs.Basics.{if_then_else_}
+use Rattle.meaning.specs.Description.{itemCount, fieldsAt, refers, slotOctets}
 use Rattle.meaning.specs.Layout.{numberAt, bitRange}
-use Rattle.meaning.specs.Passed.{PassedLaws, endOf}
+use Rattle.meaning.specs.Passed.{PassedLaws}
 use Rattle.meaning.proofs.Either.{tested}
 use Rattle.meaning.proofs.Nesting.{upward}
 use Rattle.meaning.proofs.Ranges.{fields-range}
@@ -23,7 +19,7 @@ use Rattle.laying.specs.Every.{Every}
 use Rattle.laying.specs.Outcomes.{setNumber}
 use Rattle.laying.specs.Sizes.{Numbers, value}
 use Rattle.laying.proofs.Every.{every-map}
-use Rattle.demands.specs.Walk.{nestsIn, nestsRound, arraysOf, inChosen, allChosen, isChosen, isNone, isPiece, octetsOf, Reached, pastItem, reached, octetBefore, numbersBefore, numbersIn, runsPast}
+use Rattle.demands.specs.Walk.{nestsRound, inChosen, allChosen, isChosen, isPiece, octetsOf, Reached, pastItem, reached, octetBefore, numbersBefore, numbersIn, runsPast}
 use Rattle.demands.proofs.Around.{from-range, round-from}
 
 -- SETTING A SLOT

@@ -5,19 +5,17 @@ use mathlib.Core.Path.{_≡_, refl, _∙_, ap, ap₂, sym, subst}
 use mathlib.Core.Bool.{Bool, true, false, _&&_, _||_, and-eq-true-iff, or-true, false≢true, and-false}
 use mathlib.Core.List.{List, [], _∷_, _++_}
 use lib.ListN.{length}
-use borrow.Author.Tests.{leb-true, leb-false, eqb-true, eq-eqb, ne-eqb, le-leb, lt-leb, lt-ltb, le-ltb, ltb-true}
+use borrow.Author.Tests.{leb-true, leb-false, eq-eqb, ne-eqb, le-leb, lt-leb, lt-ltb, le-ltb}
 use native.Mathlib.Decide.{decLt}
 use native.Mathlib.Omega.{arith}
-use Rattle.meaning.specs.Basics.{if_then_else_, _=?_, _<?_, _≤?_}
+use Rattle.meaning.specs.Basics.{if_then_else_, _<?_, _≤?_}
 use Rattle.meaning.specs.declared.Fields.{Fields}
-use Rattle.meaning.specs.declared.Inner.{Inner}
 use Rattle.meaning.specs.declared.Round.{Round}
 use Rattle.meaning.specs.Description.{itemCount, fieldsAt, isElement, isArray, isChoice, nests, nested, inside, slotOctets}
-use Rattle.meaning.specs.Layout.{Node, Body, leaf, array, choice, stray, done, more, branchesIn, ifBranches, branchesOf, taken, bodyIn, armsOf, onlyBody, bodyAt, leafOctets, numberAt}
-use Rattle.meaning.specs.Layout.{Slots, setSlot, holds, Placed, Stop, fault, short, Laid, laid, stopped, also, andThen, inImage, placed, sizeFrom, repeated, layBody, layNode, layArms}
+use Rattle.meaning.specs.Layout.{Body, branchesIn, ifBranches, branchesOf, taken, bodyIn, onlyBody, bodyAt, leafOctets, numberAt}
+use Rattle.meaning.specs.Layout.{Slots, setSlot, holds, Placed, fault, short, Laid, laid, stopped, also, andThen, inImage, placed, sizeFrom, repeated, layBody, layNode}
 use Rattle.meaning.specs.Passed.{PassedLaws, endOf}
 use Rattle.meaning.proofs.Either.{tested}
-use Rattle.meaning.proofs.Nesting.{upward}
 use Rattle.meaning.proofs.Ranges.{fields-range, sets-none}
 use Rattle.meaning.proofs.Rules.{slot-step}
 use Rattle.laying.specs.Every.{Every}
@@ -25,25 +23,25 @@ use Rattle.laying.specs.Outcomes.{setNumber}
 use Rattle.laying.specs.Rows.{Spot, bodyRow}
 use Rattle.laying.specs.Sizes.{Numbers, value, bodySize, itemSize}
 use Rattle.laying.specs.Slots.{numbersOf, Matches}
-use Rattle.laying.specs.Sound.{Known, setKnown, SoundBody, SoundNode, SoundArms, afterNode, afterBody, FitBody, FitNode}
+use Rattle.laying.specs.Sound.{Known, setKnown, SoundBody, SoundNode, afterNode, afterBody, FitNode}
 use Rattle.laying.specs.Tree.{innerAt, nodeAt}
-use Rattle.laying.proofs.Arms.{takenBody, taken-lay, taken-sound}
+use Rattle.laying.proofs.Arms.{taken-lay, taken-sound}
 use Rattle.laying.proofs.Branches.{only-run}
 use Rattle.laying.proofs.Bodies.{Same, same-next, quiet-body}
 use Rattle.laying.proofs.Every.{every-map, every-append}
 use Rattle.laying.proofs.Nested.{Run, first-ends, second-body, rest-body, still}
 use Rattle.laying.proofs.Nodes.{node-cases, choice-no-array}
 use Rattle.laying.proofs.Reaches.{numbers-set, matches-leaf}
-use Rattle.laying.proofs.Rising.{RisesBody, RisesNode, rises-at}
+use Rattle.laying.proofs.Rising.{RisesNode, rises-at}
 use Rattle.laying.proofs.Steps.{body-none, body-step}
 use Rattle.laying.proofs.Tops.{fit-node}
 use Rattle.laying.proofs.Whole.{Whole, value-is, w-array, w-body}
 use Rattle.demands.specs.Walk.{nestsRound, arraysOf, inChosen, allChosen, isChosen, isNone, isPiece, octetsOf, Reached, reached, octetBefore, numbersBefore, numbersIn, runsPast}
-use Rattle.demands.proofs.Around.{bodyTaken, nestsTo, to-nest, to-other, to-past, to-from, from-nest, nested-ends, fit-room, fit-step}
+use Rattle.demands.proofs.Around.{bodyTaken, nestsTo, to-nest, to-past, to-from, from-nest, nested-ends, fit-room}
 use Rattle.demands.proofs.Lengths.{item-octets, element-octets}
 use Rattle.demands.proofs.Naming.{Name, namesBody, namesNode, taken-names, repeatNames, choice-no-element}
 use Rattle.demands.proofs.Pieces.{set-same, no-piece, no-pieces, no-runs, piece-reached, piece-inside, piece-past, number-stays, is-chosen}
-use Rattle.demands.proofs.Stripped.{nameIn, strip, strip-append, Strips, s-repeated, s-body, Agree, value-agrees, names-agree}
+use Rattle.demands.proofs.Stripped.{strip, strip-append, Strips, s-repeated, s-body, Agree, value-agrees, names-agree}
 
 -- slot 0 is none
 set-nothing : (q n x : ℕ) (w : Numbers) → _≡_ {A = Reached} (record { octet = q + n; numbers = setNumber 0 x w }) (record { octet = q + n; numbers = w })
@@ -287,9 +285,6 @@ module _ (d img : List ℕ) (p : PassedLaws d) where
 
   -- with an IF at item a, before those of its branch
   module _ (a e : ℕ) (o : Open a e) (is : isChoice (fieldsAt d a) ≡ true) (l : a < e) (ends : endOf d a ≤ e) (room : e ≤ itemCount d) where
-    abbrev nesting : nests (fieldsAt d a) ≡ true
-    nesting = rw (is, or-true)
-
     -- round the items of its first body, or of its second, stands it too
     open-body : (b c : ℕ) → a < b → c ≤ endOf d a → ((i : ℕ) → b ≤ i → i < c → nestsTo d b i ≡ nestsTo d a i ++ a ∷ []) → ((i : ℕ) → b ≤ i → i < c → inChosen d v a i ≡ true) → Open b c
     unfolding arraysOf allChosen

@@ -8,13 +8,12 @@ use native.Mathlib.Omega.{arith}
 use Rattle.meaning.specs.declared.Round.{Round}
 use Rattle.meaning.specs.Description.{itemCount, fieldsAt, isTable, nested, count, inside}
 use Rattle.meaning.specs.Passed.{Passes, PassedLaws, endOf}
-use Rattle.meaning.specs.Layout.{Node, Body, Arms, Tables, leaf, array, choice, stray, done, more, lastArm, arm, noMore, table, strayTable, tableAt, bodyAt}
+use Rattle.meaning.specs.Layout.{Node, Body, Arms, Tables, leaf, array, choice, stray, done, more, lastArm, arm, table, tableAt, bodyAt}
 use Rattle.meaning.specs.Layout.{tablesOf, treeOf}
 use Rattle.meaning.proofs.Passed.{passed-laws}
 use Rattle.meaning.proofs.Ranges.{fields-range, sets-none}
 use Rattle.meaning.proofs.Rules.{round-none, slot-none, slot-step}
-use Rattle.laying.specs.Sound.{Known, setKnown, noneKnown, FitBody, FitNode, FitArms, FitTables, SoundBody, SoundNode, SoundArms, SoundTables, afterNode}
-use Rattle.laying.specs.Sound.{afterBody}
+use Rattle.laying.specs.Sound.{Known, setKnown, noneKnown, FitBody, FitNode, FitArms, SoundBody, SoundNode, SoundArms, SoundTables, afterNode}
 use Rattle.laying.proofs.Bodies.{Same, same-next, runs}
 use Rattle.laying.proofs.Nested.{Run, first-keeps, first-ends, first-body, rest-body}
 use Rattle.laying.proofs.Steps.{tables-none, tables-step}
@@ -80,10 +79,3 @@ mutual
   fit-arms : (κ : Known) (arms : Arms) → SoundArms κ arms → FitArms arms
   fit-arms κ (lastArm b) h = fit-body false κ b h
   fit-arms κ (arm t b arms) h = (fit-body false κ b (h .0), fit-arms κ arms (h .1))
-
--- in any table
-pub fit-tables : (κ : Known) (t : Tables) → SoundTables κ t → FitTables t
-unfolding FitTables SoundTables
-fit-tables κ noMore h = tt
-fit-tables κ (table i f b rest) h = (fit-body true κ b (h .0), fit-tables (afterBody b κ) rest (h .1))
-fit-tables κ (strayTable i) h = h
