@@ -6,6 +6,7 @@ use mathlib.Core.Bool.{Bool, true, false, cond, and-false}
 use mathlib.Core.List.{List, [], _∷_}
 use lib.ListN.{length}
 use borrow.Author.Tests.{ltb-true, lt-ltb, le-ltb, eq-eqb, ne-eqb}
+use native.Mathlib.Decide.{decLt}
 use native.Mathlib.Omega.{arith}
 use Rattle.meaning.specs.Basics.{if_then_else_}
 use Rattle.meaning.specs.Description.{itemCount, fieldsAt, refers, slotOctets}
@@ -46,6 +47,21 @@ module _ (d img : List ℕ) where
   pub no-runs : (i : ℕ) → isPiece d (numbersBefore d img i) i ≡ false → runsPast d img i ≡ false
   unfolding runsPast
   no-runs i e = rw e
+
+  -- NO PIECE FROM ITEM a UP TO e RUNS PAST the image's end
+  abbrev pub Inside : (a e : ℕ) → Type 0
+  Inside a e = (i : ℕ) → a ≤ i → i < e → runsPast d img i ≡ false
+
+  pub inside-one : (a : ℕ) → runsPast d img a ≡ false → Inside a (a + 1)
+  inside-one a h i l m = let e : i ≡ a = omega arith in rw e h
+
+  -- up to b, and from there on
+  pub inside-both : (a b e : ℕ) → Inside a b → Inside b e → Inside a e
+  inside-both a b e h k i l m = go (decLt i b)
+    where
+      go : Dec (i < b) → runsPast d img i ≡ false
+      go (yes y) = h i l y
+      go (no y) = k i (omega arith) m
 
   pub no-pieces : (a b : ℕ) → a ≤ b → ((i : ℕ) → a ≤ i → i < b → isPiece d (numbersBefore d img i) i ≡ false) → reached d img b ≡ reached d img a
   no-pieces a b l h =
