@@ -1,12 +1,11 @@
 -- A passed description is walked table by table: each table stands from the end of the pieces before it to the end of its own, and the elements laid out are those of its names.
 -- Assumes nothing.
 use Prim.Native.Nat.{ℕ, zero, suc, _+_, _-_, _<_, _≤_}
-use mathlib.Core.Path.{_≡_, refl, _∙_, ap, ap₂, sym, subst}
-use mathlib.Core.Bool.{true, false, true≢false, false≢true}
+use mathlib.Core.Path.{_≡_, refl, _∙_, ap, ap₂, sym}
+use mathlib.Core.Bool.{true, false, true≢false}
 use mathlib.Core.List.{List, [], _∷_, _++_}
 use lib.ListN.{length}
 use borrow.Author.Tests.{eqb-true}
-use native.Mathlib.Decide.{decLt, ℕ-discrete}
 use native.Mathlib.Omega.{arith}
 use Rattle.meaning.specs.declared.Fields.{Fields}
 use Rattle.meaning.specs.Description.{itemCount, fieldsAt, isTable, isElement, isArray, nests, nested, count}
@@ -25,12 +24,12 @@ use Rattle.laying.proofs.Every.{every-append}
 use Rattle.laying.proofs.Nested.{Run, first-keeps, first-ends, first-body, rest-body}
 use Rattle.laying.proofs.Steps.{tables-none, tables-step}
 use Rattle.laying.proofs.Tops.{table-is, table-one, top, whole-run, fit-body}
-use Rattle.demands.specs.Walk.{arraysOf, allChosen, Reached, reached, octetBefore, numbersBefore, numbersIn, runsPast}
+use Rattle.demands.specs.Walk.{arraysOf, allChosen, Reached, reached, octetBefore, numbersBefore, numbersIn}
 use Rattle.demands.proofs.Around.{nestsTo, to-count, from-after, from-other}
-use Rattle.demands.proofs.Naming.{Name, namesBody, namesTables, Names, Sorted, names-from, names-append, names-body}
-use Rattle.demands.proofs.Pieces.{no-piece, no-runs, octets-grow}
+use Rattle.demands.proofs.Naming.{element-after, Name, namesBody, namesTables, Names, Sorted, names-from, names-append, names-body}
+use Rattle.demands.proofs.Pieces.{no-piece, no-runs, Inside, inside-one, inside-both, octets-grow}
 use Rattle.demands.proofs.Stripped.{strip, strip-append}
-use Rattle.demands.proofs.Walked.{At, DimensionIs, FirstIn, Walks, other-piece, walks-body}
+use Rattle.demands.proofs.Walked.{At, DimensionIs, FirstIn, Walks, first-before, first-after, walks-before, other-piece, walks-body}
 
 no-more-of : (js : List ℕ) → length js ≡ 0 → js ≡ []
 no-more-of [] e = refl
@@ -43,7 +42,7 @@ module _ (d img : List ℕ) (p : PassedLaws d) where
   -- TABLES from item a on, with their elements
   pub record TablesWalked (a : ℕ) (ns : List Name) (ts : List Seat) (es : List Placed) (s : Slots) (n : ℕ) : Type 0 where
     pub here : At d img p (itemCount d) s n
-    pub inside : (i : ℕ) → a ≤ i → i < itemCount d → runsPast d img i ≡ false
+    pub inside : Inside d img a (itemCount d)
     pub starts : Every (λ t. octetBefore d img (t .item) ≡ t .start) ts
     pub ends : Every (λ t. octetBefore d img (endOf d (t .item)) ≡ t .start + t .size) ts
     pub names : strip es ≡ ns
@@ -55,43 +54,28 @@ module _ (d img : List ℕ) (p : PassedLaws d) where
   WalksAll a ns (stoppedAt es (fault x i)) = ⊥
 
   -- a table from item a up to b, then others
-  module _ (a b : ℕ) (f : Fields) (q : ℕ) (l : a < b) (end : endOf d a ≡ b) (room : b ≤ itemCount d) (at : octetBefore d img a ≡ q) (first : runsPast d img a ≡ false) where
-    joined : (P : ℕ → Type 0) (e : ℕ) → P a → ((i : ℕ) → a + 1 ≤ i → i < b → P i) → ((i : ℕ) → b ≤ i → i < e → P i) → (i : ℕ) → a ≤ i → i < e → P i
-    joined P e x g h i m n = go (decLt a i) (decLt i b)
-      where
-        go : Dec (a < i) → Dec (i < b) → P i
-        go (no y) z = let k : a ≡ i = omega arith in subst P k x
-        go (yes y) (yes z) = g i (omega arith) z
-        go (yes y) (no z) = h i (omega arith) n
+  walks-seated : (a b : ℕ) (f : Fields) (q : ℕ) → a < b → endOf d a ≡ b → b ≤ itemCount d → octetBefore d img a ≡ q → (κ : Known) (ns ms : List Name) (o : Laid) (next : Slots → ℕ → Layout)
+      → Walks d img p a b κ ns o → ((t : Slots) (x : ℕ) → At d img p b t x → Matches t κ → WalksAll b ms (next t x)) → WalksAll a (ns ++ ms) (seated a f q o next)
+  unfolding seated Every
+  walks-seated a b f q l end room at κ ns ms (laid ps t x) next h k = go (next t x) (k t x (h .here) (h .matches))
+    where
+      x-is : octetBefore d img b ≡ x
+      x-is = ap (λ (r : Reached). r .octet) (h .here)
 
-    walks-seated : (κ : Known) (ns ms : List Name) (o : Laid) (next : Slots → ℕ → Layout) → Walks d img p (a + 1) b κ ns o
-        → ((t : Slots) (x : ℕ) → At d img p b t x → Matches t κ → WalksAll b ms (next t x)) → WalksAll a (ns ++ ms) (seated a f q o next)
-    unfolding seated Every
-    walks-seated κ ns ms (laid ps t x) next h k = go (next t x) (k t x (h .here) (h .matches))
-      where
-        x-is : octetBefore d img b ≡ x
-        x-is = ap (λ (r : Reached). r .octet) (h .here)
-
-        go : (o : Layout) → WalksAll b ms o → WalksAll a (ns ++ ms) (before (record { item = a; manufacturer = f .manufacturer; number = f .number; start = q; size = x - q }) ps o)
-        go (laidOut ts qs u n) w =
-            record {
-              here = w .here;
-              inside = joined (λ i. runsPast d img i ≡ false) (itemCount d) first (h .inside) (w .inside);
-              starts = (at, w .starts);
-              ends = (rw end (omega (arith, x-is, at, octets-grow d img a b (omega arith))), w .ends);
-              names = strip-append ps qs ∙ ap₂ _++_ (h .names) (w .names);
-              dimensions = every-append (DimensionIs d img p) ps qs (h .dimensions) (w .dimensions);
-            }
-        go (stoppedAt qs (short i y)) w =
-            record { low = omega (arith, w .low); high = w .high; at = w .at; past = w .past; before = joined (λ i. runsPast d img i ≡ false) i first (h .inside) (w .before) }
-        go (stoppedAt qs (fault y i)) w = w
-    walks-seated κ ns ms (stopped ps (short i x)) next h k =
-        record { low = omega (arith, h .low); high = omega (arith, h .high); at = h .at; past = h .past; before = λ j m n. joined-short j m n (decLt a j) }
-      where
-        joined-short : (j : ℕ) → a ≤ j → j < i → Dec (a < j) → runsPast d img j ≡ false
-        joined-short j m n (yes y) = h .before j (omega arith) n
-        joined-short j m n (no y) = let z : j ≡ a = omega arith in rw z first
-    walks-seated κ ns ms (stopped ps (fault x i)) next h k = h
+      go : (o : Layout) → WalksAll b ms o → WalksAll a (ns ++ ms) (before (record { item = a; manufacturer = f .manufacturer; number = f .number; start = q; size = x - q }) ps o)
+      go (laidOut ts qs u n) w =
+          record {
+            here = w .here;
+            inside = inside-both d img a b (itemCount d) (h .inside) (w .inside);
+            starts = (at, w .starts);
+            ends = (rw end (omega (arith, x-is, at, octets-grow d img a b (omega arith))), w .ends);
+            names = strip-append ps qs ∙ ap₂ _++_ (h .names) (w .names);
+            dimensions = every-append (DimensionIs d img p) ps qs (h .dimensions) (w .dimensions);
+          }
+      go (stoppedAt qs (short i y)) w = first-before d img p a b (itemCount d) i y (omega arith) (h .inside) w
+      go (stoppedAt qs (fault y i)) w = w
+  walks-seated a b f q l end room at κ ns ms (stopped ps (short i x)) next h k = first-after d img p a b (itemCount d) i x room h
+  walks-seated a b f q l end room at κ ns ms (stopped ps (fault x i)) next h k = h
 
   -- A TABLE at item a of the top level
   record TableAt (a : ℕ) (κ : Known) : Type 0 where
@@ -145,11 +129,12 @@ module _ (d img : List ℕ) (p : PassedLaws d) where
       let none = other-piece d img p (numbersBefore d img a) a (t .element) (t .array) in
       let there : a + 1 + nested f ≡ endOf d a = omega arith in
       rw (tables-step d a n, there, table-is d a n (tablesOf d (n - nested f) 0 (endOf d a)) (t .is) (omega arith))
-      (walks-seated a (endOf d a) f q (omega arith) refl ends (ap (λ (r : Reached). r .octet) here) (no-runs d img a none)
+      (walks-seated a (endOf d a) f q (omega arith) refl ends (ap (λ (r : Reached). r .octet) here)
       (afterBody (bodyAt 4 d (a + 1) (f .first)) κ) (namesBody (bodyAt 4 d (a + 1) (f .first)) v) _ (layBody (bodyAt 4 d (a + 1) (f .first)) img false s q)
       (λ t y. layTables (tablesOf d (n - nested f) 0 (endOf d a)) img t y)
+      (walks-before d img p a (a + 1) (endOf d a) _ _ (layBody (bodyAt 4 d (a + 1) (f .first)) img false s q) (inside-one d img a (no-runs d img a none)) (omega arith)
       (rw end at (walks-body d img p 4 (omega arith) (a + 1) (f .first) _ true κ s q (t .body) (t .sound) (t .next) m (no-piece d img a none ∙ here)
-      (λ i y z. let empty = no-more-of (nestsTo d (a + 1) i) (to-count d (a + 1) i (omega arith) ∙ rw (t .body .held i y z, t .flat)) in rw empty (refl, refl))))
+      (λ i y z. let empty = no-more-of (nestsTo d (a + 1) i) (to-count d (a + 1) i (omega arith) ∙ rw (t .body .held i y z, t .flat)) in rw empty (refl, refl)))))
       (λ t y at matches. rest t y matches at))
 
   -- the tables among the last n items, fewer than m
@@ -186,11 +171,7 @@ module _ (d img : List ℕ) (p : PassedLaws d) where
       (names-append d v a (endOf d a) (itemCount d) (namesBody (bodyAt 4 d (a + 1) (f .first)) v) (namesTables (tablesOf d (n - nested f) 0 (endOf d a)) v) (omega arith) ends
       (λ i x y. from-after d (p .nest) a i ends x)
       (names-from d v a (a + 1) (endOf d a) (namesBody (bodyAt 4 d (a + 1) (f .first)) v) (omega arith) (λ i x y. from-other d a i (t .flat) (omega arith))
-      (λ i x y element. other i x element (ℕ-discrete i a)) body) rest)
-    where
-      other : (i : ℕ) → a ≤ i → isElement (fieldsAt d i) ≡ true → Dec (i ≡ a) → a + 1 ≤ i
-      other i x element (yes e) = absurd (false≢true (sym (t .element) ∙ rw e at element))
-      other i x element (no e) = omega arith
+      (λ i x y element. element-after d a i (t .element) x element) body) rest)
 
   names-tables : (m a n : ℕ) (κ : Known) → n < m → a + n ≡ itemCount d → Run d a (itemCount d) (top d) → Same d κ a → Names d v a (itemCount d) (namesTables (tablesOf d n 0 a) v)
   unfolding namesTables Every Sorted

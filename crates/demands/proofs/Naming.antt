@@ -89,6 +89,14 @@ among-right x (z ∷ xs) ys m = inr (among-right x xs ys m)
 pub choice-no-element : (f : Fields) → isChoice f ≡ true → isElement f ≡ false
 choice-no-element f is = let six = eqb-true (f .kind) 6 is in rw six
 
+-- an element from an item on that is none stands after it
+pub element-after : (d : List ℕ) (at i : ℕ) → isElement (fieldsAt d at) ≡ false → at ≤ i → isElement (fieldsAt d i) ≡ true → at + 1 ≤ i
+element-after d at i other l is = go (ℕ-discrete i at)
+  where
+    go : Dec (i ≡ at) → at + 1 ≤ i
+    go (yes e) = absurd (false≢true (sym other ∙ rw e at is))
+    go (no e) = omega arith
+
 -- WAYS
 -- the first number of a way lies from lo up to hi
 abbrev Starts : (lo hi : ℕ) → List ℕ → Type 0
@@ -172,10 +180,15 @@ module _ (d : List ℕ) (v : Numbers) where
   sorted-from : (at from e : ℕ) (ns : List Name) → ((i : ℕ) → from ≤ i → i < e → nestsFrom d at i ≡ nestsFrom d from i) → Every (Allowed from e) ns → Sorted from ns → Sorted at ns
   sorted-from at from e ns same = sorted-as at from (Allowed from e) (λ n h. rw (same (n .item) (h .low) (h .high))) ns
 
-  -- what is allowed from `from` on is allowed from `at` on
+  -- what is allowed among the items from `from` up to b is allowed among more of them, if what stands round them says so
+  allowed-as : (at from b e : ℕ) (n : Name) → at ≤ from → b ≤ e
+      → (from ≤ n .item → n .item < b → Named (nestsFrom d from (n .item)) (n .item) (n .subscripts) → Named (nestsFrom d at (n .item)) (n .item) (n .subscripts)) → Allowed from b n → Allowed at e n
+  allowed-as at from b e n l m say k =
+      record { low = omega (arith, k .low); high = omega (arith, k .high); element = k .element; named = say (k .low) (k .high) (k .named); long = k .long }
+
+  -- or if it is the same
   allowed-from : (at from e : ℕ) → at ≤ from → ((i : ℕ) → from ≤ i → i < e → nestsFrom d at i ≡ nestsFrom d from i) → (n : Name) → Allowed from e n → Allowed at e n
-  allowed-from at from e l same n k =
-      record { low = omega (arith, k .low); high = k .high; element = k .element; named = rw (same (n .item) (k .low) (k .high)) (k .named); long = k .long }
+  allowed-from at from e l same n = allowed-as at from e e n l (omega arith) (λ x y k. rw (same (n .item) x y) k)
 
   -- names from `from` on are names from `at` on
   pub names-from : (at from e : ℕ) (ns : List Name) → at ≤ from → ((i : ℕ) → from ≤ i → i < e → nestsFrom d at i ≡ nestsFrom d from i)
@@ -193,7 +206,7 @@ module _ (d : List ℕ) (v : Numbers) where
   names-append at mid e ns ms a b same h k =
       record {
         each = every-append (Allowed at e) ns ms
-            (every-map (Allowed at mid) (Allowed at e) (λ n g. record { low = g .low; high = omega (arith, g .high); element = g .element; named = g .named; long = g .long }) ns (h .each))
+            (every-map (Allowed at mid) (Allowed at e) (λ n. allowed-as at at mid e n (omega arith) b (λ x y k. k)) ns (h .each))
             (every-map (Allowed mid e) (Allowed at e) (allowed-from at mid e a same) ms (k .each));
         all = λ i xs x y element g. go i xs x y element g (decLt i mid);
         sorted = sorted-append at (Allowed at mid) (Allowed mid e) (λ n m x y. starts-earlier at mid e _ _
@@ -315,18 +328,17 @@ module _ (d : List ℕ) (v : Numbers) where
       names-array : at < e → isElement (fieldsAt d at) ≡ false → Names at e (repeatNames (value v (fieldsAt d at)) 0 ns)
       names-array l other =
           let r = repeats (value v (fieldsAt d at)) 0 (omega arith) in
-          record { each = every-map (Led 0) (Allowed at e) (λ n h. h .allowed) _ (r .each); all = λ i xs a b element h. go i xs (ℕ-discrete i at) a b element h r; sorted = r .sorted }
+          record {
+            each = every-map (Led 0) (Allowed at e) (λ n h. h .allowed) _ (r .each);
+            all = λ i xs a b element h. let l = element-after d at i other a element in first i xs l b element (rw (inside i l b) at h) r;
+            sorted = r .sorted;
+          }
         where
           -- a name without subscripts has no ARRAY round it
           first : (i : ℕ) (xs : List ℕ) → at + 1 ≤ i → i < e → isElement (fieldsAt d i) ≡ true → Named (at ∷ nestsFrom d (at + 1) i) i xs
               → Repeats (value v (fieldsAt d at)) 0 (repeatNames (value v (fieldsAt d at)) 0 ns) → HasName i xs (repeatNames (value v (fieldsAt d at)) 0 ns)
           first i [] a b element h r = absurd (no-subscripts i (h .many))
           first i (x ∷ xs) a b element h r = let k = named-over x i xs h in r .all i x xs a b element (k .1) (omega arith) (omega (arith, k .0))
-
-          go : (i : ℕ) (xs : List ℕ) → Dec (i ≡ at) → at ≤ i → i < e → isElement (fieldsAt d i) ≡ true → Named (nestsFrom d at i) i xs
-              → Repeats (value v (fieldsAt d at)) 0 (repeatNames (value v (fieldsAt d at)) 0 ns) → HasName i xs (repeatNames (value v (fieldsAt d at)) 0 ns)
-          go i xs (yes z) a b element h r = absurd (false≢true (sym other ∙ rw z at element))
-          go i xs (no z) a b element h r = first i xs (omega arith) b element (rw (inside i (omega arith) b) at h) r
 
   -- ONE ELEMENT
   names-leaf : (at : ℕ) → isElement (fieldsAt d at) ≡ true
@@ -371,15 +383,12 @@ module _ (d : List ℕ) (v : Numbers) where
     names-choice : {ns : List Name} → Names b c ns → Names at e ns
     names-choice {ns} h =
         record {
-          each = every-map (Allowed b c) (Allowed at e) (λ n k.
-              record { low = omega (arith, k .low); high = omega (arith, k .high); element = k .element; named = named-in (n .item) _ (k .low) (k .high) (k .named); long = k .long }) ns (h .each);
-          all = λ i xs x y element k. go i xs (ℕ-discrete i at) x y element k;
+          each = every-map (Allowed b c) (Allowed at e) (λ n. allowed-as at b c e n (omega arith) ends (named-in (n .item) (n .subscripts))) ns (h .each);
+          all = λ i xs x y element k.
+              let t = taken-in i xs (omega (arith, element-after d at i other x element)) y k in
+              h .all i xs (t .0) (t .1) element (named-out i xs (t .0) (t .1) k);
           sorted = sorted-as at b (Allowed b c) (λ n k. way-in n (k .low) (k .high)) ns (h .each) (h .sorted);
         }
-      where
-        go : (i : ℕ) (xs : List ℕ) → Dec (i ≡ at) → at ≤ i → i < e → isElement (fieldsAt d i) ≡ true → Named (nestsFrom d at i) i xs → HasName i xs ns
-        go i xs (yes z) x y element k = absurd (false≢true (sym other ∙ rw z at element))
-        go i xs (no z) x y element k = let t = taken-in i xs (omega arith) y k in h .all i xs (t .0) (t .1) element (named-out i xs (t .0) (t .1) k)
 
   -- BODIES of a passed description
   module _ (nest : BodiesNest d) where

@@ -139,7 +139,7 @@ module _ (d img : List ℕ) (p : PassedLaws d) where
   Walks a e κ ns (stopped ps (fault x i)) = ⊥
 
   -- with items before of which none runs past, and with items after
-  first-before : (a b e i x : ℕ) → a ≤ b → Inside d img a b → FirstIn b e i x → FirstIn a e i x
+  pub first-before : (a b e i x : ℕ) → a ≤ b → Inside d img a b → FirstIn b e i x → FirstIn a e i x
   first-before a b e i x l none h = record { low = omega (arith, h .low); high = h .high; at = h .at; past = h .past; before = inside-both d img a b i none (h .before) }
 
   pub first-after : (a b e i x : ℕ) → b ≤ e → FirstIn a b i x → FirstIn a e i x
@@ -303,11 +303,12 @@ module _ (d img : List ℕ) (p : PassedLaws d) where
           → SoundBody false κ body → (At b s q → Walks b c (afterBody body κ) (namesBody body v) (layBody body img false s q)) → Walks a (endOf d a) κ (namesBody body v) (layBody body img false s q)
       walks-branch b c body x y z before after sound walk =
           let first = other-piece (numbersBefore d img a) a element (choice-no-array f is) in
-          let start = no-pieces d img (a + 1) b (omega arith) (λ i u w. unchosen-piece a i is (omega arith) (omega arith) (omega (arith, room)) (before i (omega arith) w)) ∙ no-piece d img a first ∙ here in
+          let none : (i : ℕ) → a + 1 ≤ i → i < b → isPiece d (numbersBefore d img i) i ≡ false
+          = λ i u w. unchosen-piece a i is (omega arith) (omega arith) (omega (arith, room)) (before i (omega arith) w) in
+          let start = no-pieces d img (a + 1) b (omega arith) none ∙ no-piece d img a first ∙ here in
           walks-after a c (endOf d a) κ (namesBody body v) (layBody body img false s q) (λ i u w. unchosen-piece a i is (omega arith) w (omega (arith, room)) (after i u w)) z
           (walks-before a b c κ (namesBody body v) (layBody body img false s q)
-          (inside-both d img a (a + 1) b (inside-one d img a (no-runs d img a first))
-          (λ i u w. no-runs d img i (unchosen-piece a i is (omega arith) (omega arith) (omega (arith, room)) (before i (omega arith) w)))) (omega arith)
+          (inside-both d img a (a + 1) b (inside-one d img a (no-runs d img a first)) (λ i u w. no-runs d img i (none i u w))) (omega arith)
           (subst (λ (κ′ : Known). Walks b c κ′ (namesBody body v) (layBody body img false s q)) (quiet-body κ body sound) (walk start)))
 
       -- the first where the value isn't 0, else the second
