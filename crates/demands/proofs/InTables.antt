@@ -1,6 +1,6 @@
 -- A passed description is walked table by table: each table stands from the end of the pieces before it to the end of its own, and the elements laid out are those of its names.
 -- Assumes nothing.
-use Prim.Native.Nat.{ℕ, zero, suc, _+_, _-_, _<_, _≤_}
+use Prim.Native.Nat.{ℕ, suc, _+_, _-_, _<_, _≤_}
 use mathlib.Core.Path.{_≡_, refl, _∙_, ap, ap₂, sym}
 use mathlib.Core.Bool.{true, false, true≢false}
 use mathlib.Core.List.{List, [], _∷_, _++_}
@@ -22,7 +22,7 @@ use Rattle.laying.specs.Sound.{Known, setKnown, noneKnown, SoundBody, afterBody
 use Rattle.laying.proofs.Bodies.{Same, same-next, runs}
 use Rattle.laying.proofs.Every.{every-append}
 use Rattle.laying.proofs.Nested.{Run, first-keeps, first-ends, first-body, rest-body}
-use Rattle.laying.proofs.Steps.{tables-none, tables-step}
+use Rattle.laying.proofs.Steps.{tables-none, tables-step, by-items}
 use Rattle.laying.proofs.Tops.{table-is, table-one, top, whole-run, fit-body}
 use Rattle.demands.specs.Walk.{arraysOf, allChosen, Reached, reached, octetBefore, numbersBefore, numbersIn}
 use Rattle.demands.proofs.Around.{nestsTo, to-count, from-after, from-other}
@@ -137,25 +137,31 @@ module _ (d img : List ℕ) (p : PassedLaws d) where
       (λ i y z. let empty = no-more-of (nestsTo d (a + 1) i) (to-count d (a + 1) i (omega arith) ∙ rw (t .body .held i y z, t .flat)) in rw empty (refl, refl)))))
       (λ t y at matches. rest t y matches at))
 
-  -- the tables among the last n items, fewer than m
-  walks-tables : (m a n : ℕ) (κ : Known) (s : Slots) (q : ℕ) → n < m → a + n ≡ itemCount d → Run d a (itemCount d) (top d) → Same d κ a → Matches s κ → At d img p a s q
+  -- the tables among the last n items
+  abbrev WalksLast : (a n : ℕ) → Type 0
+  WalksLast a n = (κ : Known) (s : Slots) (q : ℕ) → a + n ≡ itemCount d → Run d a (itemCount d) (top d) → Same d κ a → Matches s κ → At d img p a s q
       → WalksAll a (namesTables (tablesOf d n 0 a) v) (layTables (tablesOf d n 0 a) img s q)
+
+  walks-none : (a : ℕ) → WalksLast a 0
   unfolding layTables namesTables strip Every
-  walks-tables zero a n κ s q few long run same g here = absurd (omega arith)
-  walks-tables (suc m) a zero κ s q few long run same g here =
+  walks-none a κ s q long run same g here =
       let e : itemCount d ≡ a = omega arith in
       rw (tables-none d a) (record { here = rw e here; inside = λ i x y. absurd (omega arith); starts = tt; ends = tt; names = refl; dimensions = tt })
-  walks-tables (suc m) a (suc n) κ s q few long run same g here =
+
+  walks-last : (a n : ℕ) → WalksLast a n
+  walks-last =
+      by-items d WalksLast walks-none
+      (λ a n rest κ s q long run same g here.
       let t = table-at a κ (omega arith) run same in
       let ends = t .ends in
-      walks-table a n κ s q long t g here
-      (λ u x g′ here′. walks-tables m (endOf d a) (n - nested (fieldsAt d a)) _ u x (omega arith) (omega arith) (rest-body p run (omega arith)) (t .after) g′ here′)
+      let there : a + 1 + nested (fieldsAt d a) ≡ endOf d a = omega arith in
+      walks-table a n κ s q long t g here (λ u x g′ here′. rw there at rest _ u x (omega arith) (rest-body p run (omega arith)) (t .after) g′ here′))
 
   -- from octet 0, no dimension read
   pub walks-all : WalksAll 0 (namesTables (treeOf d) v) (layOut d img)
   unfolding layOut treeOf reached octetsOf numberOf
   walks-all =
-      walks-tables (itemCount d + 1) 0 (itemCount d) noneKnown (λ k. unread) 0 (omega arith) (omega arith) (whole-run d) (λ j some. sym (slot-none d j)) (record { octets = λ k. refl }) refl
+      walks-last 0 (itemCount d) noneKnown (λ k. unread) 0 (omega arith) (whole-run d) (λ j some. sym (slot-none d j)) (record { octets = λ k. refl }) refl
 
   -- THE NAMES OF ALL TABLES
   names-table : (a n : ℕ) (κ : Known) → a + suc n ≡ itemCount d → TableAt a κ
@@ -173,15 +179,22 @@ module _ (d img : List ℕ) (p : PassedLaws d) where
       (names-from d v a (a + 1) (endOf d a) (namesBody (bodyAt 4 d (a + 1) (f .first)) v) (omega arith) (λ i x y. from-other d a i (t .flat) (omega arith))
       (λ i x y element. element-after d a i (t .element) x element) body) rest)
 
-  names-tables : (m a n : ℕ) (κ : Known) → n < m → a + n ≡ itemCount d → Run d a (itemCount d) (top d) → Same d κ a → Names d v a (itemCount d) (namesTables (tablesOf d n 0 a) v)
+  abbrev NamesLast : (a n : ℕ) → Type 0
+  NamesLast a n = (κ : Known) → a + n ≡ itemCount d → Run d a (itemCount d) (top d) → Same d κ a → Names d v a (itemCount d) (namesTables (tablesOf d n 0 a) v)
+
+  names-none : (a : ℕ) → NamesLast a 0
   unfolding namesTables Every Sorted
-  names-tables zero a n κ few long run same = absurd (omega arith)
-  names-tables (suc m) a zero κ few long run same = rw (tables-none d a) (record { each = tt; all = λ i xs x y element h. absurd (omega arith); sorted = tt })
-  names-tables (suc m) a (suc n) κ few long run same =
+  names-none a κ long run same = rw (tables-none d a) (record { each = tt; all = λ i xs x y element h. absurd (omega arith); sorted = tt })
+
+  names-last : (a n : ℕ) → NamesLast a n
+  names-last =
+      by-items d NamesLast names-none
+      (λ a n rest κ long run same.
       let t = table-at a κ (omega arith) run same in
       let ends = t .ends in
-      names-table a n κ long t (names-tables m (endOf d a) (n - nested (fieldsAt d a)) _ (omega arith) (omega arith) (rest-body p run (omega arith)) (t .after))
+      let there : a + 1 + nested (fieldsAt d a) ≡ endOf d a = omega arith in
+      names-table a n κ long t (rw there at rest _ (omega arith) (rest-body p run (omega arith)) (t .after)))
 
   pub names-all : Names d v 0 (itemCount d) (namesTables (treeOf d) v)
   unfolding treeOf
-  names-all = names-tables (itemCount d + 1) 0 (itemCount d) noneKnown (omega arith) (omega arith) (whole-run d) (λ j some. sym (slot-none d j))
+  names-all = names-last 0 (itemCount d) noneKnown (omega arith) (whole-run d) (λ j some. sym (slot-none d j))

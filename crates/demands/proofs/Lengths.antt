@@ -13,7 +13,7 @@ use Rattle.laying.specs.Sound.{FitBody, FitNode}
 use Rattle.laying.specs.Tree.{innerAt, nodeAt}
 use Rattle.laying.proofs.Arms.{taken-size, taken-fit}
 use Rattle.laying.proofs.Nodes.{node-cases, choice-no-array}
-use Rattle.laying.proofs.Steps.{at-once, body-none, body-step}
+use Rattle.laying.proofs.Steps.{at-once, body-none, body-step, by-items}
 use Rattle.demands.proofs.Around.{bodyTaken, fit-step}
 use Rattle.demands.specs.Walk.{itemOctets, itemsOctets, bodyOctets, octetsOf}
 
@@ -71,20 +71,16 @@ module _ (d : List ℕ) (v : Numbers) where
   unfolding bodySize
   octets-more k l at n h r = rw (body-step k d at n, octets-step l at n) (ap₂ _+_ h r)
 
-  -- of fewer than m items
-  octets-fewer : (k l : ℕ) → Below k l → (m at n : ℕ) → n < m → FitBody (bodyAt k d at n) → bodySize (bodyAt k d at n) v ≡ bodyOctets (suc l) d v at n
-  octets-fewer k l below zero at n few fit = absurd (omega arith)
-  octets-fewer k l below (suc m) at zero few fit = octets-none k l at
-  octets-fewer k l below (suc m) at (suc n) few fit =
-      let f = fit-step d k at n fit in
-      octets-more k l at n (node-octets k l at n below (f .0))
-      (octets-fewer k l below m (at + 1 + nested (fieldsAt d at)) (n - nested (fieldsAt d at)) (omega arith) (f .1))
+  octets-items : (k l : ℕ) → Below k l → (at n : ℕ) → FitBody (bodyAt k d at n) → bodySize (bodyAt k d at n) v ≡ bodyOctets (suc l) d v at n
+  octets-items k l below =
+      by-items d (λ at n. FitBody (bodyAt k d at n) → bodySize (bodyAt k d at n) v ≡ bodyOctets (suc l) d v at n) (λ at fit. octets-none k l at)
+      (λ at n rest fit. let f = fit-step d k at n fit in octets-more k l at n (node-octets k l at n below (f .0)) (rest (f .1)))
 
   body-octets : (k l at n : ℕ) → k < l → FitBody (bodyAt k d at n) → bodySize (bodyAt k d at n) v ≡ bodyOctets l d v at n
   unfolding innerAt FitBody
   body-octets k zero at n h = absurd (omega arith)
-  body-octets zero (suc l) at n h = octets-fewer zero l (λ a m fit. absurd (fit .0)) (n + 1) at n (omega arith)
-  body-octets (suc k) (suc l) at n h = octets-fewer (suc k) l (λ a m fit. body-octets k l a m (omega arith) fit) (n + 1) at n (omega arith)
+  body-octets zero (suc l) at n h = octets-items zero l (λ a m fit. absurd (fit .0)) at n
+  body-octets (suc k) (suc l) at n h = octets-items (suc k) l (λ a m fit. body-octets k l a m (omega arith) fit) at n
 
   -- an item at most four levels deep
   pub item-octets : (k at n : ℕ) → k ≤ 4 → FitNode (nodeAt k d at n) → itemSize (nodeAt k d at n) v ≡ octetsOf d v at

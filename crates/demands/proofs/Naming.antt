@@ -25,7 +25,7 @@ use Rattle.laying.proofs.Among.{Among}
 use Rattle.laying.proofs.Arms.{picked, takenBody, taken-fit}
 use Rattle.laying.proofs.Every.{every-map, every-append}
 use Rattle.laying.proofs.Nodes.{node-cases, choice-no-array}
-use Rattle.laying.proofs.Steps.{body-none, body-step}
+use Rattle.laying.proofs.Steps.{body-none, body-step, by-items}
 use Rattle.demands.specs.Walk.{arraysOf, inChosen, allChosen, allBelow, way, Earlier}
 use Rattle.demands.proofs.Around.{bodyTaken, fit-room, fit-step, nestsFrom, from-here, from-nest, from-range, from-after, from-second}
 
@@ -459,17 +459,15 @@ module _ (d : List ℕ) (v : Numbers) where
         (names-append at (at + 1 + u) (at + 1 + u + (n - u)) (namesNode (nodeAt k d at n) v) (namesBody (bodyAt k d (at + 1 + u) (n - u)) v) (omega arith) (omega arith)
         (λ i a b. from-after d nest at i (omega arith) (omega arith) ∙ rw end) (rw end h) rest)
 
-    -- a body of fewer than m items
-    names-fewer : (k : ℕ) → Below k → (m at n : ℕ) → n < m → at + n ≤ itemCount d → FitBody (bodyAt k d at n) → Names at (at + n) (namesBody (bodyAt k d at n) v)
-    names-fewer k below zero at n few room fit = absurd (omega arith)
-    names-fewer k below (suc m) at zero few room fit = names-empty k at
-    names-fewer k below (suc m) at (suc n) few room fit =
+    names-items : (k : ℕ) → Below k → (at n : ℕ) → at + n ≤ itemCount d → FitBody (bodyAt k d at n) → Names at (at + n) (namesBody (bodyAt k d at n) v)
+    names-items k below =
+        by-items d (λ at n. at + n ≤ itemCount d → FitBody (bodyAt k d at n) → Names at (at + n) (namesBody (bodyAt k d at n) v)) (λ at room fit. names-empty k at)
+        (λ at n rest room fit.
         let f = fit-step d k at n fit in
         let l = fit-room d k at n (f .0) in
-        names-more k at n l room (names-node k at n below (omega arith) (f .0))
-        (names-fewer k below m (at + 1 + nested (fieldsAt d at)) (n - nested (fieldsAt d at)) (omega arith) (omega arith) (f .1))
+        names-more k at n l room (names-node k at n below (omega arith) (f .0)) (rest (omega arith) (f .1)))
 
     pub names-body : (k at n : ℕ) → at + n ≤ itemCount d → FitBody (bodyAt k d at n) → Names at (at + n) (namesBody (bodyAt k d at n) v)
     unfolding innerAt FitBody
-    names-body zero at n = names-fewer zero (λ a m room f. absurd (f .0)) (n + 1) at n (omega arith)
-    names-body (suc k) at n = names-fewer (suc k) (λ a m room f. names-body k a m room f) (n + 1) at n (omega arith)
+    names-body zero at n = names-items zero (λ a m room f. absurd (f .0)) at n
+    names-body (suc k) at n = names-items (suc k) (names-body k) at n

@@ -1,5 +1,5 @@
 -- A body is its first item and the rest; so are the tables. Assumes nothing.
-use Prim.Native.Nat.{ℕ, zero, suc, _+_, _-_}
+use Prim.Native.Nat.{ℕ, zero, suc, _+_, _-_, _<_}
 use mathlib.Core.Path.{_≡_, refl, _∙_, ap, sym}
 use mathlib.Core.List.{List}
 use native.Mathlib.Omega.{arith}
@@ -46,3 +46,14 @@ pub tables-step : (d : List ℕ) (at n : ℕ)
     → tablesOf d (suc n) 0 at ≡ tableAt d (fieldsAt d at) at n (tablesOf d (n - nested (fieldsAt d at)) 0 (at + 1 + nested (fieldsAt d at)))
 unfolding tablesOf
 tables-step d at n = ap (tableAt d (fieldsAt d at) at n) (at-once (tablesOf d) (λ s at. refl) (λ n s at. refl) n (nested (fieldsAt d at)) (at + 1))
+
+-- BY THE ITEMS OF A BODY: what is true of none, and of an item and the rest where it is true of the rest, is true of any number
+pub by-items : (d : List ℕ) (P : (at n : ℕ) → Type 0) → ((at : ℕ) → P at 0)
+    → ((at n : ℕ) → P (at + 1 + nested (fieldsAt d at)) (n - nested (fieldsAt d at)) → P at (suc n)) → (at n : ℕ) → P at n
+by-items d P none step at n = go (n + 1) at n (omega arith)
+  where
+    -- of fewer than m
+    go : (m at n : ℕ) → n < m → P at n
+    go zero at n few = absurd (omega arith)
+    go (suc m) at zero few = none at
+    go (suc m) at (suc n) few = step at n (go m (at + 1 + nested (fieldsAt d at)) (n - nested (fieldsAt d at)) (omega arith))
