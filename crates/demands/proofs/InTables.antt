@@ -2,28 +2,26 @@
 -- Assumes nothing.
 use Prim.Native.Nat.{ℕ, suc, _+_, _-_, _<_, _≤_}
 use mathlib.Core.Path.{_≡_, refl, _∙_, ap, ap₂, sym}
-use mathlib.Core.Bool.{true, false, true≢false}
+use mathlib.Core.Bool.{true, false}
 use mathlib.Core.List.{List, [], _∷_, _++_}
 use lib.ListN.{length}
-use borrow.Author.Tests.{eqb-true}
 use native.Mathlib.Omega.{arith}
 use Rattle.meaning.specs.declared.Fields.{Fields}
-use Rattle.meaning.specs.Description.{itemCount, fieldsAt, isTable, isElement, isArray, nests, nested, count}
+use Rattle.meaning.specs.Description.{itemCount, fieldsAt, nested}
 use Rattle.meaning.specs.Description.{inside as enclosed}
 use Rattle.meaning.specs.Layout.{bodyAt, tablesOf, treeOf, Slots, unread, Placed, fault, short, Laid, laid, stopped}
 use Rattle.meaning.specs.Layout.{Seat, Layout, laidOut, stoppedAt, before, seated, layTables, layOut, layBody}
 use Rattle.meaning.specs.Passed.{PassedLaws, endOf}
-use Rattle.meaning.proofs.Ranges.{fields-range, sets-none}
-use Rattle.meaning.proofs.Rules.{slot-step, slot-none}
+use Rattle.meaning.proofs.Rules.{slot-none}
 use Rattle.laying.specs.Every.{Every}
 use Rattle.laying.specs.Sizes.{Numbers}
 use Rattle.laying.specs.Slots.{numberOf, octetsOf, Matches}
-use Rattle.laying.specs.Sound.{Known, setKnown, noneKnown, SoundBody, afterBody}
-use Rattle.laying.proofs.Bodies.{Same, same-next, runs}
+use Rattle.laying.specs.Sound.{Known, noneKnown, afterBody}
+use Rattle.laying.proofs.Bodies.{Same}
 use Rattle.laying.proofs.Every.{every-append}
-use Rattle.laying.proofs.Nested.{Run, first-keeps, first-ends, first-body, rest-body}
+use Rattle.laying.proofs.Nested.{Run, rest-body}
 use Rattle.laying.proofs.Steps.{tables-none, tables-step, by-items}
-use Rattle.laying.proofs.Tops.{table-is, table-one, top, whole-run, fit-body}
+use Rattle.laying.proofs.Tops.{table-is, top, TableAt, table-at, whole-run, fit-body}
 use Rattle.demands.specs.Walk.{arraysOf, allChosen, Reached, reached, octetBefore, numbersBefore, numbersIn}
 use Rattle.demands.proofs.Around.{nestsTo, to-count, from-after, from-other}
 use Rattle.demands.proofs.Naming.{element-after, Name, namesBody, namesTables, Names, Sorted, names-from, names-append, names-body}
@@ -77,47 +75,8 @@ module _ (d img : List ℕ) (p : PassedLaws d) where
   walks-seated a b f q l end room at κ ns ms (stopped ps (short i x)) next h k = first-after d img p a b (itemCount d) i x room h
   walks-seated a b f q l end room at κ ns ms (stopped ps (fault x i)) next h k = h
 
-  -- A TABLE at item a of the top level
-  record TableAt (a : ℕ) (κ : Known) : Type 0 where
-    is : isTable (fieldsAt d a) ≡ true
-    flat : nests (fieldsAt d a) ≡ false
-    element : isElement (fieldsAt d a) ≡ false
-    array : isArray (fieldsAt d a) ≡ false
-    end : a + 1 + fieldsAt d a .first ≡ endOf d a
-    ends : endOf d a ≤ itemCount d
-    body : Run d (a + 1) (a + 1 + fieldsAt d a .first) (enclosed (fieldsAt d a) (a + 1 + fieldsAt d a .first) (top d))
-    sound : SoundBody true κ (bodyAt 4 d (a + 1) (fieldsAt d a .first))
-    next : Same d κ (a + 1)
-    after : Same d (afterBody (bodyAt 4 d (a + 1) (fieldsAt d a .first)) κ) (endOf d a)
-
-  table-at : (a : ℕ) (κ : Known) → a < itemCount d → Run d a (itemCount d) (top d) → Same d κ a → TableAt a κ
-  unfolding enclosed setKnown
-  table-at a κ l run same =
-      let f = fieldsAt d a in
-      let is : isTable f ≡ true = first-keeps p run l .top refl in
-      let kind = eqb-true (f .kind) 1 is in
-      let one : count (isTable f) ≡ 1 = rw is in
-      let quiet = sets-none f (fields-range d a) (λ two. omega arith) in
-      let next : Same d κ (a + 1) = rw quiet at (same-next d a (f .sets) (f .octets) κ same (slot-step d a)) in
-      let body = first-body p run l in
-      let second = table-one d a is in
-      let end : a + 1 + f .first ≡ endOf d a = omega arith in
-      let x = runs p (f .first + 1) 4 (a + 1) (f .first) _ _ true κ (omega arith) refl body (omega arith) (λ z. absurd (true≢false z)) (omega arith) next in
-      record {
-        is = is;
-        flat = rw kind;
-        element = rw kind;
-        array = rw kind;
-        end = end;
-        ends = first-ends p run l;
-        body = body;
-        sound = x .sound;
-        next = next;
-        after = rw end at (x .after);
-      }
-
   -- it is walked, and then the tables that follow
-  walks-table : (a n : ℕ) (κ : Known) (s : Slots) (q : ℕ) → a + suc n ≡ itemCount d → TableAt a κ → Matches s κ → At d img p a s q
+  walks-table : (a n : ℕ) (κ : Known) (s : Slots) (q : ℕ) → a + suc n ≡ itemCount d → TableAt d a κ → Matches s κ → At d img p a s q
       → ((t : Slots) (x : ℕ) → Matches t (afterBody (bodyAt 4 d (a + 1) (fieldsAt d a .first)) κ) → At d img p (endOf d a) t x
       → WalksAll (endOf d a) (namesTables (tablesOf d (n - nested (fieldsAt d a)) 0 (endOf d a)) v) (layTables (tablesOf d (n - nested (fieldsAt d a)) 0 (endOf d a)) img t x))
       → WalksAll a (namesTables (tablesOf d (suc n) 0 a) v) (layTables (tablesOf d (suc n) 0 a) img s q)
@@ -152,7 +111,7 @@ module _ (d img : List ℕ) (p : PassedLaws d) where
   walks-last =
       by-items d WalksLast walks-none
       (λ a n rest κ s q long run same g here.
-      let t = table-at a κ (omega arith) run same in
+      let t = table-at p a κ (omega arith) run same in
       let ends = t .ends in
       let there : a + 1 + nested (fieldsAt d a) ≡ endOf d a = omega arith in
       walks-table a n κ s q long t g here (λ u x g′ here′. rw there at rest _ u x (omega arith) (rest-body p run (omega arith)) (t .after) g′ here′))
@@ -164,7 +123,7 @@ module _ (d img : List ℕ) (p : PassedLaws d) where
       walks-last 0 (itemCount d) noneKnown (λ k. unread) 0 (omega arith) (whole-run d) (λ j some. sym (slot-none d j)) (record { octets = λ k. refl }) refl
 
   -- THE NAMES OF ALL TABLES
-  names-table : (a n : ℕ) (κ : Known) → a + suc n ≡ itemCount d → TableAt a κ
+  names-table : (a n : ℕ) (κ : Known) → a + suc n ≡ itemCount d → TableAt d a κ
       → Names d v (endOf d a) (itemCount d) (namesTables (tablesOf d (n - nested (fieldsAt d a)) 0 (endOf d a)) v) → Names d v a (itemCount d) (namesTables (tablesOf d (suc n) 0 a) v)
   unfolding namesTables
   names-table a n κ long t rest =
@@ -190,7 +149,7 @@ module _ (d img : List ℕ) (p : PassedLaws d) where
   names-last =
       by-items d NamesLast names-none
       (λ a n rest κ long run same.
-      let t = table-at a κ (omega arith) run same in
+      let t = table-at p a κ (omega arith) run same in
       let ends = t .ends in
       let there : a + 1 + nested (fieldsAt d a) ≡ endOf d a = omega arith in
       names-table a n κ long t (rw there at rest _ (omega arith) (rest-body p run (omega arith)) (t .after)))

@@ -21,7 +21,7 @@ use Rattle.laying.specs.Every.{Every}
 use Rattle.laying.specs.Sizes.{Numbers, value}
 use Rattle.laying.specs.Sound.{FitBody, FitNode}
 use Rattle.laying.specs.Tree.{innerAt, nodeAt}
-use Rattle.laying.proofs.Among.{Among}
+use Rattle.laying.proofs.Among.{Among, among-left, among-right}
 use Rattle.laying.proofs.Arms.{picked, takenBody, taken-fit}
 use Rattle.laying.proofs.Every.{every-map, every-append}
 use Rattle.laying.proofs.Nodes.{node-cases, choice-no-array}
@@ -72,18 +72,6 @@ pub taken-names : (inner : ℕ → ℕ → Body) (at x : ℕ) (b : Branches) (v 
 unfolding armsOf taken namesArms
 taken-names inner at x (otherwise c) v = refl
 taken-names inner at x (branch t c rest) v = picked (λ c. namesBody (bodyIn inner at c) v) (t x) c _ (taken-names inner at x rest v)
-
--- in one of two lists
-among-left : {A : Type 0} (x : A) (xs ys : List A) → Among x xs → Among x (xs ++ ys)
-unfolding Among
-among-left x [] ys m = absurd m
-among-left x (z ∷ xs) ys (inl e) = inl e
-among-left x (z ∷ xs) ys (inr m) = inr (among-left x xs ys m)
-
-among-right : {A : Type 0} (x : A) (xs ys : List A) → Among x ys → Among x (xs ++ ys)
-unfolding Among
-among-right x [] ys m = m
-among-right x (z ∷ xs) ys m = inr (among-right x xs ys m)
 
 -- an IF is no element
 pub choice-no-element : (f : Fields) → isChoice f ≡ true → isElement f ≡ false

@@ -32,7 +32,7 @@ use Rattle.laying.proofs.Nested.{Run, first-ends, second-body, rest-body, still
 use Rattle.laying.proofs.Nodes.{node-cases, choice-no-array}
 use Rattle.laying.proofs.Reaches.{numbers-set, matches-leaf}
 use Rattle.laying.proofs.Rising.{RisesNode, rises-at}
-use Rattle.laying.proofs.Steps.{body-none, body-step}
+use Rattle.laying.proofs.Steps.{body-none, body-step, by-items}
 use Rattle.laying.proofs.Tops.{fit-node}
 use Rattle.laying.proofs.Whole.{Whole, value-is, w-array, w-body}
 use Rattle.demands.specs.Walk.{nestsRound, arraysOf, inChosen, allChosen, isChosen, isNone, isPiece, octetsOf, Reached, reached, octetBefore, numbersBefore, numbersIn, runsPast}
@@ -426,24 +426,27 @@ module _ (d img : List ℕ) (p : PassedLaws d) where
   unfolding SoundBody
   sound-step k a n free κ h = subst (SoundBody free κ) (body-step k d a n) h
 
-  -- of fewer than m
-  walks-fewer : (k : ℕ) → k ≤ 4 → Bodies (innerAt k d) → (m a n e : ℕ) (r : Round) (free : Bool) (κ : Known) (s : Slots) (q : ℕ) → n < m → a + n ≡ e → Run d a e r → SoundBody free κ (bodyAt k d a n)
-      → Same d κ a → Matches s κ → At a s q → Open a e → Walks a e (afterBody (bodyAt k d a n) κ) (namesBody (bodyAt k d a n) v) (layBody (bodyAt k d a n) img false s q)
-  walks-fewer k deep below zero a n e r free κ s q few end run sound same m here o = absurd (omega arith)
-  walks-fewer k deep below (suc f) a zero e r free κ s q few end run sound same m here o =
-      subst (λ (x : ℕ). Walks a x (afterBody (bodyAt k d a 0) κ) (namesBody (bodyAt k d a 0) v) (layBody (bodyAt k d a 0) img false s q)) end (walks-none k a κ s q m here)
-  walks-fewer k deep below (suc f) a (suc n) e r free κ s q few end run sound same m here o =
+  -- of any number
+  abbrev WalksItems : (k a n : ℕ) → Type 0
+  WalksItems k a n = (e : ℕ) (r : Round) (free : Bool) (κ : Known) (s : Slots) (q : ℕ) → a + n ≡ e → Run d a e r → SoundBody free κ (bodyAt k d a n) → Same d κ a → Matches s κ
+      → At a s q → Open a e → Walks a e (afterBody (bodyAt k d a n) κ) (namesBody (bodyAt k d a n) v) (layBody (bodyAt k d a n) img false s q)
+
+  walks-items : (k : ℕ) → k ≤ 4 → Bodies (innerAt k d) → (a n : ℕ) → WalksItems k a n
+  walks-items k deep below =
+      by-items d (WalksItems k)
+      (λ a e r free κ s q end run sound same m here o.
+      subst (λ (x : ℕ). Walks a x (afterBody (bodyAt k d a 0) κ) (namesBody (bodyAt k d a 0) v) (layBody (bodyAt k d a 0) img false s q)) end (walks-none k a κ s q m here))
+      (λ a n rest e r free κ s q end run sound same m here o.
       let h = sound-step k a n free κ sound in
       let fit = fit-node free κ (nodeAt k d a n) (h .0) in
       let fits = fit-room d k a n fit in
       let there : a + 1 + nested (fieldsAt d a) ≡ endOf d a = omega arith in
       walks-more k a n e r free κ s q deep below end fits run same m here o fit (h .0)
-      (λ κ′ t x is run′ same′ m′ here′ o′.
-      walks-fewer k deep below f (endOf d a) (n - nested (fieldsAt d a)) e r free κ′ t x (omega arith) (omega arith) run′ (rw (is, ← there) (h .1)) same′ m′ here′ o′)
+      (λ κ′ t x is run′ same′ m′ here′ o′. subst (λ (b : ℕ). WalksItems k b (n - nested (fieldsAt d a))) there rest e r free κ′ t x (omega arith) run′ (rw (is, ← there) (h .1)) same′ m′ here′ o′))
 
   pub walks-body : (k : ℕ) → k ≤ 4 → Bodies (bodyAt k d)
   unfolding innerAt SoundBody
   walks-body zero deep a m r free κ s q run sound same g here o =
-      walks-fewer zero deep (λ a m r free κ s q run sound same g here o. absurd (sound .0)) (m + 1) a m (a + m) r free κ s q (omega arith) refl run sound same g here o
+      walks-items zero deep (λ a m r free κ s q run sound same g here o. absurd (sound .0)) a m (a + m) r free κ s q refl run sound same g here o
   walks-body (suc k) deep a m r free κ s q run sound same g here o =
-      walks-fewer (suc k) deep (walks-body k (omega arith)) (m + 1) a m (a + m) r free κ s q (omega arith) refl run sound same g here o
+      walks-items (suc k) deep (walks-body k (omega arith)) a m (a + m) r free κ s q refl run sound same g here o
