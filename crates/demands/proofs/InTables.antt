@@ -1,39 +1,33 @@
 -- A passed description is walked table by table: each table stands from the end of the pieces before it to the end of its own, and the elements laid out are those of its names.
 -- Assumes nothing.
-use Prim.Native.Nat.{ℕ, zero, suc, _+_, _-_, _<_, _≤_}
-use mathlib.Core.Path.{_≡_, refl, _∙_, ap, ap₂, sym, subst}
-use mathlib.Core.Logic.{_⊎_, inl, inr}
-use mathlib.Core.Bool.{Bool, true, false, _&&_, and-eq-true-iff, true≢false, false≢true}
+use Prim.Native.Nat.{ℕ, suc, _+_, _-_, _<_, _≤_}
+use mathlib.Core.Path.{_≡_, refl, _∙_, ap, ap₂, sym}
+use mathlib.Core.Bool.{true, false}
 use mathlib.Core.List.{List, [], _∷_, _++_}
 use lib.ListN.{length}
-use borrow.Author.Tests.{eqb-true, ltb-true, lt-ltb, eq-eqb}
-use native.Mathlib.Decide.{decLt, ℕ-discrete}
 use native.Mathlib.Omega.{arith}
-use Rattle.meaning.specs.Basics.{_=?_, _<?_}
 use Rattle.meaning.specs.declared.Fields.{Fields}
-use Rattle.meaning.specs.Description.{itemCount, fieldsAt, isTable, isElement, isArray, nests, nested, count}
+use Rattle.meaning.specs.Description.{itemCount, fieldsAt, nested}
 use Rattle.meaning.specs.Description.{inside as enclosed}
-use Rattle.meaning.specs.Layout.{Tables, noMore, table, strayTable, bodyAt, tablesOf, treeOf, Slots, unread, Placed, Stop, fault, short, Laid, laid, stopped}
+use Rattle.meaning.specs.Layout.{bodyAt, tablesOf, treeOf, Slots, unread, Placed, fault, short, Laid, laid, stopped}
 use Rattle.meaning.specs.Layout.{Seat, Layout, laidOut, stoppedAt, before, seated, layTables, layOut, layBody}
-use Rattle.meaning.specs.Passed.{Passes, PassedLaws, endOf}
-use Rattle.meaning.proofs.Passed.{passed-laws}
-use Rattle.meaning.proofs.Ranges.{fields-range, sets-none}
-use Rattle.meaning.proofs.Rules.{slot-step, slot-none}
+use Rattle.meaning.specs.Passed.{PassedLaws, endOf}
+use Rattle.meaning.proofs.Rules.{slot-none}
 use Rattle.laying.specs.Every.{Every}
 use Rattle.laying.specs.Sizes.{Numbers}
 use Rattle.laying.specs.Slots.{numberOf, octetsOf, Matches}
-use Rattle.laying.specs.Sound.{Known, setKnown, noneKnown, SoundBody, afterBody}
-use Rattle.laying.proofs.Bodies.{Same, same-next, runs}
+use Rattle.laying.specs.Sound.{Known, noneKnown, afterBody}
+use Rattle.laying.proofs.Bodies.{Same}
 use Rattle.laying.proofs.Every.{every-append}
-use Rattle.laying.proofs.Nested.{Run, first-keeps, first-ends, first-body, rest-body}
-use Rattle.laying.proofs.Steps.{tables-none, tables-step}
-use Rattle.laying.proofs.Tops.{table-is, table-one, top, whole-run, fit-body}
-use Rattle.demands.specs.Walk.{arraysOf, arraysRound, allChosen, isChosen, Reached, reached, octetBefore, numbersBefore, numbersIn, runsPast, FirstPast, allBelow, hasElement, way, Earlier}
-use Rattle.demands.proofs.Around.{nestsFrom, round-from, nestsTo, to-count, from-after, from-other}
-use Rattle.demands.proofs.Naming.{Name, namesBody, namesTables, Named, Allowed, wayFrom, Names, Sorted, names-from, names-append, names-body}
-use Rattle.demands.proofs.Pieces.{no-piece, no-runs, octets-grow}
-use Rattle.demands.proofs.Stripped.{nameIn, strip, strip-append}
-use Rattle.demands.proofs.Walked.{At, Open, DimensionIs, Walked, FirstIn, Walks, other-piece, walks-body}
+use Rattle.laying.proofs.Nested.{Run, rest-body}
+use Rattle.laying.proofs.Steps.{tables-none, tables-step, by-items}
+use Rattle.laying.proofs.Tops.{table-is, top, TableAt, table-at, whole-run, fit-body}
+use Rattle.demands.specs.Walk.{arraysOf, allChosen, Reached, reached, octetBefore, numbersBefore, numbersIn}
+use Rattle.demands.proofs.Around.{nestsTo, to-count, from-after, from-other}
+use Rattle.demands.proofs.Naming.{element-after, Name, namesBody, namesTables, Names, Sorted, names-from, names-append, names-body}
+use Rattle.demands.proofs.Pieces.{no-piece, no-runs, Inside, inside-one, inside-both, octets-grow}
+use Rattle.demands.proofs.Stripped.{strip, strip-append}
+use Rattle.demands.proofs.Walked.{At, DimensionIs, FirstIn, Walks, first-before, first-after, walks-before, other-piece, walks-body}
 
 no-more-of : (js : List ℕ) → length js ≡ 0 → js ≡ []
 no-more-of [] e = refl
@@ -46,7 +40,7 @@ module _ (d img : List ℕ) (p : PassedLaws d) where
   -- TABLES from item a on, with their elements
   pub record TablesWalked (a : ℕ) (ns : List Name) (ts : List Seat) (es : List Placed) (s : Slots) (n : ℕ) : Type 0 where
     pub here : At d img p (itemCount d) s n
-    pub inside : (i : ℕ) → a ≤ i → i < itemCount d → runsPast d img i ≡ false
+    pub inside : Inside d img a (itemCount d)
     pub starts : Every (λ t. octetBefore d img (t .item) ≡ t .start) ts
     pub ends : Every (λ t. octetBefore d img (endOf d (t .item)) ≡ t .start + t .size) ts
     pub names : strip es ≡ ns
@@ -58,85 +52,31 @@ module _ (d img : List ℕ) (p : PassedLaws d) where
   WalksAll a ns (stoppedAt es (fault x i)) = ⊥
 
   -- a table from item a up to b, then others
-  module _ (a b : ℕ) (f : Fields) (q : ℕ) (l : a < b) (end : endOf d a ≡ b) (room : b ≤ itemCount d) (at : octetBefore d img a ≡ q) (first : runsPast d img a ≡ false) where
-    joined : (P : ℕ → Type 0) (e : ℕ) → P a → ((i : ℕ) → a + 1 ≤ i → i < b → P i) → ((i : ℕ) → b ≤ i → i < e → P i) → (i : ℕ) → a ≤ i → i < e → P i
-    joined P e x g h i m n = go (decLt a i) (decLt i b)
-      where
-        go : Dec (a < i) → Dec (i < b) → P i
-        go (no y) z = let k : a ≡ i = omega arith in subst P k x
-        go (yes y) (yes z) = g i (omega arith) z
-        go (yes y) (no z) = h i (omega arith) n
+  walks-seated : (a b : ℕ) (f : Fields) (q : ℕ) → a < b → endOf d a ≡ b → b ≤ itemCount d → octetBefore d img a ≡ q → (κ : Known) (ns ms : List Name) (o : Laid) (next : Slots → ℕ → Layout)
+      → Walks d img p a b κ ns o → ((t : Slots) (x : ℕ) → At d img p b t x → Matches t κ → WalksAll b ms (next t x)) → WalksAll a (ns ++ ms) (seated a f q o next)
+  unfolding seated Every
+  walks-seated a b f q l end room at κ ns ms (laid ps t x) next h k = go (next t x) (k t x (h .here) (h .matches))
+    where
+      x-is : octetBefore d img b ≡ x
+      x-is = ap (λ (r : Reached). r .octet) (h .here)
 
-    walks-seated : (κ : Known) (ns ms : List Name) (o : Laid) (next : Slots → ℕ → Layout) → Walks d img p (a + 1) b κ ns o
-        → ((t : Slots) (x : ℕ) → At d img p b t x → Matches t κ → WalksAll b ms (next t x)) → WalksAll a (ns ++ ms) (seated a f q o next)
-    unfolding seated Every
-    walks-seated κ ns ms (laid ps t x) next h k = go (next t x) (k t x (h .here) (h .matches))
-      where
-        x-is : octetBefore d img b ≡ x
-        x-is = ap (λ (r : Reached). r .octet) (h .here)
-
-        go : (o : Layout) → WalksAll b ms o → WalksAll a (ns ++ ms) (before (record { item = a; manufacturer = f .manufacturer; number = f .number; start = q; size = x - q }) ps o)
-        go (laidOut ts qs u n) w =
-            record {
-              here = w .here;
-              inside = joined (λ i. runsPast d img i ≡ false) (itemCount d) first (h .inside) (w .inside);
-              starts = (at, w .starts);
-              ends = (rw end (omega (arith, x-is, at, octets-grow d img a b (omega arith))), w .ends);
-              names = strip-append ps qs ∙ ap₂ _++_ (h .names) (w .names);
-              dimensions = every-append (DimensionIs d img p) ps qs (h .dimensions) (w .dimensions);
-            }
-        go (stoppedAt qs (short i y)) w =
-            record { low = omega (arith, w .low); high = w .high; at = w .at; past = w .past; before = joined (λ i. runsPast d img i ≡ false) i first (h .inside) (w .before) }
-        go (stoppedAt qs (fault y i)) w = w
-    walks-seated κ ns ms (stopped ps (short i x)) next h k =
-        record { low = omega (arith, h .low); high = omega (arith, h .high); at = h .at; past = h .past; before = λ j m n. joined-short j m n (decLt a j) }
-      where
-        joined-short : (j : ℕ) → a ≤ j → j < i → Dec (a < j) → runsPast d img j ≡ false
-        joined-short j m n (yes y) = h .before j (omega arith) n
-        joined-short j m n (no y) = let z : j ≡ a = omega arith in rw z first
-    walks-seated κ ns ms (stopped ps (fault x i)) next h k = h
-
-  -- A TABLE at item a of the top level
-  record TableAt (a : ℕ) (κ : Known) : Type 0 where
-    is : isTable (fieldsAt d a) ≡ true
-    flat : nests (fieldsAt d a) ≡ false
-    element : isElement (fieldsAt d a) ≡ false
-    array : isArray (fieldsAt d a) ≡ false
-    end : a + 1 + fieldsAt d a .first ≡ endOf d a
-    ends : endOf d a ≤ itemCount d
-    body : Run d (a + 1) (a + 1 + fieldsAt d a .first) (enclosed (fieldsAt d a) (a + 1 + fieldsAt d a .first) (top d))
-    sound : SoundBody true κ (bodyAt 4 d (a + 1) (fieldsAt d a .first))
-    next : Same d κ (a + 1)
-    after : Same d (afterBody (bodyAt 4 d (a + 1) (fieldsAt d a .first)) κ) (endOf d a)
-
-  table-at : (a : ℕ) (κ : Known) → a < itemCount d → Run d a (itemCount d) (top d) → Same d κ a → TableAt a κ
-  unfolding enclosed setKnown
-  table-at a κ l run same =
-      let f = fieldsAt d a in
-      let is : isTable f ≡ true = first-keeps p run l .top refl in
-      let kind = eqb-true (f .kind) 1 is in
-      let one : count (isTable f) ≡ 1 = rw is in
-      let quiet = sets-none f (fields-range d a) (λ two. omega arith) in
-      let next : Same d κ (a + 1) = rw quiet at (same-next d a (f .sets) (f .octets) κ same (slot-step d a)) in
-      let body = first-body p run l in
-      let second = table-one d a is in
-      let end : a + 1 + f .first ≡ endOf d a = omega arith in
-      let x = runs p (f .first + 1) 4 (a + 1) (f .first) _ _ true κ (omega arith) refl body (omega arith) (λ z. absurd (true≢false z)) (omega arith) next in
-      record {
-        is = is;
-        flat = rw kind;
-        element = rw kind;
-        array = rw kind;
-        end = end;
-        ends = first-ends p run l;
-        body = body;
-        sound = x .sound;
-        next = next;
-        after = rw end at (x .after);
-      }
+      go : (o : Layout) → WalksAll b ms o → WalksAll a (ns ++ ms) (before (record { item = a; manufacturer = f .manufacturer; number = f .number; start = q; size = x - q }) ps o)
+      go (laidOut ts qs u n) w =
+          record {
+            here = w .here;
+            inside = inside-both d img a b (itemCount d) (h .inside) (w .inside);
+            starts = (at, w .starts);
+            ends = (rw end (omega (arith, x-is, at, octets-grow d img a b (omega arith))), w .ends);
+            names = strip-append ps qs ∙ ap₂ _++_ (h .names) (w .names);
+            dimensions = every-append (DimensionIs d img p) ps qs (h .dimensions) (w .dimensions);
+          }
+      go (stoppedAt qs (short i y)) w = first-before d img p a b (itemCount d) i y (omega arith) (h .inside) w
+      go (stoppedAt qs (fault y i)) w = w
+  walks-seated a b f q l end room at κ ns ms (stopped ps (short i x)) next h k = first-after d img p a b (itemCount d) i x room h
+  walks-seated a b f q l end room at κ ns ms (stopped ps (fault x i)) next h k = h
 
   -- it is walked, and then the tables that follow
-  walks-table : (a n : ℕ) (κ : Known) (s : Slots) (q : ℕ) → a + suc n ≡ itemCount d → TableAt a κ → Matches s κ → At d img p a s q
+  walks-table : (a n : ℕ) (κ : Known) (s : Slots) (q : ℕ) → a + suc n ≡ itemCount d → TableAt d a κ → Matches s κ → At d img p a s q
       → ((t : Slots) (x : ℕ) → Matches t (afterBody (bodyAt 4 d (a + 1) (fieldsAt d a .first)) κ) → At d img p (endOf d a) t x
       → WalksAll (endOf d a) (namesTables (tablesOf d (n - nested (fieldsAt d a)) 0 (endOf d a)) v) (layTables (tablesOf d (n - nested (fieldsAt d a)) 0 (endOf d a)) img t x))
       → WalksAll a (namesTables (tablesOf d (suc n) 0 a) v) (layTables (tablesOf d (suc n) 0 a) img s q)
@@ -148,35 +88,42 @@ module _ (d img : List ℕ) (p : PassedLaws d) where
       let none = other-piece d img p (numbersBefore d img a) a (t .element) (t .array) in
       let there : a + 1 + nested f ≡ endOf d a = omega arith in
       rw (tables-step d a n, there, table-is d a n (tablesOf d (n - nested f) 0 (endOf d a)) (t .is) (omega arith))
-      (walks-seated a (endOf d a) f q (omega arith) refl ends (ap (λ (r : Reached). r .octet) here) (no-runs d img a none)
+      (walks-seated a (endOf d a) f q (omega arith) refl ends (ap (λ (r : Reached). r .octet) here)
       (afterBody (bodyAt 4 d (a + 1) (f .first)) κ) (namesBody (bodyAt 4 d (a + 1) (f .first)) v) _ (layBody (bodyAt 4 d (a + 1) (f .first)) img false s q)
       (λ t y. layTables (tablesOf d (n - nested f) 0 (endOf d a)) img t y)
+      (walks-before d img p a (a + 1) (endOf d a) _ _ (layBody (bodyAt 4 d (a + 1) (f .first)) img false s q) (inside-one d img a (no-runs d img a none)) (omega arith)
       (rw end at (walks-body d img p 4 (omega arith) (a + 1) (f .first) _ true κ s q (t .body) (t .sound) (t .next) m (no-piece d img a none ∙ here)
-      (λ i y z. let empty = no-more-of (nestsTo d (a + 1) i) (to-count d (a + 1) i (omega arith) ∙ rw (t .body .held i y z, t .flat)) in rw empty (refl, refl))))
+      (λ i y z. let empty = no-more-of (nestsTo d (a + 1) i) (to-count d (a + 1) i (omega arith) ∙ rw (t .body .held i y z, t .flat)) in rw empty (refl, refl)))))
       (λ t y at matches. rest t y matches at))
 
-  -- the tables among the last n items, fewer than m
-  walks-tables : (m a n : ℕ) (κ : Known) (s : Slots) (q : ℕ) → n < m → a + n ≡ itemCount d → Run d a (itemCount d) (top d) → Same d κ a → Matches s κ → At d img p a s q
+  -- the tables among the last n items
+  abbrev WalksLast : (a n : ℕ) → Type 0
+  WalksLast a n = (κ : Known) (s : Slots) (q : ℕ) → a + n ≡ itemCount d → Run d a (itemCount d) (top d) → Same d κ a → Matches s κ → At d img p a s q
       → WalksAll a (namesTables (tablesOf d n 0 a) v) (layTables (tablesOf d n 0 a) img s q)
+
+  walks-none : (a : ℕ) → WalksLast a 0
   unfolding layTables namesTables strip Every
-  walks-tables zero a n κ s q few long run same g here = absurd (omega arith)
-  walks-tables (suc m) a zero κ s q few long run same g here =
+  walks-none a κ s q long run same g here =
       let e : itemCount d ≡ a = omega arith in
       rw (tables-none d a) (record { here = rw e here; inside = λ i x y. absurd (omega arith); starts = tt; ends = tt; names = refl; dimensions = tt })
-  walks-tables (suc m) a (suc n) κ s q few long run same g here =
-      let t = table-at a κ (omega arith) run same in
+
+  walks-last : (a n : ℕ) → WalksLast a n
+  walks-last =
+      by-items d WalksLast walks-none
+      (λ a n rest κ s q long run same g here.
+      let t = table-at p a κ (omega arith) run same in
       let ends = t .ends in
-      walks-table a n κ s q long t g here
-      (λ u x g′ here′. walks-tables m (endOf d a) (n - nested (fieldsAt d a)) _ u x (omega arith) (omega arith) (rest-body p run (omega arith)) (t .after) g′ here′)
+      let there : a + 1 + nested (fieldsAt d a) ≡ endOf d a = omega arith in
+      walks-table a n κ s q long t g here (λ u x g′ here′. rw there at rest _ u x (omega arith) (rest-body p run (omega arith)) (t .after) g′ here′))
 
   -- from octet 0, no dimension read
   pub walks-all : WalksAll 0 (namesTables (treeOf d) v) (layOut d img)
   unfolding layOut treeOf reached octetsOf numberOf
   walks-all =
-      walks-tables (itemCount d + 1) 0 (itemCount d) noneKnown (λ k. unread) 0 (omega arith) (omega arith) (whole-run d) (λ j some. sym (slot-none d j)) (record { octets = λ k. refl }) refl
+      walks-last 0 (itemCount d) noneKnown (λ k. unread) 0 (omega arith) (whole-run d) (λ j some. sym (slot-none d j)) (record { octets = λ k. refl }) refl
 
   -- THE NAMES OF ALL TABLES
-  names-table : (a n : ℕ) (κ : Known) → a + suc n ≡ itemCount d → TableAt a κ
+  names-table : (a n : ℕ) (κ : Known) → a + suc n ≡ itemCount d → TableAt d a κ
       → Names d v (endOf d a) (itemCount d) (namesTables (tablesOf d (n - nested (fieldsAt d a)) 0 (endOf d a)) v) → Names d v a (itemCount d) (namesTables (tablesOf d (suc n) 0 a) v)
   unfolding namesTables
   names-table a n κ long t rest =
@@ -189,21 +136,24 @@ module _ (d img : List ℕ) (p : PassedLaws d) where
       (names-append d v a (endOf d a) (itemCount d) (namesBody (bodyAt 4 d (a + 1) (f .first)) v) (namesTables (tablesOf d (n - nested f) 0 (endOf d a)) v) (omega arith) ends
       (λ i x y. from-after d (p .nest) a i ends x)
       (names-from d v a (a + 1) (endOf d a) (namesBody (bodyAt 4 d (a + 1) (f .first)) v) (omega arith) (λ i x y. from-other d a i (t .flat) (omega arith))
-      (λ i x y element. other i x element (ℕ-discrete i a)) body) rest)
-    where
-      other : (i : ℕ) → a ≤ i → isElement (fieldsAt d i) ≡ true → Dec (i ≡ a) → a + 1 ≤ i
-      other i x element (yes e) = absurd (false≢true (sym (t .element) ∙ rw e at element))
-      other i x element (no e) = omega arith
+      (λ i x y element. element-after d a i (t .element) x element) body) rest)
 
-  names-tables : (m a n : ℕ) (κ : Known) → n < m → a + n ≡ itemCount d → Run d a (itemCount d) (top d) → Same d κ a → Names d v a (itemCount d) (namesTables (tablesOf d n 0 a) v)
+  abbrev NamesLast : (a n : ℕ) → Type 0
+  NamesLast a n = (κ : Known) → a + n ≡ itemCount d → Run d a (itemCount d) (top d) → Same d κ a → Names d v a (itemCount d) (namesTables (tablesOf d n 0 a) v)
+
+  names-none : (a : ℕ) → NamesLast a 0
   unfolding namesTables Every Sorted
-  names-tables zero a n κ few long run same = absurd (omega arith)
-  names-tables (suc m) a zero κ few long run same = rw (tables-none d a) (record { each = tt; all = λ i xs x y element h. absurd (omega arith); sorted = tt })
-  names-tables (suc m) a (suc n) κ few long run same =
-      let t = table-at a κ (omega arith) run same in
+  names-none a κ long run same = rw (tables-none d a) (record { each = tt; all = λ i xs x y element h. absurd (omega arith); sorted = tt })
+
+  names-last : (a n : ℕ) → NamesLast a n
+  names-last =
+      by-items d NamesLast names-none
+      (λ a n rest κ long run same.
+      let t = table-at p a κ (omega arith) run same in
       let ends = t .ends in
-      names-table a n κ long t (names-tables m (endOf d a) (n - nested (fieldsAt d a)) _ (omega arith) (omega arith) (rest-body p run (omega arith)) (t .after))
+      let there : a + 1 + nested (fieldsAt d a) ≡ endOf d a = omega arith in
+      names-table a n κ long t (rw there at rest _ (omega arith) (rest-body p run (omega arith)) (t .after)))
 
   pub names-all : Names d v 0 (itemCount d) (namesTables (treeOf d) v)
   unfolding treeOf
-  names-all = names-tables (itemCount d + 1) 0 (itemCount d) noneKnown (omega arith) (omega arith) (whole-run d) (λ j some. sym (slot-none d j))
+  names-all = names-last 0 (itemCount d) noneKnown (omega arith) (whole-run d) (λ j some. sym (slot-none d j))

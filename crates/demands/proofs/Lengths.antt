@@ -1,41 +1,28 @@
 -- A body and an item of a passed description's tree are as long as specs/Walk says, where slots have the numbers v. Assumes nothing.
 use Prim.Native.Nat.{ℕ, zero, suc, _+_, _-_, _*_, _<_, _≤_}
-use mathlib.Core.Path.{_≡_, refl, _∙_, ap, ap₂, sym, subst}
+use mathlib.Core.Path.{_≡_, refl, _∙_, ap, ap₂, sym}
 use mathlib.Core.Bool.{Bool, true, false}
 use mathlib.Core.List.{List}
-use borrow.Author.Tests.{ltb-true, le-leb, eqb-true, ne-eqb}
+use borrow.Author.Tests.{ne-eqb}
 use native.Mathlib.Omega.{arith}
-use Rattle.meaning.specs.Basics.{if_then_else_, _<?_}
-use Rattle.meaning.specs.declared.Fields.{Fields}
-use Rattle.meaning.specs.Description.{fieldsAt, isElement, isArray, isChoice, nested}
-use Rattle.meaning.specs.Layout.{Node, Body, leaf, array, choice, branchesIn, ifBranches, branchesOf, taken, bodyIn, bodyAt, leafOctets}
+use Rattle.meaning.specs.Basics.{_<?_}
+use Rattle.meaning.specs.Description.{fieldsAt, isArray, isChoice, nested}
+use Rattle.meaning.specs.Layout.{branchesIn, ifBranches, branchesOf, taken, bodyIn, bodyAt, leafOctets}
 use Rattle.laying.specs.Sizes.{Numbers, value, bodySize, itemSize}
 use Rattle.laying.specs.Sound.{FitBody, FitNode}
 use Rattle.laying.specs.Tree.{innerAt, nodeAt}
 use Rattle.laying.proofs.Arms.{taken-size, taken-fit}
 use Rattle.laying.proofs.Nodes.{node-cases, choice-no-array}
-use Rattle.laying.proofs.Steps.{body-none, body-step}
+use Rattle.laying.proofs.Steps.{at-once, body-none, body-step, by-items}
 use Rattle.demands.proofs.Around.{bodyTaken, fit-step}
 use Rattle.demands.specs.Walk.{itemOctets, itemsOctets, bodyOctets, octetsOf}
 
 module _ (d : List ℕ) (v : Numbers) where
-  -- items that stand inside an item before them may be passed over at once
-  octets-skipped : (inner : ℕ → ℕ → ℕ) (n s at : ℕ) → itemsOctets inner d v n s at ≡ itemsOctets inner d v (n - s) 0 (at + s)
-  unfolding itemsOctets
-  octets-skipped inner zero zero at = refl
-  octets-skipped inner zero (suc s) at = let e : 0 - suc s ≡ 0 = omega arith in rw e
-  octets-skipped inner (suc n) zero at =
-      let e : suc n - 0 ≡ suc n = omega arith in
-      let f : at + 0 ≡ at = omega arith in rw (e, f)
-  octets-skipped inner (suc n) (suc s) at =
-      let e : suc n - suc s ≡ n - s = omega arith in
-      let f : at + suc s ≡ at + 1 + s = omega arith in rw (e, f) (octets-skipped inner n s (at + 1))
-
   -- a body is its first item and the rest
   octets-step : (l at n : ℕ) → bodyOctets (suc l) d v at (suc n)
       ≡ itemOctets (bodyOctets l d v) d v at + bodyOctets (suc l) d v (at + 1 + nested (fieldsAt d at)) (n - nested (fieldsAt d at))
   unfolding bodyOctets itemsOctets
-  octets-step l at n = ap (λ (x : ℕ). itemOctets (bodyOctets l d v) d v at + x) (octets-skipped (bodyOctets l d v) n (nested (fieldsAt d at)) (at + 1))
+  octets-step l at n = ap (λ (x : ℕ). itemOctets (bodyOctets l d v) d v at + x) (at-once (itemsOctets (bodyOctets l d v) d v) (λ s at. refl) (λ n s at. refl) n (nested (fieldsAt d at)) (at + 1))
 
   -- what is said of bodies one level down
   abbrev Below : (k l : ℕ) → Type 0
@@ -84,20 +71,16 @@ module _ (d : List ℕ) (v : Numbers) where
   unfolding bodySize
   octets-more k l at n h r = rw (body-step k d at n, octets-step l at n) (ap₂ _+_ h r)
 
-  -- of fewer than m items
-  octets-fewer : (k l : ℕ) → Below k l → (m at n : ℕ) → n < m → FitBody (bodyAt k d at n) → bodySize (bodyAt k d at n) v ≡ bodyOctets (suc l) d v at n
-  octets-fewer k l below zero at n few fit = absurd (omega arith)
-  octets-fewer k l below (suc m) at zero few fit = octets-none k l at
-  octets-fewer k l below (suc m) at (suc n) few fit =
-      let f = fit-step d k at n fit in
-      octets-more k l at n (node-octets k l at n below (f .0))
-      (octets-fewer k l below m (at + 1 + nested (fieldsAt d at)) (n - nested (fieldsAt d at)) (omega arith) (f .1))
+  octets-items : (k l : ℕ) → Below k l → (at n : ℕ) → FitBody (bodyAt k d at n) → bodySize (bodyAt k d at n) v ≡ bodyOctets (suc l) d v at n
+  octets-items k l below =
+      by-items d (λ at n. FitBody (bodyAt k d at n) → bodySize (bodyAt k d at n) v ≡ bodyOctets (suc l) d v at n) (λ at fit. octets-none k l at)
+      (λ at n rest fit. let f = fit-step d k at n fit in octets-more k l at n (node-octets k l at n below (f .0)) (rest (f .1)))
 
   body-octets : (k l at n : ℕ) → k < l → FitBody (bodyAt k d at n) → bodySize (bodyAt k d at n) v ≡ bodyOctets l d v at n
   unfolding innerAt FitBody
   body-octets k zero at n h = absurd (omega arith)
-  body-octets zero (suc l) at n h = octets-fewer zero l (λ a m fit. absurd (fit .0)) (n + 1) at n (omega arith)
-  body-octets (suc k) (suc l) at n h = octets-fewer (suc k) l (λ a m fit. body-octets k l a m (omega arith) fit) (n + 1) at n (omega arith)
+  body-octets zero (suc l) at n h = octets-items zero l (λ a m fit. absurd (fit .0)) at n
+  body-octets (suc k) (suc l) at n h = octets-items (suc k) l (λ a m fit. body-octets k l a m (omega arith) fit) at n
 
   -- an item at most four levels deep
   pub item-octets : (k at n : ℕ) → k ≤ 4 → FitNode (nodeAt k d at n) → itemSize (nodeAt k d at n) v ≡ octetsOf d v at

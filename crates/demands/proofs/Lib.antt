@@ -39,7 +39,6 @@ pub mod Surrounds
 pub mod Tables
 pub mod Tests
 pub mod Told
-pub mod Unique
 pub mod Walked
 pub mod Writable
 pub mod Writes

@@ -1,33 +1,33 @@
 -- The elements of a passed description's tree by name, where slots have the numbers v: in the tree's order, each is one that the items round it allow, each name that they allow is
 -- there, and those earlier in the list stand earlier by their ways. Body by body: of the items from `at` on. Assumes nothing.
 use Prim.Native.Nat.{ℕ, zero, suc, _+_, _-_, _<_, _≤_}
-use mathlib.Core.Path.{_≡_, refl, _∙_, ap, sym, subst}
-use mathlib.Core.Logic.{_⊎_, inl, inr}
-use mathlib.Core.Bool.{Bool, true, false, _&&_, _||_, and-eq-true-iff, or-true, false≢true, true≢false}
+use mathlib.Core.Path.{_≡_, refl, _∙_, ap, sym}
+use mathlib.Core.Logic.{inl, inr}
+use mathlib.Core.Bool.{Bool, true, false, and-eq-true-iff, or-true, false≢true}
 use mathlib.Core.List.{List, [], _∷_, _++_}
 use lib.ListN.{length}
 use borrow.Author.Tests.{ltb-true, lt-ltb, leb-true, le-leb, eqb-true}
 use native.Mathlib.Decide.{decLt, ℕ-discrete}
 use native.Mathlib.Omega.{arith}
-use Rattle.meaning.specs.Basics.{if_then_else_, _<?_, _≤?_}
+use Rattle.meaning.specs.Basics.{if_then_else_, _<?_}
 use Rattle.meaning.specs.declared.Fields.{Fields}
-use Rattle.meaning.specs.Description.{itemCount, fieldsAt, isTable, isElement, isArray, isChoice, nests, nested}
+use Rattle.meaning.specs.Description.{itemCount, fieldsAt, isElement, isArray, isChoice, nests, nested}
 use Rattle.meaning.specs.Layout.{Node, Body, Arms, Tables, leaf, array, choice, stray, done, more, lastArm, arm, noMore, table, strayTable, leafOctets}
-use Rattle.meaning.specs.Layout.{Branches, otherwise, branch, branchesIn, ifBranches, branchesOf, taken, bodyIn, armsOf, bodyAt, tablesOf, treeOf}
+use Rattle.meaning.specs.Layout.{Branches, otherwise, branch, branchesIn, ifBranches, branchesOf, taken, bodyIn, armsOf, bodyAt}
 use Rattle.meaning.specs.Passed.{BodiesNest, endOf}
 use Rattle.meaning.proofs.Either.{tested}
 use Rattle.meaning.proofs.Ranges.{fields-range}
 use Rattle.laying.specs.Every.{Every}
 use Rattle.laying.specs.Sizes.{Numbers, value}
-use Rattle.laying.specs.Sound.{FitBody, FitNode, FitArms, FitTables}
+use Rattle.laying.specs.Sound.{FitBody, FitNode}
 use Rattle.laying.specs.Tree.{innerAt, nodeAt}
-use Rattle.laying.proofs.Among.{Among, every-among}
+use Rattle.laying.proofs.Among.{Among, among-left, among-right}
 use Rattle.laying.proofs.Arms.{picked, takenBody, taken-fit}
 use Rattle.laying.proofs.Every.{every-map, every-append}
 use Rattle.laying.proofs.Nodes.{node-cases, choice-no-array}
-use Rattle.laying.proofs.Steps.{body-none, body-step}
-use Rattle.demands.specs.Walk.{nestsIn, arraysOf, inChosen, allChosen, allBelow, way, Earlier}
-use Rattle.demands.proofs.Around.{bodyTaken, fit-room, fit-step, nestsFrom, from-here, from-nest, from-other, from-range, from-after, from-second}
+use Rattle.laying.proofs.Steps.{body-none, body-step, by-items}
+use Rattle.demands.specs.Walk.{arraysOf, inChosen, allChosen, allBelow, way, Earlier}
+use Rattle.demands.proofs.Around.{bodyTaken, fit-room, fit-step, nestsFrom, from-here, from-nest, from-range, from-after, from-second}
 
 -- THE NAMES, each with how long its element is
 pub record Name : Type 0 where
@@ -73,21 +73,17 @@ unfolding armsOf taken namesArms
 taken-names inner at x (otherwise c) v = refl
 taken-names inner at x (branch t c rest) v = picked (λ c. namesBody (bodyIn inner at c) v) (t x) c _ (taken-names inner at x rest v)
 
--- in one of two lists
-among-left : {A : Type 0} (x : A) (xs ys : List A) → Among x xs → Among x (xs ++ ys)
-unfolding Among
-among-left x [] ys m = absurd m
-among-left x (z ∷ xs) ys (inl e) = inl e
-among-left x (z ∷ xs) ys (inr m) = inr (among-left x xs ys m)
-
-among-right : {A : Type 0} (x : A) (xs ys : List A) → Among x ys → Among x (xs ++ ys)
-unfolding Among
-among-right x [] ys m = m
-among-right x (z ∷ xs) ys m = inr (among-right x xs ys m)
-
 -- an IF is no element
 pub choice-no-element : (f : Fields) → isChoice f ≡ true → isElement f ≡ false
 choice-no-element f is = let six = eqb-true (f .kind) 6 is in rw six
+
+-- an element from an item on that is none stands after it
+pub element-after : (d : List ℕ) (at i : ℕ) → isElement (fieldsAt d at) ≡ false → at ≤ i → isElement (fieldsAt d i) ≡ true → at + 1 ≤ i
+element-after d at i other l is = go (ℕ-discrete i at)
+  where
+    go : Dec (i ≡ at) → at + 1 ≤ i
+    go (yes e) = absurd (false≢true (sym other ∙ rw e at is))
+    go (no e) = omega arith
 
 -- WAYS
 -- the first number of a way lies from lo up to hi
@@ -172,10 +168,15 @@ module _ (d : List ℕ) (v : Numbers) where
   sorted-from : (at from e : ℕ) (ns : List Name) → ((i : ℕ) → from ≤ i → i < e → nestsFrom d at i ≡ nestsFrom d from i) → Every (Allowed from e) ns → Sorted from ns → Sorted at ns
   sorted-from at from e ns same = sorted-as at from (Allowed from e) (λ n h. rw (same (n .item) (h .low) (h .high))) ns
 
-  -- what is allowed from `from` on is allowed from `at` on
+  -- what is allowed among the items from `from` up to b is allowed among more of them, if what stands round them says so
+  allowed-as : (at from b e : ℕ) (n : Name) → at ≤ from → b ≤ e
+      → (from ≤ n .item → n .item < b → Named (nestsFrom d from (n .item)) (n .item) (n .subscripts) → Named (nestsFrom d at (n .item)) (n .item) (n .subscripts)) → Allowed from b n → Allowed at e n
+  allowed-as at from b e n l m say k =
+      record { low = omega (arith, k .low); high = omega (arith, k .high); element = k .element; named = say (k .low) (k .high) (k .named); long = k .long }
+
+  -- or if it is the same
   allowed-from : (at from e : ℕ) → at ≤ from → ((i : ℕ) → from ≤ i → i < e → nestsFrom d at i ≡ nestsFrom d from i) → (n : Name) → Allowed from e n → Allowed at e n
-  allowed-from at from e l same n k =
-      record { low = omega (arith, k .low); high = k .high; element = k .element; named = rw (same (n .item) (k .low) (k .high)) (k .named); long = k .long }
+  allowed-from at from e l same n = allowed-as at from e e n l (omega arith) (λ x y k. rw (same (n .item) x y) k)
 
   -- names from `from` on are names from `at` on
   pub names-from : (at from e : ℕ) (ns : List Name) → at ≤ from → ((i : ℕ) → from ≤ i → i < e → nestsFrom d at i ≡ nestsFrom d from i)
@@ -193,7 +194,7 @@ module _ (d : List ℕ) (v : Numbers) where
   names-append at mid e ns ms a b same h k =
       record {
         each = every-append (Allowed at e) ns ms
-            (every-map (Allowed at mid) (Allowed at e) (λ n g. record { low = g .low; high = omega (arith, g .high); element = g .element; named = g .named; long = g .long }) ns (h .each))
+            (every-map (Allowed at mid) (Allowed at e) (λ n. allowed-as at at mid e n (omega arith) b (λ x y k. k)) ns (h .each))
             (every-map (Allowed mid e) (Allowed at e) (allowed-from at mid e a same) ms (k .each));
         all = λ i xs x y element g. go i xs x y element g (decLt i mid);
         sorted = sorted-append at (Allowed at mid) (Allowed mid e) (λ n m x y. starts-earlier at mid e _ _
@@ -315,18 +316,17 @@ module _ (d : List ℕ) (v : Numbers) where
       names-array : at < e → isElement (fieldsAt d at) ≡ false → Names at e (repeatNames (value v (fieldsAt d at)) 0 ns)
       names-array l other =
           let r = repeats (value v (fieldsAt d at)) 0 (omega arith) in
-          record { each = every-map (Led 0) (Allowed at e) (λ n h. h .allowed) _ (r .each); all = λ i xs a b element h. go i xs (ℕ-discrete i at) a b element h r; sorted = r .sorted }
+          record {
+            each = every-map (Led 0) (Allowed at e) (λ n h. h .allowed) _ (r .each);
+            all = λ i xs a b element h. let l = element-after d at i other a element in first i xs l b element (rw (inside i l b) at h) r;
+            sorted = r .sorted;
+          }
         where
           -- a name without subscripts has no ARRAY round it
           first : (i : ℕ) (xs : List ℕ) → at + 1 ≤ i → i < e → isElement (fieldsAt d i) ≡ true → Named (at ∷ nestsFrom d (at + 1) i) i xs
               → Repeats (value v (fieldsAt d at)) 0 (repeatNames (value v (fieldsAt d at)) 0 ns) → HasName i xs (repeatNames (value v (fieldsAt d at)) 0 ns)
           first i [] a b element h r = absurd (no-subscripts i (h .many))
           first i (x ∷ xs) a b element h r = let k = named-over x i xs h in r .all i x xs a b element (k .1) (omega arith) (omega (arith, k .0))
-
-          go : (i : ℕ) (xs : List ℕ) → Dec (i ≡ at) → at ≤ i → i < e → isElement (fieldsAt d i) ≡ true → Named (nestsFrom d at i) i xs
-              → Repeats (value v (fieldsAt d at)) 0 (repeatNames (value v (fieldsAt d at)) 0 ns) → HasName i xs (repeatNames (value v (fieldsAt d at)) 0 ns)
-          go i xs (yes z) a b element h r = absurd (false≢true (sym other ∙ rw z at element))
-          go i xs (no z) a b element h r = first i xs (omega arith) b element (rw (inside i (omega arith) b) at h) r
 
   -- ONE ELEMENT
   names-leaf : (at : ℕ) → isElement (fieldsAt d at) ≡ true
@@ -371,15 +371,12 @@ module _ (d : List ℕ) (v : Numbers) where
     names-choice : {ns : List Name} → Names b c ns → Names at e ns
     names-choice {ns} h =
         record {
-          each = every-map (Allowed b c) (Allowed at e) (λ n k.
-              record { low = omega (arith, k .low); high = omega (arith, k .high); element = k .element; named = named-in (n .item) _ (k .low) (k .high) (k .named); long = k .long }) ns (h .each);
-          all = λ i xs x y element k. go i xs (ℕ-discrete i at) x y element k;
+          each = every-map (Allowed b c) (Allowed at e) (λ n. allowed-as at b c e n (omega arith) ends (named-in (n .item) (n .subscripts))) ns (h .each);
+          all = λ i xs x y element k.
+              let t = taken-in i xs (omega (arith, element-after d at i other x element)) y k in
+              h .all i xs (t .0) (t .1) element (named-out i xs (t .0) (t .1) k);
           sorted = sorted-as at b (Allowed b c) (λ n k. way-in n (k .low) (k .high)) ns (h .each) (h .sorted);
         }
-      where
-        go : (i : ℕ) (xs : List ℕ) → Dec (i ≡ at) → at ≤ i → i < e → isElement (fieldsAt d i) ≡ true → Named (nestsFrom d at i) i xs → HasName i xs ns
-        go i xs (yes z) x y element k = absurd (false≢true (sym other ∙ rw z at element))
-        go i xs (no z) x y element k = let t = taken-in i xs (omega arith) y k in h .all i xs (t .0) (t .1) element (named-out i xs (t .0) (t .1) k)
 
   -- BODIES of a passed description
   module _ (nest : BodiesNest d) where
@@ -450,17 +447,15 @@ module _ (d : List ℕ) (v : Numbers) where
         (names-append at (at + 1 + u) (at + 1 + u + (n - u)) (namesNode (nodeAt k d at n) v) (namesBody (bodyAt k d (at + 1 + u) (n - u)) v) (omega arith) (omega arith)
         (λ i a b. from-after d nest at i (omega arith) (omega arith) ∙ rw end) (rw end h) rest)
 
-    -- a body of fewer than m items
-    names-fewer : (k : ℕ) → Below k → (m at n : ℕ) → n < m → at + n ≤ itemCount d → FitBody (bodyAt k d at n) → Names at (at + n) (namesBody (bodyAt k d at n) v)
-    names-fewer k below zero at n few room fit = absurd (omega arith)
-    names-fewer k below (suc m) at zero few room fit = names-empty k at
-    names-fewer k below (suc m) at (suc n) few room fit =
+    names-items : (k : ℕ) → Below k → (at n : ℕ) → at + n ≤ itemCount d → FitBody (bodyAt k d at n) → Names at (at + n) (namesBody (bodyAt k d at n) v)
+    names-items k below =
+        by-items d (λ at n. at + n ≤ itemCount d → FitBody (bodyAt k d at n) → Names at (at + n) (namesBody (bodyAt k d at n) v)) (λ at room fit. names-empty k at)
+        (λ at n rest room fit.
         let f = fit-step d k at n fit in
         let l = fit-room d k at n (f .0) in
-        names-more k at n l room (names-node k at n below (omega arith) (f .0))
-        (names-fewer k below m (at + 1 + nested (fieldsAt d at)) (n - nested (fieldsAt d at)) (omega arith) (omega arith) (f .1))
+        names-more k at n l room (names-node k at n below (omega arith) (f .0)) (rest (omega arith) (f .1)))
 
     pub names-body : (k at n : ℕ) → at + n ≤ itemCount d → FitBody (bodyAt k d at n) → Names at (at + n) (namesBody (bodyAt k d at n) v)
     unfolding innerAt FitBody
-    names-body zero at n = names-fewer zero (λ a m room f. absurd (f .0)) (n + 1) at n (omega arith)
-    names-body (suc k) at n = names-fewer (suc k) (λ a m room f. names-body k a m room f) (n + 1) at n (omega arith)
+    names-body zero at n = names-items zero (λ a m room f. absurd (f .0)) at n
+    names-body (suc k) at n = names-items (suc k) (names-body k) at n

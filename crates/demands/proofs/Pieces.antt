@@ -1,20 +1,17 @@
 -- The pieces of a passed description: what is no piece moves nothing; a slot's number, once read, stays; a piece that ends inside the image, or is the first that doesn't. Assumes
 -- nothing.
-use Prim.Native.Nat.{ℕ, zero, suc, _+_, _-_, _*_, _<_, _≤_}
-use mathlib.Core.Path.{_≡_, refl, _∙_, ap, ap₂, sym, subst}
-use mathlib.Core.Logic.{_⊎_, inl, inr}
-use mathlib.Core.Bool.{Bool, true, false, not, cond, _&&_, _||_, and-eq-true-iff, or-true, false≢true, true≢false, and-false}
-use mathlib.Core.List.{List, [], _∷_, _++_}
-use lib.Dec.{eqb}
+use Prim.Native.Nat.{ℕ, zero, suc, _+_, _<_, _≤_}
+use mathlib.Core.Path.{_≡_, refl, _∙_, ap, sym, subst}
+use mathlib.Core.Bool.{Bool, true, false, cond, and-false}
+use mathlib.Core.List.{List, [], _∷_}
 use lib.ListN.{length}
-use borrow.Author.Tests.{ltb-true, ltb-false, lt-ltb, le-ltb, leb-true, le-leb, eqb-true, eqb-false, eq-eqb, ne-eqb}
-use native.Mathlib.Decide.{decLt, ℕ-discrete}
+use borrow.Author.Tests.{ltb-true, lt-ltb, le-ltb, eq-eqb, ne-eqb}
+use native.Mathlib.Decide.{decLt}
 use native.Mathlib.Omega.{arith}
-use Rattle.meaning.specs.Basics.{if_then_else_, _=?_, _<?_, _≤?_}
-use Rattle.meaning.specs.declared.Fields.{Fields}
-use Rattle.meaning.specs.Description.{itemCount, fieldsAt, isElement, isArray, isChoice, nests, nested, refers, slotOctets}
+use Rattle.meaning.specs.Basics.{if_then_else_}
+use Rattle.meaning.specs.Description.{itemCount, fieldsAt, refers, slotOctets}
 use Rattle.meaning.specs.Layout.{numberAt, bitRange}
-use Rattle.meaning.specs.Passed.{PassedLaws, endOf}
+use Rattle.meaning.specs.Passed.{PassedLaws}
 use Rattle.meaning.proofs.Either.{tested}
 use Rattle.meaning.proofs.Nesting.{upward}
 use Rattle.meaning.proofs.Ranges.{fields-range}
@@ -23,7 +20,7 @@ use Rattle.laying.specs.Every.{Every}
 use Rattle.laying.specs.Outcomes.{setNumber}
 use Rattle.laying.specs.Sizes.{Numbers, value}
 use Rattle.laying.proofs.Every.{every-map}
-use Rattle.demands.specs.Walk.{nestsIn, nestsRound, arraysOf, inChosen, allChosen, isChosen, isNone, isPiece, octetsOf, Reached, pastItem, reached, octetBefore, numbersBefore, numbersIn, runsPast}
+use Rattle.demands.specs.Walk.{nestsRound, inChosen, allChosen, isChosen, isPiece, octetsOf, Reached, pastItem, reached, octetBefore, numbersBefore, numbersIn, runsPast}
 use Rattle.demands.proofs.Around.{from-range, round-from}
 
 -- SETTING A SLOT
@@ -50,6 +47,21 @@ module _ (d img : List ℕ) where
   pub no-runs : (i : ℕ) → isPiece d (numbersBefore d img i) i ≡ false → runsPast d img i ≡ false
   unfolding runsPast
   no-runs i e = rw e
+
+  -- NO PIECE FROM ITEM a UP TO e RUNS PAST the image's end
+  abbrev pub Inside : (a e : ℕ) → Type 0
+  Inside a e = (i : ℕ) → a ≤ i → i < e → runsPast d img i ≡ false
+
+  pub inside-one : (a : ℕ) → runsPast d img a ≡ false → Inside a (a + 1)
+  inside-one a h i l m = let e : i ≡ a = omega arith in rw e h
+
+  -- up to b, and from there on
+  pub inside-both : (a b e : ℕ) → Inside a b → Inside b e → Inside a e
+  inside-both a b e h k i l m = go (decLt i b)
+    where
+      go : Dec (i < b) → runsPast d img i ≡ false
+      go (yes y) = h i l y
+      go (no y) = k i (omega arith) m
 
   pub no-pieces : (a b : ℕ) → a ≤ b → ((i : ℕ) → a ≤ i → i < b → isPiece d (numbersBefore d img i) i ≡ false) → reached d img b ≡ reached d img a
   no-pieces a b l h =

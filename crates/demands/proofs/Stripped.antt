@@ -1,7 +1,7 @@
 -- The names of what is laid: inside an ARRAY a sound body lays the elements that its names say, and sets no slot; and slots that agree on what is known give the same names.
 -- Assumes nothing.
-use Prim.Native.Nat.{ℕ, zero, suc, _+_, _-_, _<_, _≤_}
-use mathlib.Core.Path.{_≡_, refl, _∙_, ap, ap₂, sym, subst}
+use Prim.Native.Nat.{ℕ, zero, suc, _+_, _-_, _<_}
+use mathlib.Core.Path.{_≡_, refl, _∙_, ap, ap₂}
 use mathlib.Core.Bool.{Bool, true, false, cond}
 use mathlib.Core.List.{List, [], _∷_, _++_}
 use borrow.Author.Tests.{ltb-true}
@@ -10,11 +10,11 @@ use Rattle.meaning.specs.Basics.{if_then_else_, _=?_}
 use Rattle.meaning.specs.declared.Fields.{Fields}
 use Rattle.meaning.specs.Description.{refers}
 use Rattle.meaning.specs.Layout.{Node, Body, Arms, leaf, array, choice, stray, done, more, lastArm, arm, leafOctets, bitRange}
-use Rattle.meaning.specs.Layout.{Slots, setSlot, Placed, Laid, laid, stopped, also, andThen, inImage, placed, sizeFrom, under, asElement, repeated, layBody, layNode, layArms}
+use Rattle.meaning.specs.Layout.{Slots, setSlot, Placed, Laid, laid, stopped, also, andThen, inImage, placed, under, asElement, repeated, layBody, layNode, layArms}
 use Rattle.meaning.proofs.Either.{tested}
 use Rattle.laying.specs.Sizes.{Numbers, value}
 use Rattle.laying.specs.Slots.{numbersOf, Matches}
-use Rattle.laying.specs.Sound.{Known, GoodReference, SoundBody, SoundNode, SoundArms, afterNode}
+use Rattle.laying.specs.Sound.{Known, GoodReference, SoundBody, SoundNode, SoundArms}
 use Rattle.laying.proofs.Bodies.{quiet-node}
 use Rattle.laying.proofs.Whole.{value-is}
 use Rattle.demands.proofs.Naming.{Name, underNames, repeatNames, namesBody, namesNode, namesArms}

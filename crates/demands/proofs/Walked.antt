@@ -5,19 +5,16 @@ use mathlib.Core.Path.{_≡_, refl, _∙_, ap, ap₂, sym, subst}
 use mathlib.Core.Bool.{Bool, true, false, _&&_, _||_, and-eq-true-iff, or-true, false≢true, and-false}
 use mathlib.Core.List.{List, [], _∷_, _++_}
 use lib.ListN.{length}
-use borrow.Author.Tests.{leb-true, leb-false, eqb-true, eq-eqb, ne-eqb, le-leb, lt-leb, lt-ltb, le-ltb, ltb-true}
-use native.Mathlib.Decide.{decLt}
+use borrow.Author.Tests.{leb-true, leb-false, eq-eqb, ne-eqb, le-leb, lt-leb, lt-ltb, le-ltb}
 use native.Mathlib.Omega.{arith}
-use Rattle.meaning.specs.Basics.{if_then_else_, _=?_, _<?_, _≤?_}
+use Rattle.meaning.specs.Basics.{if_then_else_, _<?_, _≤?_}
 use Rattle.meaning.specs.declared.Fields.{Fields}
-use Rattle.meaning.specs.declared.Inner.{Inner}
 use Rattle.meaning.specs.declared.Round.{Round}
 use Rattle.meaning.specs.Description.{itemCount, fieldsAt, isElement, isArray, isChoice, nests, nested, inside, slotOctets}
-use Rattle.meaning.specs.Layout.{Node, Body, leaf, array, choice, stray, done, more, branchesIn, ifBranches, branchesOf, taken, bodyIn, armsOf, onlyBody, bodyAt, leafOctets, numberAt}
-use Rattle.meaning.specs.Layout.{Slots, setSlot, holds, Placed, Stop, fault, short, Laid, laid, stopped, also, andThen, inImage, placed, sizeFrom, repeated, layBody, layNode, layArms}
+use Rattle.meaning.specs.Layout.{Body, branchesIn, ifBranches, branchesOf, taken, bodyIn, onlyBody, bodyAt, leafOctets, numberAt}
+use Rattle.meaning.specs.Layout.{Slots, Placed, fault, short, Laid, laid, stopped, also, andThen, inImage, placed, sizeFrom, repeated, layBody, layNode}
 use Rattle.meaning.specs.Passed.{PassedLaws, endOf}
 use Rattle.meaning.proofs.Either.{tested}
-use Rattle.meaning.proofs.Nesting.{upward}
 use Rattle.meaning.proofs.Ranges.{fields-range, sets-none}
 use Rattle.meaning.proofs.Rules.{slot-step}
 use Rattle.laying.specs.Every.{Every}
@@ -25,25 +22,25 @@ use Rattle.laying.specs.Outcomes.{setNumber}
 use Rattle.laying.specs.Rows.{Spot, bodyRow}
 use Rattle.laying.specs.Sizes.{Numbers, value, bodySize, itemSize}
 use Rattle.laying.specs.Slots.{numbersOf, Matches}
-use Rattle.laying.specs.Sound.{Known, setKnown, SoundBody, SoundNode, SoundArms, afterNode, afterBody, FitBody, FitNode}
+use Rattle.laying.specs.Sound.{Known, setKnown, SoundBody, SoundNode, afterNode, afterBody, FitNode}
 use Rattle.laying.specs.Tree.{innerAt, nodeAt}
-use Rattle.laying.proofs.Arms.{takenBody, taken-lay, taken-sound}
+use Rattle.laying.proofs.Arms.{taken-lay, taken-sound}
 use Rattle.laying.proofs.Branches.{only-run}
 use Rattle.laying.proofs.Bodies.{Same, same-next, quiet-body}
 use Rattle.laying.proofs.Every.{every-map, every-append}
 use Rattle.laying.proofs.Nested.{Run, first-ends, second-body, rest-body, still}
 use Rattle.laying.proofs.Nodes.{node-cases, choice-no-array}
 use Rattle.laying.proofs.Reaches.{numbers-set, matches-leaf}
-use Rattle.laying.proofs.Rising.{RisesBody, RisesNode, rises-at}
-use Rattle.laying.proofs.Steps.{body-none, body-step}
+use Rattle.laying.proofs.Rising.{RisesNode, rises-at}
+use Rattle.laying.proofs.Steps.{body-none, body-step, by-items}
 use Rattle.laying.proofs.Tops.{fit-node}
 use Rattle.laying.proofs.Whole.{Whole, value-is, w-array, w-body}
 use Rattle.demands.specs.Walk.{nestsRound, arraysOf, inChosen, allChosen, isChosen, isNone, isPiece, octetsOf, Reached, reached, octetBefore, numbersBefore, numbersIn, runsPast}
-use Rattle.demands.proofs.Around.{bodyTaken, nestsTo, to-nest, to-other, to-past, to-from, from-nest, nested-ends, fit-room, fit-step}
+use Rattle.demands.proofs.Around.{bodyTaken, nestsTo, to-nest, to-past, to-from, from-nest, nested-ends, fit-room}
 use Rattle.demands.proofs.Lengths.{item-octets, element-octets}
 use Rattle.demands.proofs.Naming.{Name, namesBody, namesNode, taken-names, repeatNames, choice-no-element}
-use Rattle.demands.proofs.Pieces.{set-same, no-piece, no-pieces, no-runs, piece-reached, piece-inside, piece-past, number-stays, is-chosen}
-use Rattle.demands.proofs.Stripped.{nameIn, strip, strip-append, Strips, s-repeated, s-body, Agree, value-agrees, names-agree}
+use Rattle.demands.proofs.Pieces.{set-same, no-piece, no-pieces, no-runs, Inside, inside-one, inside-both, piece-reached, piece-inside, piece-past, number-stays, is-chosen}
+use Rattle.demands.proofs.Stripped.{strip, strip-append, Strips, s-repeated, s-body, Agree, value-agrees, names-agree}
 
 -- slot 0 is none
 set-nothing : (q n x : ℕ) (w : Numbers) → _≡_ {A = Reached} (record { octet = q + n; numbers = setNumber 0 x w }) (record { octet = q + n; numbers = w })
@@ -124,7 +121,7 @@ module _ (d img : List ℕ) (p : PassedLaws d) where
 
   pub record Walked (a e : ℕ) (κ : Known) (ns : List Name) (ps : List Placed) (t : Slots) (q : ℕ) : Type 0 where
     pub here : At e t q
-    pub inside : (i : ℕ) → a ≤ i → i < e → runsPast d img i ≡ false
+    pub inside : Inside d img a e
     pub matches : Matches t κ
     pub names : strip ps ≡ ns
     pub dimensions : Every DimensionIs ps
@@ -134,27 +131,24 @@ module _ (d img : List ℕ) (p : PassedLaws d) where
     pub high : i < e
     pub at : octetBefore d img i ≡ x
     pub past : runsPast d img i ≡ true
-    pub before : (j : ℕ) → a ≤ j → j < i → runsPast d img j ≡ false
+    pub before : Inside d img a i
 
   abbrev pub Walks : (a e : ℕ) → Known → List Name → Laid → Type 0
   Walks a e κ ns (laid ps t q) = Walked a e κ ns ps t q
   Walks a e κ ns (stopped ps (short i x)) = FirstIn a e i x
   Walks a e κ ns (stopped ps (fault x i)) = ⊥
 
-  -- items before that are no pieces, and after
-  walks-before : (a b e : ℕ) (κ : Known) (ns : List Name) (o : Laid) → ((i : ℕ) → a ≤ i → i < b → runsPast d img i ≡ false) → a ≤ b → Walks b e κ ns o → Walks a e κ ns o
+  -- with items before of which none runs past, and with items after
+  pub first-before : (a b e i x : ℕ) → a ≤ b → Inside d img a b → FirstIn b e i x → FirstIn a e i x
+  first-before a b e i x l none h = record { low = omega (arith, h .low); high = h .high; at = h .at; past = h .past; before = inside-both d img a b i none (h .before) }
+
+  pub first-after : (a b e i x : ℕ) → b ≤ e → FirstIn a b i x → FirstIn a e i x
+  first-after a b e i x l h = record { low = h .low; high = omega (arith, h .high); at = h .at; past = h .past; before = h .before }
+
+  pub walks-before : (a b e : ℕ) (κ : Known) (ns : List Name) (o : Laid) → Inside d img a b → a ≤ b → Walks b e κ ns o → Walks a e κ ns o
   walks-before a b e κ ns (laid ps t q) none l h =
-      record { here = h .here; inside = λ i m n. joined none (h .inside) i m n (decLt i b); matches = h .matches; names = h .names; dimensions = h .dimensions }
-    where
-      joined : {P : ℕ → Type 0} → ((i : ℕ) → a ≤ i → i < b → P i) → ((i : ℕ) → b ≤ i → i < e → P i) → (i : ℕ) → a ≤ i → i < e → Dec (i < b) → P i
-      joined f g i m n (yes y) = f i m y
-      joined f g i m n (no y) = g i (omega arith) n
-  walks-before a b e κ ns (stopped ps (short i x)) none l h =
-      record { low = omega (arith, h .low); high = h .high; at = h .at; past = h .past; before = λ j m n. joined j m n (decLt j b) }
-    where
-      joined : (j : ℕ) → a ≤ j → j < i → Dec (j < b) → runsPast d img j ≡ false
-      joined j m n (yes y) = none j m y
-      joined j m n (no y) = h .before j (omega arith) n
+      record { here = h .here; inside = inside-both d img a b e none (h .inside); matches = h .matches; names = h .names; dimensions = h .dimensions }
+  walks-before a b e κ ns (stopped ps (short i x)) none l h = first-before a b e i x l none h
   walks-before a b e κ ns (stopped ps (fault x i)) none l h = h
 
   walks-after : (a b e : ℕ) (κ : Known) (ns : List Name) (o : Laid) → ((i : ℕ) → b ≤ i → i < e → isPiece d (numbersBefore d img i) i ≡ false) → b ≤ e
@@ -162,16 +156,12 @@ module _ (d img : List ℕ) (p : PassedLaws d) where
   walks-after a b e κ ns (laid ps t q) none l h =
       record {
         here = no-pieces d img b e l none ∙ h .here;
-        inside = λ i m n. joined i m n (decLt i b);
+        inside = inside-both d img a b e (h .inside) (λ i m n. no-runs d img i (none i m n));
         matches = h .matches;
         names = h .names;
         dimensions = h .dimensions;
       }
-    where
-      joined : (i : ℕ) → a ≤ i → i < e → Dec (i < b) → runsPast d img i ≡ false
-      joined i m n (yes y) = h .inside i m y
-      joined i m n (no y) = no-runs d img i (none i (omega arith) n)
-  walks-after a b e κ ns (stopped ps (short i x)) none l h = record { low = h .low; high = omega (arith, h .high); at = h .at; past = h .past; before = h .before }
+  walks-after a b e κ ns (stopped ps (short i x)) none l h = first-after a b e i x l h
   walks-after a b e κ ns (stopped ps (fault x i)) none l h = h
 
   -- one after another
@@ -182,21 +172,20 @@ module _ (d img : List ℕ) (p : PassedLaws d) where
     where
       go : (u : Laid) → Walks b e κ′ ms u → Walks a e κ′ (ns ++ ms) (also ps u)
       go (laid qs u r) w =
-          let all = walks-before a b e κ′ ms (laid qs u r) (h .inside) l w in
           record {
             here = w .here;
-            inside = all .inside;
+            inside = inside-both d img a b e (h .inside) (w .inside);
             matches = w .matches;
             names = strip-append ps qs ∙ ap₂ _++_ (h .names) (w .names);
             dimensions = every-append DimensionIs ps qs (h .dimensions) (w .dimensions);
           }
-      go (stopped qs (short i x)) w = walks-before a b e κ′ ms (stopped qs (short i x)) (h .inside) l w
+      go (stopped qs (short i x)) w = first-before a b e i x l (h .inside) w
       go (stopped qs (fault x i)) w = w
-  walks-then a b e κ κ′ ns ms (stopped ps (short i x)) next l m h k = record { low = h .low; high = omega (arith, h .high); at = h .at; past = h .past; before = h .before }
+  walks-then a b e κ κ′ ns ms (stopped ps (short i x)) next l m h k = first-after a b e i x m h
   walks-then a b e κ κ′ ns ms (stopped ps (fault x i)) next l m h k = h
 
   -- A PIECE at item a, of n octets from q on, that sets its slot to the number there
-  module _ (a e : ℕ) (s : Slots) (q n : ℕ) (here : At a s q) (piece : isPiece d (numbersBefore d img a) a ≡ true) (long : octetsOf d (numbersOf s) a ≡ n) where
+  module _ (a : ℕ) (s : Slots) (q n : ℕ) (here : At a s q) (piece : isPiece d (numbersBefore d img a) a ≡ true) (long : octetsOf d (numbersOf s) a ≡ n) where
     octet-here : octetBefore d img a ≡ q
     octet-here = ap (λ (r : Reached). r .octet) here
 
@@ -218,8 +207,14 @@ module _ (d img : List ℕ) (p : PassedLaws d) where
     is-short l =
         record { low = omega arith; high = omega arith; at = octet-here; past = piece-past d img a piece (omega (arith, end-here)); before = λ j m r. absurd (omega arith) }
 
-  only-item : (a : ℕ) → runsPast d img a ≡ false → (i : ℕ) → a ≤ i → i < a + 1 → runsPast d img i ≡ false
-  only-item a h i l m = let e : i ≡ a = omega arith in rw e h
+    -- laid, it comes to one or the other
+    walks-piece : (κ : Known) (ns : List Name) (ps : List Placed) (t : Slots) → At (a + 1) t (q + n) → Matches t κ → strip ps ≡ ns → Every DimensionIs ps
+        → Walks a (a + 1) κ ns (inImage false (length img) a q (laid ps t (q + n)))
+    unfolding inImage
+    walks-piece κ ns ps t at m names dimensions =
+        tested (Walks a (a + 1) κ ns) (q + n ≤? length img) (laid ps t (q + n)) (stopped [] (short a q))
+        (λ e. record { here = at; inside = inside-one d img a (in-image (leb-true (q + n) (length img) e)); matches = m; names = names; dimensions = dimensions })
+        (λ e. is-short (leb-false (q + n) (length img) e))
 
   -- a UINT, BLOCK or SET
   walks-leaf : (a : ℕ) (s : Slots) (κ : Known) (q : ℕ) → At a s q → Matches s κ → a < itemCount d → isPiece d (numbersBefore d img a) a ≡ true
@@ -227,28 +222,22 @@ module _ (d img : List ℕ) (p : PassedLaws d) where
       → Walks a (a + 1) (setKnown (fieldsAt d a .sets) (fieldsAt d a .octets) κ)
       (record { item = a; subscripts = []; octets = leafOctets (fieldsAt d a) (value v (fieldsAt d a)) } ∷ [])
       (inImage false (length img) a q (placed a (fieldsAt d a) img s q (leafOctets (fieldsAt d a) (value (numbersOf s) (fieldsAt d a)))))
-  unfolding inImage placed strip Every
+  unfolding placed strip Every
   walks-leaf a s κ q here m l piece two four owns same =
       let f = fieldsAt d a in
       let n = leafOctets f (value (numbersOf s) f) in
       let long = element-octets d (numbersOf s) 4 a two four in
-      let past = past-piece a (a + 1) s q n here piece long in
-      tested (Walks a (a + 1) (setKnown (f .sets) (f .octets) κ) (record { item = a; subscripts = []; octets = leafOctets f (value v f) } ∷ [])) (q + n ≤? length img)
-      (laid (record { item = a; slot = f .sets; subscripts = []; start = q; size = n } ∷ []) (setSlot (f .sets) (holds n (numberAt img q n)) s) (q + n)) (stopped [] (short a q))
-      (λ t.
-      record {
-        here = past ∙ ap (λ (w : Numbers). record { octet = q + n; numbers = w }) (sym (numbers-set (f .sets) n (numberAt img q n) s));
-        inside = only-item a (in-image a (a + 1) s q n here piece long (leb-true (q + n) (length img) t));
-        matches = matches-leaf f (value (numbersOf s) f) (numberAt img q n) s κ (f .sets) m owns;
-        names = ap (λ (x : ℕ). record { item = a; subscripts = []; octets = leafOctets f x } ∷ []) same;
-        dimensions = (λ some. sym (read-on f n some (ap (λ (r : Reached). r .numbers (f .sets)) past)), tt);
-      })
-      (λ t. is-short a (a + 1) s q n here piece long (leb-false (q + n) (length img) t))
+      let past = past-piece a s q n here piece long in
+      walks-piece a s q n here piece long (setKnown (f .sets) (f .octets) κ) _ _ _
+      (past ∙ ap (λ (w : Numbers). record { octet = q + n; numbers = w }) (sym (numbers-set (f .sets) n (numberAt img q n) s)))
+      (matches-leaf f (value (numbersOf s) f) (numberAt img q n) s κ (f .sets) m owns)
+      (ap (λ (x : ℕ). record { item = a; subscripts = []; octets = leafOctets f x } ∷ []) same)
+      (λ some. sym (read-on n some (ap (λ (r : Reached). r .numbers (f .sets)) past)), tt)
     where
       -- what it sets is what its slot has from there on
-      read-on : (f : Fields) (n : ℕ) → 0 < fieldsAt d a .sets
+      read-on : (n : ℕ) → 0 < fieldsAt d a .sets
           → numbersBefore d img (a + 1) (fieldsAt d a .sets) ≡ setNumber (fieldsAt d a .sets) (numberAt img q n) (numbersOf s) (fieldsAt d a .sets) → v (fieldsAt d a .sets) ≡ numberAt img q n
-      read-on f n some past =
+      read-on n some past =
           let k = fieldsAt d a .sets in
           let set : 0 < slotOctets d (a + 1) k = rw (slot-step d a k, eq-eqb k k refl) (fields-range d a .some-octets some) in
           number-stays d img p k (a + 1) (itemCount d) some (omega arith) (omega arith) set ∙ past ∙ set-same k (numberAt img q n) (numbersOf s) some
@@ -257,21 +246,11 @@ module _ (d img : List ℕ) (p : PassedLaws d) where
   walks-array : (a : ℕ) (s : Slots) (κ : Known) (q n : ℕ) (ns : List Name) (f : ℕ → List ℕ → Spot) (o : Laid) → At a s q → Matches s κ → endOf d a ≤ itemCount d
       → isPiece d (numbersBefore d img a) a ≡ true → isArray (fieldsAt d a) ≡ true → fieldsAt d a .sets ≡ 0 → octetsOf d (numbersOf s) a ≡ n
       → Whole s q n f o → Strips s ns o → Walks a (endOf d a) κ ns (inImage false (length img) a q o)
-  unfolding inImage
   walks-array a s κ q n ns f (laid ps t r) here m room piece is sets long h names =
       rw (h .same, h .ends)
-      (walks-after a (a + 1) (endOf d a) κ ns (if q + n ≤? length img then laid ps s (q + n) else stopped [] (short a q))
-      (λ i l u. array-piece (numbersBefore d img i) a i is (omega arith) u) (omega arith)
-      (tested (Walks a (a + 1) κ ns) (q + n ≤? length img) (laid ps s (q + n)) (stopped [] (short a q))
-      (λ e.
-      record {
-        here = past-piece a (a + 1) s q n here piece long ∙ rw sets (set-nothing q n (numberAt img q n) (numbersOf s));
-        inside = only-item a (in-image a (a + 1) s q n here piece long (leb-true (q + n) (length img) e));
-        matches = m;
-        names = names .1;
-        dimensions = every-map (λ x. x .slot ≡ 0) DimensionIs (λ x z some. absurd (omega arith)) ps (h .unset);
-      })
-      (λ e. is-short a (a + 1) s q n here piece long (leb-false (q + n) (length img) e))))
+      (walks-after a (a + 1) (endOf d a) κ ns (inImage false (length img) a q (laid ps s (q + n))) (λ i l u. array-piece (numbersBefore d img i) a i is (omega arith) u) (omega arith)
+      (walks-piece a s q n here piece long κ ns ps s (past-piece a s q n here piece long ∙ rw sets (set-nothing q n (numberAt img q n) (numbersOf s))) m (names .1)
+      (every-map (λ x. x .slot ≡ 0) DimensionIs (λ x z some. absurd (omega arith)) ps (h .unset))))
   walks-array a s κ q n ns f (stopped ps x) here m room piece is sets long h names = absurd h
 
   -- AN ITEM AND A BODY
@@ -287,9 +266,6 @@ module _ (d img : List ℕ) (p : PassedLaws d) where
 
   -- with an IF at item a, before those of its branch
   module _ (a e : ℕ) (o : Open a e) (is : isChoice (fieldsAt d a) ≡ true) (l : a < e) (ends : endOf d a ≤ e) (room : e ≤ itemCount d) where
-    abbrev nesting : nests (fieldsAt d a) ≡ true
-    nesting = rw (is, or-true)
-
     -- round the items of its first body, or of its second, stands it too
     open-body : (b c : ℕ) → a < b → c ≤ endOf d a → ((i : ℕ) → b ≤ i → i < c → nestsTo d b i ≡ nestsTo d a i ++ a ∷ []) → ((i : ℕ) → b ≤ i → i < c → inChosen d v a i ≡ true) → Open b c
     unfolding arraysOf allChosen
@@ -327,14 +303,13 @@ module _ (d img : List ℕ) (p : PassedLaws d) where
           → SoundBody false κ body → (At b s q → Walks b c (afterBody body κ) (namesBody body v) (layBody body img false s q)) → Walks a (endOf d a) κ (namesBody body v) (layBody body img false s q)
       walks-branch b c body x y z before after sound walk =
           let first = other-piece (numbersBefore d img a) a element (choice-no-array f is) in
-          let start = no-pieces d img (a + 1) b (omega arith) (λ i u w. unchosen-piece a i is (omega arith) (omega arith) (omega (arith, room)) (before i (omega arith) w)) ∙ no-piece d img a first ∙ here in
+          let none : (i : ℕ) → a + 1 ≤ i → i < b → isPiece d (numbersBefore d img i) i ≡ false
+          = λ i u w. unchosen-piece a i is (omega arith) (omega arith) (omega (arith, room)) (before i (omega arith) w) in
+          let start = no-pieces d img (a + 1) b (omega arith) none ∙ no-piece d img a first ∙ here in
           walks-after a c (endOf d a) κ (namesBody body v) (layBody body img false s q) (λ i u w. unchosen-piece a i is (omega arith) w (omega (arith, room)) (after i u w)) z
-          (walks-before a b c κ (namesBody body v) (layBody body img false s q) (λ i u w. skipped i u w (decLt a i)) (omega arith)
+          (walks-before a b c κ (namesBody body v) (layBody body img false s q)
+          (inside-both d img a (a + 1) b (inside-one d img a (no-runs d img a first)) (λ i u w. no-runs d img i (none i u w))) (omega arith)
           (subst (λ (κ′ : Known). Walks b c κ′ (namesBody body v) (layBody body img false s q)) (quiet-body κ body sound) (walk start)))
-        where
-          skipped : (i : ℕ) → a ≤ i → i < b → Dec (a < i) → runsPast d img i ≡ false
-          skipped i u w (yes g) = no-runs d img i (unchosen-piece a i is g (omega arith) (omega (arith, room)) (before i g w))
-          skipped i u w (no g) = let k : i ≡ a = omega arith in rw k (no-runs d img a (other-piece (numbersBefore d img a) a element (choice-no-array f is)))
 
       -- the first where the value isn't 0, else the second
       walks-taken : (t : Bool) → (0 <? value v f) ≡ t → SoundBody false κ (bodyIn inner a (bodyTaken f t))
@@ -451,24 +426,27 @@ module _ (d img : List ℕ) (p : PassedLaws d) where
   unfolding SoundBody
   sound-step k a n free κ h = subst (SoundBody free κ) (body-step k d a n) h
 
-  -- of fewer than m
-  walks-fewer : (k : ℕ) → k ≤ 4 → Bodies (innerAt k d) → (m a n e : ℕ) (r : Round) (free : Bool) (κ : Known) (s : Slots) (q : ℕ) → n < m → a + n ≡ e → Run d a e r → SoundBody free κ (bodyAt k d a n)
-      → Same d κ a → Matches s κ → At a s q → Open a e → Walks a e (afterBody (bodyAt k d a n) κ) (namesBody (bodyAt k d a n) v) (layBody (bodyAt k d a n) img false s q)
-  walks-fewer k deep below zero a n e r free κ s q few end run sound same m here o = absurd (omega arith)
-  walks-fewer k deep below (suc f) a zero e r free κ s q few end run sound same m here o =
-      subst (λ (x : ℕ). Walks a x (afterBody (bodyAt k d a 0) κ) (namesBody (bodyAt k d a 0) v) (layBody (bodyAt k d a 0) img false s q)) end (walks-none k a κ s q m here)
-  walks-fewer k deep below (suc f) a (suc n) e r free κ s q few end run sound same m here o =
+  -- of any number
+  abbrev WalksItems : (k a n : ℕ) → Type 0
+  WalksItems k a n = (e : ℕ) (r : Round) (free : Bool) (κ : Known) (s : Slots) (q : ℕ) → a + n ≡ e → Run d a e r → SoundBody free κ (bodyAt k d a n) → Same d κ a → Matches s κ
+      → At a s q → Open a e → Walks a e (afterBody (bodyAt k d a n) κ) (namesBody (bodyAt k d a n) v) (layBody (bodyAt k d a n) img false s q)
+
+  walks-items : (k : ℕ) → k ≤ 4 → Bodies (innerAt k d) → (a n : ℕ) → WalksItems k a n
+  walks-items k deep below =
+      by-items d (WalksItems k)
+      (λ a e r free κ s q end run sound same m here o.
+      subst (λ (x : ℕ). Walks a x (afterBody (bodyAt k d a 0) κ) (namesBody (bodyAt k d a 0) v) (layBody (bodyAt k d a 0) img false s q)) end (walks-none k a κ s q m here))
+      (λ a n rest e r free κ s q end run sound same m here o.
       let h = sound-step k a n free κ sound in
       let fit = fit-node free κ (nodeAt k d a n) (h .0) in
       let fits = fit-room d k a n fit in
       let there : a + 1 + nested (fieldsAt d a) ≡ endOf d a = omega arith in
       walks-more k a n e r free κ s q deep below end fits run same m here o fit (h .0)
-      (λ κ′ t x is run′ same′ m′ here′ o′.
-      walks-fewer k deep below f (endOf d a) (n - nested (fieldsAt d a)) e r free κ′ t x (omega arith) (omega arith) run′ (rw (is, ← there) (h .1)) same′ m′ here′ o′)
+      (λ κ′ t x is run′ same′ m′ here′ o′. subst (λ (b : ℕ). WalksItems k b (n - nested (fieldsAt d a))) there rest e r free κ′ t x (omega arith) run′ (rw (is, ← there) (h .1)) same′ m′ here′ o′))
 
   pub walks-body : (k : ℕ) → k ≤ 4 → Bodies (bodyAt k d)
   unfolding innerAt SoundBody
   walks-body zero deep a m r free κ s q run sound same g here o =
-      walks-fewer zero deep (λ a m r free κ s q run sound same g here o. absurd (sound .0)) (m + 1) a m (a + m) r free κ s q (omega arith) refl run sound same g here o
+      walks-items zero deep (λ a m r free κ s q run sound same g here o. absurd (sound .0)) a m (a + m) r free κ s q refl run sound same g here o
   walks-body (suc k) deep a m r free κ s q run sound same g here o =
-      walks-fewer (suc k) deep (walks-body k (omega arith)) (m + 1) a m (a + m) r free κ s q (omega arith) refl run sound same g here o
+      walks-items (suc k) deep (walks-body k (omega arith)) a m (a + m) r free κ s q refl run sound same g here o

@@ -8,7 +8,7 @@ use mathlib.Core.Path.{_≡_}
 use mathlib.Core.Logic.{_⊎_}
 use mathlib.Core.Bool.{true, false, _&&_}
 use mathlib.Core.List.{List, [], _∷_}
-use lib.ListN.{length, take}
+use lib.ListN.{length}
 use Rattle.offsets.specs.declared.TableOffset.{TableOffset}
 use Rattle.meaning.specs.Basics.{if_then_else_, _=?_, _<?_, _≤?_}
 use Rattle.meaning.specs.declared.ElementName.{ElementName}

@@ -1,7 +1,7 @@
 -- THE RULES ON DESCRIPTIONS, as facts in the words of document 01, "Description items" and refusals 1 to 7. What an item's fields are is read from its octets by `fieldsAt` (crate
 -- meaning, specs/Description); all else is said here, by which items enclose which. proofs/Rules.antt proves `CheckSays` of our check, for every description. Assumes
 -- nothing.
-use Prim.Native.Nat.{ℕ, _+_, _*_, _%_, _<_, _≤_}
+use Prim.Native.Nat.{ℕ, _+_, _%_, _<_, _≤_}
 use mathlib.Core.Path.{_≡_}
 use mathlib.Core.Bool.{true, false}
 use mathlib.Core.List.{List}

@@ -3,7 +3,7 @@ use Prim.Native.Nat.{ℕ, _+_, _<_, _≤_}
 use mathlib.Core.Path.{_≡_, refl, sym, ap, subst, _∙_}
 use mathlib.Core.Logic.{_⊎_, inl, inr}
 use mathlib.Core.Bool.{_&&_, and-eq-true-iff}
-use mathlib.Core.List.{List, [], _∷_}
+use mathlib.Core.List.{List, [], _∷_, _++_}
 use mathlib.Core.Option.{some}
 use borrow.Author.Tests.{eqb-true}
 use native.Mathlib.Decide.{decLt}
@@ -32,6 +32,18 @@ pub among-every : {A : Type 0} (P : A → Type 0) (xs : List A) → ((x : A) →
 unfolding Every Among
 among-every P [] h = tt
 among-every P (x ∷ xs) h = (h x (inl refl), among-every P xs (λ y m. h y (inr m)))
+
+-- in one of two lists
+pub among-left : {A : Type 0} (x : A) (xs ys : List A) → Among x xs → Among x (xs ++ ys)
+unfolding Among
+among-left x [] ys m = absurd m
+among-left x (z ∷ xs) ys (inl e) = inl e
+among-left x (z ∷ xs) ys (inr m) = inr (among-left x xs ys m)
+
+pub among-right : {A : Type 0} (x : A) (xs ys : List A) → Among x ys → Among x (xs ++ ys)
+unfolding Among
+among-right x [] ys m = m
+among-right x (z ∷ xs) ys m = inr (among-right x xs ys m)
 
 -- FOUND BY NAME
 -- one of the elements, of that name

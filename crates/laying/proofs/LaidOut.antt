@@ -12,13 +12,13 @@ use Rattle.meaning.specs.declared.Fields.{Fields}
 use Rattle.meaning.specs.Description.{itemCount}
 use Rattle.meaning.specs.Layout.{Tables, noMore, table, strayTable, treeOf, Slots, Placed, fault, short, Laid}
 use Rattle.meaning.specs.Layout.{Seat, Layout, laidOut, stoppedAt, before, seated, layTables, layOut}
-use Rattle.laying.specs.Cover.{hits, Follow}
+use Rattle.laying.specs.Cover.{Follow}
 use Rattle.laying.specs.Every.{Every}
 use Rattle.laying.specs.Names.{Found, FewSubscripts}
 use Rattle.laying.specs.Own.{OfItem}
 use Rattle.laying.proofs.Every.{every-map, every-append}
 use Rattle.laying.proofs.Apart.{apart-found}
-use Rattle.laying.proofs.Cover.{EndsBy, Lies, Fill, Consecutive, consecutive-fill, fill-octets}
+use Rattle.laying.proofs.Cover.{EndsBy, Lies, Fill, Consecutive, consecutive-fill}
 use Rattle.laying.proofs.Rising.{RisesTables, afterTable, rises-tree}
 use Rattle.laying.proofs.Laying.{Laying, Keeps, lays, falls-short, faults, laying-none, laying-append, laying-map, Joins, Own, wider, rising, keeps-body}
 
@@ -136,13 +136,6 @@ module _ (d : List ℕ) where
     keeps-layout : KeepsAll (length img) 0 0 (layOut d img)
     unfolding layOut
     keeps-layout = keeps-tables (treeOf d) 0 (rises-tree d) img _ 0
-
-    -- where item i is short at octet p, p is no further than the image's end, and the elements placed before hold each octet below p once, and no other
-    pub stopped-covers : (es : List Placed) (i p : ℕ) → layOut d img ≡ stoppedAt es (short i p)
-        → (p ≤ length img) × ((x : ℕ) → (x < p → hits x es ≡ 1) × (p ≤ x → hits x es ≡ 0))
-    stopped-covers es i p e =
-        let h : Laying false (length img) 0 (From 0) es p = subst (KeepsAll (length img) 0 0) e keeps-layout in
-        (omega (arith, h .inside refl), λ x. fill-octets (consecutive-fill (h .consecutive)) x (omega arith))
 
     module _ (ts : List Seat) (es : List Placed) (s : Slots) (total : ℕ) (e : layOut d img ≡ laidOut ts es s total) where
       whole : Whole (length img) 0 0 ts es total

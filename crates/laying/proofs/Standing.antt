@@ -1,6 +1,6 @@
 -- An element's item that stands in a body with nothing stray in it has a row there, or stands in a branch not chosen: a choice passes over the item exactly
 -- where it isn't in the arm taken. (Other items have none: Whole.antt, `other-body`.) Assumes nothing.
-use Prim.Native.Nat.{ℕ, zero, suc, _+_, _-_, _<_, _≤_}
+use Prim.Native.Nat.{ℕ, zero, suc, _+_, _<_, _≤_}
 use mathlib.Core.Path.{_≡_, refl, subst}
 use mathlib.Core.Bool.{true, and-eq-true-iff, or-true, false≢true}
 use mathlib.Core.List.{List}
@@ -16,7 +16,7 @@ use Rattle.laying.specs.Sizes.{Numbers}
 use Rattle.laying.specs.Sound.{FitBody, FitNode}
 use Rattle.laying.specs.Tree.{innerAt, nodeAt}
 use Rattle.laying.proofs.Nodes.{node-cases}
-use Rattle.laying.proofs.Steps.{body-step}
+use Rattle.laying.proofs.Steps.{body-step, by-items}
 
 -- WHERE THERE IS NONE, there was none before
 missing-first : (r q : Row) → firstRow r q ≡ noRow → (r ≡ noRow) × (q ≡ noRow)
@@ -71,20 +71,18 @@ module _ (d : List ℕ) (v : Numbers) (i : ℕ) (element : isElement (fieldsAt d
       let e = rw (le-leb (at + 1) i (omega arith), lt-ltb i (at + 1 + nested f) b) at (missing-first _ _ e .1) in
       let z : _≡_ {A = ℕ} 0 1 = cc in omega arith)
 
-  -- a body of fewer than m items
-  fewer-there : (k : ℕ) → Below k → (m at n : ℕ) → n < m → FitBody (bodyAt k d at n) → at ≤ i → i < at + n → bodyRow (bodyAt k d at n) v i ≡ noRow → ⊥
+  items-there : (k : ℕ) → Below k → (at n : ℕ) → FitBody (bodyAt k d at n) → at ≤ i → i < at + n → bodyRow (bodyAt k d at n) v i ≡ noRow → ⊥
   unfolding FitBody bodyRow
-  fewer-there k below zero at n few fit a b e = omega arith
-  fewer-there k below (suc m) at zero few fit a b e = omega arith
-  fewer-there k below (suc m) at (suc n) few fit a b e =
-      let u = nested (fieldsAt d at) in
+  items-there k below =
+      by-items d (λ at n. FitBody (bodyAt k d at n) → at ≤ i → i < at + n → bodyRow (bodyAt k d at n) v i ≡ noRow → ⊥) (λ at fit a b e. omega arith)
+      (λ at n rest fit a b e.
       let f = subst FitBody (body-step k d at n) fit in
       let none = missing-first _ _ (rw (body-step k d at n) at e) in
-      either-way (decLt i (at + 1 + u)) (λ p. node-there k at n below (f .0) a p (none .0))
-      (λ p. fewer-there k below m (at + 1 + u) (n - u) (omega arith) (f .1) (omega arith) (omega arith) (missing-onward _ _ (none .1)))
+      either-way (decLt i (at + 1 + nested (fieldsAt d at))) (λ p. node-there k at n below (f .0) a p (none .0))
+      (λ p. rest (f .1) (omega arith) (omega arith) (missing-onward _ _ (none .1))))
 
   -- any body with nothing stray in it
   pub body-there : (k at n : ℕ) → FitBody (bodyAt k d at n) → at ≤ i → i < at + n → bodyRow (bodyAt k d at n) v i ≡ noRow → ⊥
   unfolding innerAt FitBody
-  body-there zero at n fit = fewer-there zero (λ a m f. absurd (f .0)) (n + 1) at n (omega arith) fit
-  body-there (suc k) at n fit = fewer-there (suc k) (λ a m f. body-there k a m f) (n + 1) at n (omega arith) fit
+  body-there zero at n fit = items-there zero (λ a m f. absurd (f .0)) at n fit
+  body-there (suc k) at n fit = items-there (suc k) (λ a m f. body-there k a m f) at n fit

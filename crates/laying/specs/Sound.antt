@@ -22,11 +22,6 @@ unfoldable mutual
   FitArms (lastArm b) = FitBody b
   FitArms (arm t b arms) = FitBody b × FitArms arms
 
-unfoldable pub FitTables : Tables → Type 0
-FitTables noMore = Unit {0}
-FitTables (table i f body rest) = FitBody body × FitTables rest
-FitTables (strayTable i) = ⊥
-
 -- REFERENCES ARE GOOD TOO
 -- the octets of the dimension that sets each slot, 0 where none has yet
 abbrev pub Known : Type 0

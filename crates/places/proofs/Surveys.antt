@@ -21,7 +21,6 @@ use Rattle.meaning.specs.Numbers.{imageShort, imageTooLong, noTable}
 use Rattle.meaning.specs.Refusals.{refused, stopRefusal, openLaid, openSound, openImage, anyDimension}
 use Rattle.meaning.proofs.Passed.{passed-laws}
 use Rattle.laying.specs.Every.{Every}
-use Rattle.laying.specs.Outcomes.{OutsideBody}
 use Rattle.laying.specs.Rows.{Array, row, notChosen, noRow, firstRow, onward, rowAfter, walkBody, walkTables, rowOf}
 use Rattle.laying.specs.Rows as def
 use Rattle.laying.specs.Slots.{numberOf, octetsOf, Matches}
@@ -350,7 +349,7 @@ module _ (d img : List ℕ) (q : Asked) (s : Survey) (ready : TableReady d img q
         subst (λ (p : ℕ). Ends aim noRow false w (walkBody body img (g .slots) p (q .item)) (layBody body img false (g .slots) p)) e
         (walked .ends (g .slots) (g .known) true noRow (record { numbers = g .numbers; matches = g .matches; row-as = as-none 4 }) (sound .0))
 
-    reaches : Reaches img (OutsideBody body) (g .slots) (afterBody body (g .known)) (λ i. walkBody body img (g .slots) (s .start .0) i) (layBody body img false (g .slots) (s .start .0))
+    reaches : Reaches (afterBody body (g .known)) (λ i. walkBody body img (g .slots) (s .start .0) i) (layBody body img false (g .slots) (s .start .0))
     reaches = r-body img d body true 0 (at + 1) after (g .slots) (g .known) (s .start .0) (g .matches) (sound .0) rises
 
     verdict-going : w .short ≡ false → r .verdict ≡ Verdict.Passed
@@ -419,7 +418,7 @@ module _ (d img : List ℕ) (q : Asked) (s : Survey) (ready : TableReady d img q
     table-as = go (layBody body img false (g .slots) (s .start .0)) refl ends reaches whole-is
       where
         go : (o : Laid) → layBody body img false (g .slots) (s .start .0) ≡ o → Ends aim noRow false w row-here o
-            → Reaches img (OutsideBody body) (g .slots) (afterBody body (g .known)) (λ i. walkBody body img (g .slots) (s .start .0) i) o → Whole o → TableAs d img q s r
+            → Reaches (afterBody body (g .known)) (λ i. walkBody body img (g .slots) (s .start .0) i) o → Whole o → TableAs d img q s r
         go (laid ps t x) is e m wh = record {
           passed = λ v. (laid-on ps t x is e (m .matches) wh, omega (arith, goes-on));
           stopped = λ y v. absurd (false≢true (sym (ap isPassed v) ∙ ap isPassed (verdict-going (e .going))));

@@ -10,7 +10,6 @@ use Rattle.meaning.specs.Layout.{Node, Body, more, bodyAt, Slots, Placed, fault
 use Rattle.meaning.specs.Refusals.{anyDimension}
 use Rattle.laying.specs.Rows.{noRow, firstRow, onward, rowAfter, walkBody, walkNode}
 use Rattle.laying.specs.Rows as def
-use Rattle.laying.specs.Outcomes.{OutsideNode}
 use Rattle.laying.specs.Slots.{Matches}
 use Rattle.laying.specs.Sound.{Known, FitBody, SoundBody, SoundNode, afterNode}
 use Rattle.places.proofs.Held.{holds-none, holds-append}
@@ -58,7 +57,7 @@ unfolding andThen rowAfter
 then-ends a before held r R Q f o ps t q e h = subst (λ (z : Laid). Ends a before held r (firstRow R (rowAfter z Q)) (andThen z f)) (sym e) h
 
 -- else something is laid
-record Goes (img : List ℕ) (a : Aim) (before : def.Row) (held : Bool) (y : Walk) (R : def.Row) (κ : Known) (o : Laid) : Type 0 where
+record Goes (a : Aim) (before : def.Row) (held : Bool) (y : Walk) (R : def.Row) (κ : Known) (o : Laid) : Type 0 where
   elements : List Placed
   slots : Slots
   octet : ℕ
@@ -66,11 +65,11 @@ record Goes (img : List ℕ) (a : Aim) (before : def.Row) (held : Bool) (y : Wal
   ends : WalkEnds a before held y R elements slots octet
   matches : Matches slots κ
 
-goes : (img : List ℕ) (T : Node → Type 0) (a : Aim) (before : def.Row) (held : Bool) (y : Walk) (R : def.Row) (s : Slots) (κ : Known) (r : ℕ → def.Row) (o : Laid)
-    → y .short ≡ false → Ends a before held y R o → Reaches img T s κ r o → Goes img a before held y R κ o
-goes img T a before held y R s κ r (laid ps t q) e h g = record { elements = ps; slots = t; octet = q; is = refl; ends = h; matches = g .matches }
-goes img T a before held y R s κ r (stopped ps (fault z i)) e h g = absurd g
-goes img T a before held y R s κ r (stopped ps (short i p)) e h g = absurd (true≢false (sym (h .0) ∙ e))
+goes : (a : Aim) (before : def.Row) (held : Bool) (y : Walk) (R : def.Row) (κ : Known) (r : ℕ → def.Row) (o : Laid)
+    → y .short ≡ false → Ends a before held y R o → Reaches κ r o → Goes a before held y R κ o
+goes a before held y R κ r (laid ps t q) e h g = record { elements = ps; slots = t; octet = q; is = refl; ends = h; matches = g .matches }
+goes a before held y R κ r (stopped ps (fault z i)) e h g = absurd g
+goes a before held y R κ r (stopped ps (short i p)) e h g = absurd (true≢false (sym (h .0) ∙ e))
 
 module _ (d img : List ℕ) (a : Aim) (w : Walk) (n depth : ℕ) where
   abbrev end : ℕ
@@ -148,7 +147,7 @@ module _ (d img : List ℕ) (a : Aim) (w : Walk) (n depth : ℕ) where
           ends : Ends a (l .row) (x .held) y (walkNode node img (l .slots) (place a x) (a .wanted)) o
           ends = item .ends (l .slots) (l .known) free (l .row) (l .from) (both .0)
 
-          reaches : Reaches img (OutsideNode node) (l .slots) (afterNode node (l .known)) (λ i. walkNode node img (l .slots) (place a x) i) o
+          reaches : Reaches (afterNode node (l .known)) (λ i. walkNode node img (l .slots) (place a x) i) o
           reaches =
               r-node img d node free 0 at after (l .slots) (l .known) (place a x) (l .from .matches) (both .0)
               (rises-at d depth 0 at (nested (fieldsAt d at)) at after (omega (arith, way .rest .ready .deep)) (omega (arith, item-ready .there)))
@@ -174,10 +173,10 @@ module _ (d img : List ℕ) (a : Aim) (w : Walk) (n depth : ℕ) where
           further = omega (arith, item .moved e)
 
           gone : (s : Slots) (κ : Known) (free : Bool) (before : def.Row) (from : From s κ w before) (sound : SoundBody free κ (bodyAt depth d (w .next .at) n))
-              → Goes img a (l s κ free before from sound .row) (x .held) y (walkNode node img (l s κ free before from sound .slots) (place a x) (a .wanted))
+              → Goes a (l s κ free before from sound .row) (x .held) y (walkNode node img (l s κ free before from sound .slots) (place a x) (a .wanted))
               (afterNode node (l s κ free before from sound .known)) (o s κ free before from sound)
           gone s κ free before from sound =
-              goes img (OutsideNode node) a _ (x .held) y _ (l s κ free before from sound .slots) _ _ (o s κ free before from sound) e (ends s κ free before from sound)
+              goes a _ (x .held) y _ _ _ (o s κ free before from sound) e (ends s κ free before from sound)
               (reaches s κ free before from sound)
 
           same : bodyAt depth d (y .next .at) (end - y .next .at) ≡ rest
