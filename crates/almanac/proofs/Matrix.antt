@@ -1,6 +1,6 @@
 -- Where a calendar is found, and the matrix, cell by cell, as specs/Matrix.antt says. Assumes nothing.
 use Prim.Native.Nat.{ℕ, _+_, _*_, _<_, _≤_}
-use mathlib.Core.Path.{_≡_, refl, ap, _∙_}
+use mathlib.Core.Path.{_≡_, ap, _∙_}
 use mathlib.Core.Logic.{⊎-elim}
 use mathlib.Core.Bool.{_&&_, and-false}
 use mathlib.Core.List.{List, []}
@@ -115,8 +115,3 @@ pub matrix-fifteen : (x : Found) → Fifteen (matrixIn x)
 unfolding matrixIn matrixOf
 matrix-fifteen (found o c t) = grid-fifteen (matrixCell c t)
 matrix-fifteen (missing r) = grid-fifteen (λ row column. 0)
-
--- refused, nothing but zeros
-pub matrix-missing : (r : Refusal) (row column : ℕ) → cell (matrixIn (missing r)) row column ≡ 0
-unfolding matrixIn
-matrix-missing r row column = grid-zero (λ row column. 0) row column refl

@@ -23,7 +23,7 @@ use Rattle.meaning.proofs.Rules.{either-false}
 use Rattle.almanac.specs.Choices.{SwitchSays}
 use Rattle.almanac.proofs.Tests.{both-true}
 use Rattle.almanac.proofs.Choices.{season-says, special-says, switch-says}
-use Rattle.almanac.proofs.Matrix.{FoundIn, there, absent, calendar-found, matrix-found, matrix-fifteen, matrix-missing}
+use Rattle.almanac.proofs.Matrix.{FoundIn, there, absent, calendar-found, matrix-found, matrix-fifteen}
 use Rattle.demands.specs.Calendar.{ColumnOn, Answerable, Scheduled, TierIs, NoneYetToday, TierAnswers, TierSays, MatrixSays}
 
 -- no reply is two at once: `cc` would have 0 equal 1
@@ -175,17 +175,13 @@ matrix-in (there s) =
     record {
       fifteen = matrix-fifteen _;
       shown = λ e. matrix-found _ _ _ s;
-      refused = λ r e. clash (cc);
       written = λ e lent. refl;
-      unchanged = λ r e. clash (cc);
     }
 matrix-in (absent r) =
     record {
       fifteen = matrix-fifteen _;
       shown = λ e. clash (cc);
-      refused = λ s e. matrix-missing r;
       written = λ e. clash (cc);
-      unchanged = λ s e lent. refl;
     }
 
 pub matrix-says : (d img : List ℕ)

@@ -11,7 +11,7 @@ use Rattle.meaning.specs.declared.Place.{Place}
 use Rattle.meaning.specs.declared.Refusal.{Refusal}
 use Rattle.meaning.specs.declared.Verdict.{Verdict}
 use Rattle.meaning.specs.Refusals.{toldBy, verdictReply, placePart, tablePartReply, elementPartReply}
-use Rattle.meaning.specs.Calendar.{Found, found, missing, matrixIn, matrixReply, matrixVerdictIn, matrixVerdict}
+use Rattle.meaning.specs.Calendar.{Found, found, missing, matrixIn, matrixReply, matrixVerdictIn, matrixVerdict, cellsAfter}
 use Rattle.meaning.specs.Questions as ask
 use Rattle.meaning.specs.Questions.{Question, refusalIn}
 use Rattle.demands.specs.Demand1.{ten, eleven, elevenNumber, twelve, thirteen, fourteen, fifteen, twenty, seventeenAndNineteen, sixteenToNineteen}
@@ -19,7 +19,6 @@ use Rattle.demands.specs.Demand1.{ofCalendar, ofMoment, refusalsOf, Numb
 use Rattle.demands.specs.Replies.{ours, outcomeBy}
 use Rattle.laying.specs.Every.{Every}
 use Rattle.laying.proofs.Every.{every-append}
-use Rattle.demands.proofs.Calendar.{matrix-says}
 use Rattle.demands.proofs.Demand2.{demand-2}
 use Rattle.demands.proofs.Known.{KnownIn, known-last, known-more, first-known, sound-known, layout-knows, after, one-known, four-known}
 use Rattle.demands.proofs.FirstGiven.{first-given}
@@ -97,6 +96,11 @@ unfolding matrixVerdictIn matrixIn build
 no-matrix (found o c t) r e = let z : _≡_ {A = ℕ} 0 1 = cc in absurd (omega arith)
 no-matrix (missing x) r e = refl
 
+-- cells lent stay as they were
+cells-stay : (v : Verdict) (r : Refusal) (matrix lent : List (List ℕ)) → v ≡ Verdict.Refused r → cellsAfter v matrix lent ≡ lent
+unfolding cellsAfter
+cells-stay v r matrix lent e = rw e
+
 octets-all : (d img : List ℕ) → NoOctets ours d img
 unfolding tablePartReply elementPartReply matrixReply matrixVerdict
 octets-all d img =
@@ -104,7 +108,7 @@ octets-all d img =
       tablePart = λ m k r e. part-none img _ r e;
       elementPart = λ q r e. part-none img _ r e;
       matrix = λ r e. no-matrix _ r e;
-      matrixCells = matrix-says d img .unchanged;
+      matrixCells = λ r e lent. cells-stay _ r _ lent e;
     }
 
 -- ALL OF IT

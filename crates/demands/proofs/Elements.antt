@@ -92,12 +92,6 @@ module _ {d img : List ℕ} {ts : List Seat} {es : List Placed} {s : Slots} {tot
             };
       }
 
-  -- no octet from the total on lies in an element
-  none-past : (x : ℕ) → total ≤ x → (q : ElementName) → Holds ours d img q x → ⊥
-  none-past x l q h =
-      let f = holder q x h in
-      omega (arith, f .has .1, every-among (EndsBy total) (f .element) es (elements-end d img ts es s total (o .laid)) (f .of .among))
-
   -- the element at a place that is replied ends by the total
   ends-by : (q : ElementName) (p n : ℕ) → elementPlaceReply d img q ≡ octetsAt p n → p + n ≤ total
   ends-by q p n e =
@@ -153,7 +147,6 @@ elements-stand d img total e =
     let o = total-opens d img total e .opens in
     record {
       one = one-element o;
-      past = none-past o;
       ends = ends-by o;
       dimensions = dimension-number o;
       there = is-there o;

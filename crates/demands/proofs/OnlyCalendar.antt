@@ -14,7 +14,7 @@ use Rattle.meaning.specs.declared.Refusal.{Refusal}
 use Rattle.meaning.specs.declared.Reply.{Reply}
 use Rattle.meaning.specs.declared.Verdict.{Verdict}
 use Rattle.meaning.specs.declared.Verdict.the-variants as verdict
-use Rattle.meaning.specs.Calendar.{rowWidth, controlsOf}
+use Rattle.meaning.specs.Calendar.{rowWidth}
 use Rattle.meaning.specs.Layout.{dataOrder}
 use Rattle.meaning.specs.Questions as ask
 use Rattle.meaning.specs.Questions.{refusalIn}
@@ -43,22 +43,6 @@ shown-same c t a b h k row column = go (lt-or-ge row (c .seasons)) (lt-or-ge col
     go (inl x) (inr y) = h .unused row column (inr y) ∙ sym (k .unused row column (inr y))
     go (inr x) y = h .unused row column (inl x) ∙ sym (k .unused row column (inl x))
 
-module _ (o : ℕ) (t u : List ℕ) (had : Verdict) (a b : List (List ℕ)) (f g : List (List ℕ) → List (List ℕ)) (h : MatrixSays o t u had a f) (k : MatrixSays o t u had b g) where
-  matrix-same : a ≡ b
-  matrix-same = fifteen-same a b (h .fifteen) (k .fifteen) (go had refl)
-    where
-      go : (v : Verdict) → had ≡ v → (row column : ℕ) → cell a row column ≡ cell b row column
-      go verdict.Passed e = shown-same (controlsOf o t) u a b (h .shown e) (k .shown e)
-      go (verdict.Refused r) e = λ row column. h .refused r e row column ∙ sym (k .refused r e row column)
-
-  -- and what is in cells lent
-  cells-same : (lent : List (List ℕ)) → f lent ≡ g lent
-  cells-same lent = go had refl
-    where
-      go : (v : Verdict) → had ≡ v → f lent ≡ g lent
-      go verdict.Passed e = h .written e lent ∙ matrix-same ∙ sym (k .written e lent)
-      go (verdict.Refused r) e = h .unchanged r e lent ∙ sym (k .unchanged r e lent)
-
 -- THE TIER: one of these
 pub data TierKind (x : Reply) : Type 0 where
   refused : (r : Refusal) → x ≡ Reply.Refused r → TierKind x
@@ -81,11 +65,23 @@ module _ (R S : Replies) (r : Demands R) (s : Demands S) (d img : List ℕ) (lay
   matrix-says : MatrixSays (dataOrder img) (S .tablePart d img 0 51) (S .tablePart d img 0 54) (S .matrixVerdict d img) (R .matrix d img) (R .matrixCells d img)
   matrix-says = rw (← part 0 51, ← part 0 54, ← had-only) (r .second d img .calendar .matrix)
 
+  -- shown by the same octets, or refused and all 0
   pub matrix-only : R .matrix d img ≡ S .matrix d img
-  matrix-only = matrix-same _ _ _ _ _ _ _ _ matrix-says (s .second d img .calendar .matrix)
+  matrix-only = go (S .matrixVerdict d img) refl
+    where
+      go : (v : Verdict) → S .matrixVerdict d img ≡ v → R .matrix d img ≡ S .matrix d img
+      go verdict.Passed e =
+          let k = s .second d img .calendar .matrix in
+          fifteen-same _ _ (matrix-says .fifteen) (k .fifteen) (shown-same _ _ _ _ (matrix-says .shown e) (k .shown e))
+      go (verdict.Refused x) e = r .first d img .octets .matrix x (had-only ∙ e) ∙ sym (s .first d img .octets .matrix x e)
 
+  -- and cells lent hold it, or stay
   pub cells-only : (lent : List (List ℕ)) → R .matrixCells d img lent ≡ S .matrixCells d img lent
-  cells-only = cells-same _ _ _ _ _ _ _ _ matrix-says (s .second d img .calendar .matrix)
+  cells-only lent = go (S .matrixVerdict d img) refl
+    where
+      go : (v : Verdict) → S .matrixVerdict d img ≡ v → R .matrixCells d img lent ≡ S .matrixCells d img lent
+      go verdict.Passed e = matrix-says .written e lent ∙ matrix-only ∙ sym (s .second d img .calendar .matrix .written e lent)
+      go (verdict.Refused x) e = r .first d img .octets .matrixCells x (had-only ∙ e) lent ∙ sym (s .first d img .octets .matrixCells x e lent)
 
   pub tier-only : (w : Moment) (q : Quantity) → TierKind (S .tier d img w q) → R .tier d img w q ≡ S .tier d img w q
   unfolding outcomeBy refusalsOf ofCalendar ofMoment

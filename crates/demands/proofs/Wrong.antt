@@ -1,5 +1,5 @@
 -- The wrong programs of specs/Wrong.antt break their clauses: what a clause says of our replies doesn't mention whose they are, so it says it of theirs. Assumes nothing.
-use Prim.Native.Nat.{ℕ, _<_, _≤_}
+use Prim.Native.Nat.{ℕ, _≤_}
 use mathlib.Core.Path.{_≡_, refl, sym, _∙_, ap, subst}
 use mathlib.Core.Bool.{Bool, true, false, true≢false}
 use mathlib.Core.List.{List, [], _∷_}
@@ -7,7 +7,6 @@ use lib.ListN.{length}
 use native.Mathlib.Omega.{arith}
 use Rattle.meaning.specs.Basics.{part}
 use Rattle.meaning.specs.declared.ElementName.{ElementName}
-use Rattle.meaning.specs.declared.Place.{Place}
 use Rattle.meaning.specs.declared.Quantity.{Quantity}
 use Rattle.meaning.specs.declared.Reply.{Reply}
 use Rattle.meaning.specs.declared.Verdict.{Verdict}
@@ -17,7 +16,7 @@ use Rattle.meaning.specs.Layout.{numberAt}
 use Rattle.meaning.specs.Refusals.{layoutReply, elementPlaceReply}
 use Rattle.meaning.specs.Calendar.{tierReply, matrixVerdict}
 use Rattle.meaning.proofs.Computing.{computing}
-use Rattle.demands.specs.Demand3.{Passed, TotalExactly, AllInside, ElementsStand, lengthIn, Holds}
+use Rattle.demands.specs.Demand3.{Passed, AllInside, ElementsStand, lengthIn}
 use Rattle.demands.specs.Replies.{Replies, ours, octetsAt, alone, startOf, lengthOf}
 use Rattle.demands.specs.Walk.{numbersIn, exists}
 use Rattle.demands.specs.Wrong.{TotalsOfD, WrongPrograms}

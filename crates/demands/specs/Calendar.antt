@@ -9,7 +9,6 @@ use lib.ListN.{getD}
 use Rattle.meaning.specs.declared.Controls.{Controls}
 use Rattle.meaning.specs.declared.Moment.{Moment}
 use Rattle.meaning.specs.declared.Quantity.{Quantity}
-use Rattle.meaning.specs.declared.Refusal.{Refusal}
 use Rattle.meaning.specs.declared.Reply.{Reply}
 use Rattle.meaning.specs.declared.Triple.{Triple}
 use Rattle.meaning.specs.declared.Verdict.{Verdict}
@@ -17,7 +16,7 @@ use Rattle.meaning.specs.Calendar.{realDate, realTime, dayNumber, weekdayOf, co
 use Rattle.meaning.specs.Passed.{Exactly}
 use Rattle.almanac.specs.Latest.{_among_}
 use Rattle.almanac.specs.Choices.{SeasonChosen, SelectsSpecial, SpecialChosen, Switches, SwitchChosen}
-use Rattle.almanac.specs.Matrix.{cell, Fifteen, Shown}
+use Rattle.almanac.specs.Matrix.{Fifteen, Shown}
 
 -- THE SCHEDULE ON A DAY, by what Table 51 says (c), the octets of Table 54 (t) and its dates
 -- the column: that of the special schedule of the day, which has one; else that of the weekday
@@ -68,11 +67,9 @@ module _ (o : ℕ) (c : Controls) (t : List ℕ) (had : Verdict) (w : Moment) (q
 abbrev pub TierSays : (order : ℕ) → (table51 table54 : List ℕ) → (had : Verdict) → Moment → Quantity → Reply → Type 0
 TierSays o a b had w q reply = TierAnswers o (controlsOf o a) b had w q reply
 
--- THE MATRIX, over the same octets: fifteen rows of twenty-two; each cell is Table 54's own, unused ones are 0, and all are on refusal. Cells lent to be written hold it
--- afterwards; a refused call changes none of them
+-- THE MATRIX, over the same octets: fifteen rows of twenty-two, each cell Table 54's own, unused ones 0. Cells lent to be written hold it afterwards. On refusal see
+-- specs/Demand1
 pub record MatrixSays (o : ℕ) (table51 table54 : List ℕ) (had : Verdict) (matrix : List (List ℕ)) (lentAfter : List (List ℕ) → List (List ℕ)) : Type 0 where
   pub fifteen : Fifteen matrix
   pub shown : had ≡ Verdict.Passed → Shown (controlsOf o table51) table54 matrix
-  pub refused : (r : Refusal) → had ≡ Verdict.Refused r → (row column : ℕ) → cell matrix row column ≡ 0
   pub written : had ≡ Verdict.Passed → (lent : List (List ℕ)) → lentAfter lent ≡ matrix
-  pub unchanged : (r : Refusal) → had ≡ Verdict.Refused r → (lent : List (List ℕ)) → lentAfter lent ≡ lent

@@ -111,9 +111,8 @@ pub record OneElement (R : Replies) (d img : List ℕ) (x : ℕ) : Type 0 where
   pub only : (r : ElementName) → Holds R d img r x → SameName name r
 
 pub record ElementsStand (R : Replies) (d img : List ℕ) (total : ℕ) : Type 0 where
-  -- EVERY OCTET BELOW THE TOTAL LIES IN EXACTLY ONE ELEMENT, AND NONE AT OR PAST IT
+  -- EVERY OCTET BELOW THE TOTAL LIES IN EXACTLY ONE ELEMENT, AND NONE AT OR PAST IT IN ANY
   pub one : (x : ℕ) → x < total → OneElement R d img x
-  pub past : (x : ℕ) → total ≤ x → (q : ElementName) → Holds R d img q x → ⊥
   pub ends : (q : ElementName) (p n : ℕ) → R .elementPlace d img q ≡ octetsAt p n → p + n ≤ total
   -- THE DIMENSIONS have the numbers that the number question answers
   pub dimensions : (i : ℕ) → i < itemCount d → 0 < fieldsAt d i .sets → R .elementNumber d img (alone i) ≡ Reply.Number (numbersIn d img (fieldsAt d i .sets))

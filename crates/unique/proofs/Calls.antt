@@ -1,6 +1,6 @@
 -- ONE REPLY, CALL BY CALL: no second reply fits what a public call of a library states, and no second content of the memory lent to it to be written. Each line is over
 -- the contract that Rattle makes from the call's `ensures`; tests/audit fails where a public call has no line here. Assumes nothing.
-use mathlib.Core.Path.{_≡_, refl, sym, _∙_}
+use mathlib.Core.Path.{refl, sym, _∙_}
 use denote.Ref.{ptr, now}
 use Rattle.unique.specs.One.{OneReply, OnePart}
 use Rattle.unique.proofs.kept as kept
