@@ -2,6 +2,7 @@
 -- length, and elements stand in the description's order. Assumes nothing.
 use Prim.Native.Nat.{ℕ, _+_, _-_, _<_, _≤_}
 use mathlib.Core.Path.{_≡_, refl, sym, _∙_, ap}
+use mathlib.Core.Logic.{_⊎_, inl, inr}
 use mathlib.Core.Bool.{Bool, true, false}
 use mathlib.Core.List.{List, _++_}
 use lib.ListN.{length, replicate, length-append, length-replicate}
@@ -11,7 +12,7 @@ use native.Mathlib.Omega.{arith}
 use Rattle.meaning.specs.declared.ElementName.{ElementName}
 use Rattle.meaning.specs.declared.Reply.{Reply}
 use Rattle.meaning.specs.declared.Place.{Place}
-use Rattle.meaning.specs.Description.{itemCount, fieldsAt}
+use Rattle.meaning.specs.Description.{itemCount, fieldsAt, isUint}
 use Rattle.meaning.specs.Layout.{Placed, Seat, Slots}
 use Rattle.meaning.specs.Numbers.{noElement}
 use Rattle.meaning.specs.Passed.{Exactly}
@@ -121,6 +122,25 @@ module _ {d img : List ℕ} {ts : List Seat} {es : List Placed} {s : Slots} {tot
       go true h e = let z : _≡_ {A = ℕ} 0 1 = cc (name-told q h .1) in absurd (omega arith)
       go false h e = cause d (numbersIn d img) q h
 
+  -- nor has a BLOCK or SET a number
+  no-number : (q : ElementName) → Exactly (elementNumberReply d img q ≡ Reply.Refused noElement) (NoSuchElement d (numbersIn d img) q ⊎ (isUint (fieldsAt d (q .item)) ≡ false))
+  unfolding elementNumberReply integerPlace placeNumber
+  no-number q = (go (exists d (numbersIn d img) q) (isUint (fieldsAt d (q .item))) refl refl, back)
+    where
+      go : (b u : Bool) → exists d (numbersIn d img) q ≡ b → isUint (fieldsAt d (q .item)) ≡ u → elementNumberReply d img q ≡ Reply.Refused noElement
+          → NoSuchElement d (numbersIn d img) q ⊎ (isUint (fieldsAt d (q .item)) ≡ false)
+      go b false h g e = inr g
+      go false true h g e = inl (cause d (numbersIn d img) q h)
+      go true true h g e = let k = rw (name-told q h .1, g) at e in let z : _≡_ {A = ℕ} 0 1 = cc in absurd (omega arith)
+
+      back : NoSuchElement d (numbersIn d img) q ⊎ (isUint (fieldsAt d (q .item)) ≡ false) → elementNumberReply d img q ≡ Reply.Refused noElement
+      back (inl n) = rw (no-such q .1 n)
+      back (inr g) = other (exists d (numbersIn d img) q) refl
+        where
+          other : (b : Bool) → exists d (numbersIn d img) q ≡ b → elementNumberReply d img q ≡ Reply.Refused noElement
+          other true h = rw (name-told q h .1, g)
+          other false h = rw (no-such q .1 (cause d (numbersIn d img) q h))
+
   -- the description's order
   in-order : (q r : ElementName) (p n x m : ℕ) → elementPlaceReply d img q ≡ octetsAt p n → elementPlaceReply d img r ≡ octetsAt x m
       → Earlier (wayTo d q) (wayTo d r) → p + n ≤ x
@@ -151,5 +171,6 @@ elements-stand d img total e =
       dimensions = dimension-number o;
       there = is-there o;
       none = no-such o;
+      noNumber = no-number o;
       order = in-order o;
     }

@@ -15,7 +15,7 @@ use Rattle.meaning.specs.declared.ElementName.{ElementName}
 use Rattle.meaning.specs.declared.Reply.{Reply}
 use Rattle.meaning.specs.declared.Place.{Place}
 use Rattle.meaning.specs.declared.Verdict.{Verdict}
-use Rattle.meaning.specs.Description.{itemCount, fieldsAt, isTable, isElement, isTableNamed}
+use Rattle.meaning.specs.Description.{itemCount, fieldsAt, isTable, isUint, isElement, isTableNamed}
 use Rattle.meaning.specs.Passed.{Exactly, endOf}
 use Rattle.meaning.specs.Layout.{Placed, Seat, unreadDimension, bitOutside, unequalElements, noItem, stoppedAt, layOut, leafOctets}
 use Rattle.meaning.specs.Numbers.{imageShort, noElement}
@@ -119,6 +119,9 @@ pub record ElementsStand (R : Replies) (d img : List ℕ) (total : ℕ) : Type 0
   -- each name that there is has an element, of its length; no other has
   pub there : (q : ElementName) → exists d (numbersIn d img) q ≡ true → (p : ℕ) × (R .elementPlace d img q ≡ octetsAt p (lengthIn d (numbersIn d img) (q .item)))
   pub none : (q : ElementName) → Exactly (R .elementPlace d img q ≡ Place.Refused noElement) (NoSuchElement d (numbersIn d img) q)
+  -- and of a number also an item that is no UINT
+  pub noNumber : (q : ElementName)
+      → Exactly (R .elementNumber d img q ≡ Reply.Refused noElement) (NoSuchElement d (numbersIn d img) q ⊎ (isUint (fieldsAt d (q .item)) ≡ false))
   -- THE DESCRIPTION'S ORDER: items of a body one after another, an array's elements one after another
   pub order : (q r : ElementName) (p n x m : ℕ) → R .elementPlace d img q ≡ octetsAt p n → R .elementPlace d img r ≡ octetsAt x m → Earlier (wayTo d q) (wayTo d r) → p + n ≤ x
 
