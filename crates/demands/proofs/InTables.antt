@@ -27,33 +27,31 @@ use Rattle.demands.proofs.Around.{nestsTo, to-count, from-after, from-o
 use Rattle.demands.proofs.Naming.{element-after, Name, namesBody, namesTables, Names, Sorted, names-from, names-append, names-body}
 use Rattle.demands.proofs.Pieces.{no-piece, no-runs, Inside, inside-one, inside-both, octets-grow}
 use Rattle.demands.proofs.Stripped.{strip, strip-append}
-use Rattle.demands.proofs.Walked.{At, DimensionIs, FirstIn, Walks, first-before, first-after, walks-before, other-piece, walks-body}
+use Rattle.demands.proofs.Walked.{walks-body}
+use Rattle.demands.proofs.Walking.{At, DimensionIs, FirstIn, Walks, first-before, first-after, walks-before, other-piece}
 
 no-more-of : (js : List ℕ) → length js ≡ 0 → js ≡ []
 no-more-of [] e = refl
 no-more-of (j ∷ js) e = absurd (omega (arith, e))
 
-module _ (d img : List ℕ) (p : PassedLaws d) where
-  abbrev v : Numbers
-  v = numbersIn d img
-
+module _ (d img : List ℕ) where
   -- TABLES from item a on, with their elements
   pub record TablesWalked (a : ℕ) (ns : List Name) (ts : List Seat) (es : List Placed) (s : Slots) (n : ℕ) : Type 0 where
-    pub here : At d img p (itemCount d) s n
+    pub here : At d img (itemCount d) s n
     pub inside : Inside d img a (itemCount d)
     pub starts : Every (λ t. octetBefore d img (t .item) ≡ t .start) ts
     pub ends : Every (λ t. octetBefore d img (endOf d (t .item)) ≡ t .start + t .size) ts
     pub names : strip es ≡ ns
-    pub dimensions : Every (DimensionIs d img p) es
+    pub dimensions : Every (DimensionIs d img) es
 
   abbrev pub WalksAll : (a : ℕ) → List Name → Layout → Type 0
   WalksAll a ns (laidOut ts es s n) = TablesWalked a ns ts es s n
-  WalksAll a ns (stoppedAt es (short i x)) = FirstIn d img p a (itemCount d) i x
+  WalksAll a ns (stoppedAt es (short i x)) = FirstIn d img a (itemCount d) i x
   WalksAll a ns (stoppedAt es (fault x i)) = ⊥
 
   -- a table from item a up to b, then others
   walks-seated : (a b : ℕ) (f : Fields) (q : ℕ) → a < b → endOf d a ≡ b → b ≤ itemCount d → octetBefore d img a ≡ q → (κ : Known) (ns ms : List Name) (o : Laid) (next : Slots → ℕ → Layout)
-      → Walks d img p a b κ ns o → ((t : Slots) (x : ℕ) → At d img p b t x → Matches t κ → WalksAll b ms (next t x)) → WalksAll a (ns ++ ms) (seated a f q o next)
+      → Walks d img a b κ ns o → ((t : Slots) (x : ℕ) → At d img b t x → Matches t κ → WalksAll b ms (next t x)) → WalksAll a (ns ++ ms) (seated a f q o next)
   unfolding seated Every
   walks-seated a b f q l end room at κ ns ms (laid ps t x) next h k = go (next t x) (k t x (h .here) (h .matches))
     where
@@ -68,38 +66,43 @@ module _ (d img : List ℕ) (p : PassedLaws d) where
             starts = (at, w .starts);
             ends = (rw end (omega (arith, x-is, at, octets-grow d img a b (omega arith))), w .ends);
             names = strip-append ps qs ∙ ap₂ _++_ (h .names) (w .names);
-            dimensions = every-append (DimensionIs d img p) ps qs (h .dimensions) (w .dimensions);
+            dimensions = every-append (DimensionIs d img) ps qs (h .dimensions) (w .dimensions);
           }
-      go (stoppedAt qs (short i y)) w = first-before d img p a b (itemCount d) i y (omega arith) (h .inside) w
+      go (stoppedAt qs (short i y)) w = first-before d img a b (itemCount d) i y (omega arith) (h .inside) w
       go (stoppedAt qs (fault y i)) w = w
-  walks-seated a b f q l end room at κ ns ms (stopped ps (short i x)) next h k = first-after d img p a b (itemCount d) i x room h
+  walks-seated a b f q l end room at κ ns ms (stopped ps (short i x)) next h k = first-after d img a b (itemCount d) i x room h
   walks-seated a b f q l end room at κ ns ms (stopped ps (fault x i)) next h k = h
 
+-- OF A PASSED DESCRIPTION
+module _ (d img : List ℕ) (p : PassedLaws d) where
+  abbrev v : Numbers
+  v = numbersIn d img
+
   -- it is walked, and then the tables that follow
-  walks-table : (a n : ℕ) (κ : Known) (s : Slots) (q : ℕ) → a + suc n ≡ itemCount d → TableAt d a κ → Matches s κ → At d img p a s q
-      → ((t : Slots) (x : ℕ) → Matches t (afterBody (bodyAt 4 d (a + 1) (fieldsAt d a .first)) κ) → At d img p (endOf d a) t x
-      → WalksAll (endOf d a) (namesTables (tablesOf d (n - nested (fieldsAt d a)) 0 (endOf d a)) v) (layTables (tablesOf d (n - nested (fieldsAt d a)) 0 (endOf d a)) img t x))
-      → WalksAll a (namesTables (tablesOf d (suc n) 0 a) v) (layTables (tablesOf d (suc n) 0 a) img s q)
+  walks-table : (a n : ℕ) (κ : Known) (s : Slots) (q : ℕ) → a + suc n ≡ itemCount d → TableAt d a κ → Matches s κ → At d img a s q
+      → ((t : Slots) (x : ℕ) → Matches t (afterBody (bodyAt 4 d (a + 1) (fieldsAt d a .first)) κ) → At d img (endOf d a) t x
+      → WalksAll d img (endOf d a) (namesTables (tablesOf d (n - nested (fieldsAt d a)) 0 (endOf d a)) v) (layTables (tablesOf d (n - nested (fieldsAt d a)) 0 (endOf d a)) img t x))
+      → WalksAll d img a (namesTables (tablesOf d (suc n) 0 a) v) (layTables (tablesOf d (suc n) 0 a) img s q)
   unfolding layTables namesTables enclosed arraysOf allChosen
   walks-table a n κ s q long t m here rest =
       let f = fieldsAt d a in
       let ends = t .ends in
       let end = t .end in
-      let none = other-piece d img p (numbersBefore d img a) a (t .element) (t .array) in
+      let none = other-piece d (numbersBefore d img a) a (t .element) (t .array) in
       let there : a + 1 + nested f ≡ endOf d a = omega arith in
       rw (tables-step d a n, there, table-is d a n (tablesOf d (n - nested f) 0 (endOf d a)) (t .is) (omega arith))
-      (walks-seated a (endOf d a) f q (omega arith) refl ends (ap (λ (r : Reached). r .octet) here)
+      (walks-seated d img a (endOf d a) f q (omega arith) refl ends (ap (λ (r : Reached). r .octet) here)
       (afterBody (bodyAt 4 d (a + 1) (f .first)) κ) (namesBody (bodyAt 4 d (a + 1) (f .first)) v) _ (layBody (bodyAt 4 d (a + 1) (f .first)) img false s q)
       (λ t y. layTables (tablesOf d (n - nested f) 0 (endOf d a)) img t y)
-      (walks-before d img p a (a + 1) (endOf d a) _ _ (layBody (bodyAt 4 d (a + 1) (f .first)) img false s q) (inside-one d img a (no-runs d img a none)) (omega arith)
+      (walks-before d img a (a + 1) (endOf d a) _ _ (layBody (bodyAt 4 d (a + 1) (f .first)) img false s q) (inside-one d img a (no-runs d img a none)) (omega arith)
       (rw end at (walks-body d img p 4 (omega arith) (a + 1) (f .first) _ true κ s q (t .body) (t .sound) (t .next) m (no-piece d img a none ∙ here)
       (λ i y z. let empty = no-more-of (nestsTo d (a + 1) i) (to-count d (a + 1) i (omega arith) ∙ rw (t .body .held i y z, t .flat)) in rw empty (refl, refl)))))
       (λ t y at matches. rest t y matches at))
 
   -- the tables among the last n items
   abbrev WalksLast : (a n : ℕ) → Type 0
-  WalksLast a n = (κ : Known) (s : Slots) (q : ℕ) → a + n ≡ itemCount d → Run d a (itemCount d) (top d) → Same d κ a → Matches s κ → At d img p a s q
-      → WalksAll a (namesTables (tablesOf d n 0 a) v) (layTables (tablesOf d n 0 a) img s q)
+  WalksLast a n = (κ : Known) (s : Slots) (q : ℕ) → a + n ≡ itemCount d → Run d a (itemCount d) (top d) → Same d κ a → Matches s κ → At d img a s q
+      → WalksAll d img a (namesTables (tablesOf d n 0 a) v) (layTables (tablesOf d n 0 a) img s q)
 
   walks-none : (a : ℕ) → WalksLast a 0
   unfolding layTables namesTables strip Every
@@ -117,7 +120,7 @@ module _ (d img : List ℕ) (p : PassedLaws d) where
       walks-table a n κ s q long t g here (λ u x g′ here′. rw there at rest _ u x (omega arith) (rest-body p run (omega arith)) (t .after) g′ here′))
 
   -- from octet 0, no dimension read
-  pub walks-all : WalksAll 0 (namesTables (treeOf d) v) (layOut d img)
+  pub walks-all : WalksAll d img 0 (namesTables (treeOf d) v) (layOut d img)
   unfolding layOut treeOf reached octetsOf numberOf
   walks-all =
       walks-last 0 (itemCount d) noneKnown (λ k. unread) 0 (omega arith) (whole-run d) (λ j some. sym (slot-none d j)) (record { octets = λ k. refl }) refl

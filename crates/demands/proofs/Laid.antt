@@ -25,7 +25,7 @@ use Rattle.demands.proofs.Facts.{Facts}
 use Rattle.demands.proofs.InTables.{TablesWalked, WalksAll, walks-all, names-all}
 use Rattle.demands.proofs.Naming.{Name, namesTables, Named, Allowed, wayFrom, Names, Sorted}
 use Rattle.demands.proofs.Stripped.{nameIn, strip}
-use Rattle.demands.proofs.Walked.{FirstIn}
+use Rattle.demands.proofs.Walking.{FirstIn}
 
 -- FROM NAMES BACK TO ELEMENTS
 every-strip : (P : Name → Type 0) (es : List Placed) → Every P (strip es) → Every (λ e. P (nameIn e)) es
@@ -92,7 +92,7 @@ pub laid-facts : {d img : List ℕ} {ts : List Seat} {es : List Placed} {s : Slo
 laid-facts {d} {img} {ts} {es} {s} {total} o =
     let p = passed-laws d (o .passes) in
     let w = numbersIn d img in
-    let h : TablesWalked d img p 0 (namesTables (treeOf d) w) ts es s total = subst (WalksAll d img p 0 (namesTables (treeOf d) w)) (o .laid) (walks-all d img p) in
+    let h : TablesWalked d img 0 (namesTables (treeOf d) w) ts es s total = subst (WalksAll d img 0 (namesTables (treeOf d) w)) (o .laid) (walks-all d img p) in
     let n = subst (Names d w 0 (itemCount d)) (sym (h .names)) (names-all d img p) in
     let each = every-strip (Allowed d w 0 (itemCount d)) es (n .each) in
     record {
@@ -118,5 +118,5 @@ laid-facts {d} {img} {ts} {es} {s} {total} o =
 pub short-first : (d img : List ℕ) → Passes d → (es : List Placed) (i p : ℕ) → layOut d img ≡ stoppedAt es (short i p) → FirstPast d img i p
 short-first d img passes es i p e =
     let laws = passed-laws d passes in
-    let h : FirstIn d img laws 0 (itemCount d) i p = subst (WalksAll d img laws 0 (namesTables (treeOf d) (numbersIn d img))) e (walks-all d img laws) in
+    let h : FirstIn d img 0 (itemCount d) i p = subst (WalksAll d img 0 (namesTables (treeOf d) (numbersIn d img))) e (walks-all d img laws) in
     record { there = h .high; at = h .at; past = h .past; before = λ j l. h .before j (omega arith) l }

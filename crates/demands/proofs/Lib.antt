@@ -1,4 +1,3 @@
-pub mod Wrong
 pub mod Allowed
 pub mod Around
 pub mod Calendar
@@ -40,5 +39,7 @@ pub mod Tables
 pub mod Tests
 pub mod Told
 pub mod Walked
+pub mod Walking
 pub mod Writable
 pub mod Writes
+pub mod Wrong

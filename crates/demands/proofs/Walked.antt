@@ -12,7 +12,7 @@ use Rattle.meaning.specs.declared.Fields.{Fields}
 use Rattle.meaning.specs.declared.Round.{Round}
 use Rattle.meaning.specs.Description.{itemCount, fieldsAt, isElement, isArray, isChoice, nests, nested, inside, slotOctets}
 use Rattle.meaning.specs.Layout.{Body, branchesIn, ifBranches, branchesOf, taken, bodyIn, onlyBody, bodyAt, leafOctets, numberAt}
-use Rattle.meaning.specs.Layout.{Slots, Placed, fault, short, Laid, laid, stopped, also, andThen, inImage, placed, sizeFrom, repeated, layBody, layNode}
+use Rattle.meaning.specs.Layout.{Slots, Placed, short, Laid, laid, stopped, inImage, placed, sizeFrom, repeated, layBody, layNode}
 use Rattle.meaning.specs.Passed.{PassedLaws, endOf}
 use Rattle.meaning.proofs.Either.{tested}
 use Rattle.meaning.proofs.Ranges.{fields-range, sets-none}
@@ -27,7 +27,7 @@ use Rattle.laying.specs.Tree.{innerAt, nodeAt}
 use Rattle.laying.proofs.Arms.{taken-lay, taken-sound}
 use Rattle.laying.proofs.Branches.{only-run}
 use Rattle.laying.proofs.Bodies.{Same, same-next, quiet-body}
-use Rattle.laying.proofs.Every.{every-map, every-append}
+use Rattle.laying.proofs.Every.{every-map}
 use Rattle.laying.proofs.Nested.{Run, first-ends, second-body, rest-body, still}
 use Rattle.laying.proofs.Nodes.{node-cases, choice-no-array}
 use Rattle.laying.proofs.Reaches.{numbers-set, matches-leaf}
@@ -39,8 +39,9 @@ use Rattle.demands.specs.Walk.{nestsRound, arraysOf, inChosen, allChosen
 use Rattle.demands.proofs.Around.{bodyTaken, nestsTo, to-nest, to-past, to-from, from-nest, nested-ends, fit-room}
 use Rattle.demands.proofs.Lengths.{item-octets, element-octets}
 use Rattle.demands.proofs.Naming.{Name, namesBody, namesNode, taken-names, repeatNames, choice-no-element}
-use Rattle.demands.proofs.Pieces.{set-same, no-piece, no-pieces, no-runs, Inside, inside-one, inside-both, piece-reached, piece-inside, piece-past, number-stays, is-chosen}
-use Rattle.demands.proofs.Stripped.{strip, strip-append, Strips, s-repeated, s-body, Agree, value-agrees, names-agree}
+use Rattle.demands.proofs.Pieces.{set-same, no-piece, no-pieces, no-runs, inside-one, inside-both, piece-reached, piece-inside, piece-past, number-stays, is-chosen}
+use Rattle.demands.proofs.Walking.{At, Open, DimensionIs, FirstIn, Walks, other-piece, array-piece, walks-before, walks-after, walks-then}
+use Rattle.demands.proofs.Stripped.{strip, Strips, s-repeated, s-body, Agree, value-agrees, names-agree}
 
 -- slot 0 is none
 set-nothing : (q n x : ℕ) (w : Numbers) → _≡_ {A = Reached} (record { octet = q + n; numbers = setNumber 0 x w }) (record { octet = q + n; numbers = w })
@@ -49,11 +50,6 @@ set-nothing q n x w = refl
 
 -- WHAT STANDS ROUND, IN PARTS
 module _ (d : List ℕ) where
-  some-array : (a : ℕ) (xs ys : List ℕ) → isArray (fieldsAt d a) ≡ true → isNone (arraysOf d (xs ++ a ∷ ys)) ≡ false
-  unfolding arraysOf isNone
-  some-array a [] ys is = rw is
-  some-array a (x ∷ xs) ys is = tested (λ l. isNone l ≡ false) (isArray (fieldsAt d x)) _ _ (λ t. refl) (λ t. some-array a xs ys is)
-
   arrays-append : (xs ys : List ℕ) → arraysOf d (xs ++ ys) ≡ arraysOf d xs ++ arraysOf d ys
   unfolding arraysOf
   arrays-append [] ys = refl
@@ -81,32 +77,12 @@ module _ (d img : List ℕ) (p : PassedLaws d) where
   abbrev v : Numbers
   v = numbersIn d img
 
-  -- ITEM `at` IS REACHED at octet q, with slots s
-  abbrev pub At : (at : ℕ) → Slots → (q : ℕ) → Type 0
-  At at s q = reached d img at ≡ record { octet = q; numbers = numbersOf s }
-
-  -- round the items from a up to e stand, before a, no ARRAY and no IF that chooses another branch
-  abbrev pub Open : (a e : ℕ) → Type 0
-  Open a e = (i : ℕ) → a ≤ i → i < e → (arraysOf d (nestsTo d a i) ≡ []) × (allChosen d v i (nestsTo d a i) ≡ true)
-
-  -- the first of them, if a UINT, BLOCK, SET or ARRAY, is a piece
-  open-piece : (a e : ℕ) → a < e → e ≤ itemCount d → Open a e → (isElement (fieldsAt d a) || isArray (fieldsAt d a)) ≡ true → isPiece d (numbersBefore d img a) a ≡ true
+  -- the first of items that stand open, if a UINT, BLOCK, SET or ARRAY, is a piece
+  open-piece : (a e : ℕ) → a < e → e ≤ itemCount d → Open d img a e → (isElement (fieldsAt d a) || isArray (fieldsAt d a)) ≡ true → isPiece d (numbersBefore d img a) a ≡ true
   unfolding isPiece isNone
   open-piece a e l m o is = let h = o a (omega arith) l in rw (is, h .0, is-chosen d img p a (omega arith)) (h .1)
 
-  -- what is none of these is no piece
-  pub other-piece : (w : Numbers) (i : ℕ) → isElement (fieldsAt d i) ≡ false → isArray (fieldsAt d i) ≡ false → isPiece d w i ≡ false
-  unfolding isPiece
-  other-piece w i a b = rw (a, b)
-
-  -- nor what stands in an ARRAY
-  array-piece : (w : Numbers) (a i : ℕ) → isArray (fieldsAt d a) ≡ true → a < i → i < endOf d a → isPiece d w i ≡ false
-  unfolding isPiece
-  array-piece w a i is l m =
-      let e : nestsRound d i ≡ nestsTo d a i ++ a ∷ _ = to-from d a i (omega arith) ∙ ap (λ (js : List ℕ). nestsTo d a i ++ js) (from-nest d a i (rw is) l m) in
-      rw (e, some-array d a (nestsTo d a i) _ is, and-false (isElement (fieldsAt d i) || isArray (fieldsAt d i)))
-
-  -- nor what stands in a branch not chosen
+  -- what stands in a branch not chosen is none
   unchosen-piece : (a i : ℕ) → isChoice (fieldsAt d a) ≡ true → a < i → i < endOf d a → i ≤ itemCount d → inChosen d v a i ≡ false → isPiece d (numbersBefore d img i) i ≡ false
   unfolding isPiece
   unchosen-piece a i is l m r other =
@@ -114,78 +90,8 @@ module _ (d img : List ℕ) (p : PassedLaws d) where
       let h : isChosen d v i ≡ false = rw e (one-unchosen d v i a (nestsTo d a i) _ (choice-no-array (fieldsAt d a) is) other) in
       rw (is-chosen d img p i r, h) (and-false ((isElement (fieldsAt d i) || isArray (fieldsAt d i)) && isNone (arraysOf d (nestsRound d i))))
 
-  -- WHAT IS WALKED from item a up to e
-  -- a dimension's number is its slot's
-  abbrev pub DimensionIs : Placed → Type 0
-  DimensionIs x = 0 < x .slot → numberAt img (x .start) (x .size) ≡ v (x .slot)
-
-  pub record Walked (a e : ℕ) (κ : Known) (ns : List Name) (ps : List Placed) (t : Slots) (q : ℕ) : Type 0 where
-    pub here : At e t q
-    pub inside : Inside d img a e
-    pub matches : Matches t κ
-    pub names : strip ps ≡ ns
-    pub dimensions : Every DimensionIs ps
-
-  pub record FirstIn (a e i x : ℕ) : Type 0 where
-    pub low : a ≤ i
-    pub high : i < e
-    pub at : octetBefore d img i ≡ x
-    pub past : runsPast d img i ≡ true
-    pub before : Inside d img a i
-
-  abbrev pub Walks : (a e : ℕ) → Known → List Name → Laid → Type 0
-  Walks a e κ ns (laid ps t q) = Walked a e κ ns ps t q
-  Walks a e κ ns (stopped ps (short i x)) = FirstIn a e i x
-  Walks a e κ ns (stopped ps (fault x i)) = ⊥
-
-  -- with items before of which none runs past, and with items after
-  pub first-before : (a b e i x : ℕ) → a ≤ b → Inside d img a b → FirstIn b e i x → FirstIn a e i x
-  first-before a b e i x l none h = record { low = omega (arith, h .low); high = h .high; at = h .at; past = h .past; before = inside-both d img a b i none (h .before) }
-
-  pub first-after : (a b e i x : ℕ) → b ≤ e → FirstIn a b i x → FirstIn a e i x
-  first-after a b e i x l h = record { low = h .low; high = omega (arith, h .high); at = h .at; past = h .past; before = h .before }
-
-  pub walks-before : (a b e : ℕ) (κ : Known) (ns : List Name) (o : Laid) → Inside d img a b → a ≤ b → Walks b e κ ns o → Walks a e κ ns o
-  walks-before a b e κ ns (laid ps t q) none l h =
-      record { here = h .here; inside = inside-both d img a b e none (h .inside); matches = h .matches; names = h .names; dimensions = h .dimensions }
-  walks-before a b e κ ns (stopped ps (short i x)) none l h = first-before a b e i x l none h
-  walks-before a b e κ ns (stopped ps (fault x i)) none l h = h
-
-  walks-after : (a b e : ℕ) (κ : Known) (ns : List Name) (o : Laid) → ((i : ℕ) → b ≤ i → i < e → isPiece d (numbersBefore d img i) i ≡ false) → b ≤ e
-      → Walks a b κ ns o → Walks a e κ ns o
-  walks-after a b e κ ns (laid ps t q) none l h =
-      record {
-        here = no-pieces d img b e l none ∙ h .here;
-        inside = inside-both d img a b e (h .inside) (λ i m n. no-runs d img i (none i m n));
-        matches = h .matches;
-        names = h .names;
-        dimensions = h .dimensions;
-      }
-  walks-after a b e κ ns (stopped ps (short i x)) none l h = first-after a b e i x l h
-  walks-after a b e κ ns (stopped ps (fault x i)) none l h = h
-
-  -- one after another
-  walks-then : (a b e : ℕ) (κ κ′ : Known) (ns ms : List Name) (o : Laid) (next : Slots → ℕ → Laid) → a ≤ b → b ≤ e → Walks a b κ ns o
-      → ((t : Slots) (q : ℕ) → At b t q → Matches t κ → Walks b e κ′ ms (next t q)) → Walks a e κ′ (ns ++ ms) (andThen o next)
-  unfolding andThen
-  walks-then a b e κ κ′ ns ms (laid ps t q) next l m h k = go (next t q) (k t q (h .here) (h .matches))
-    where
-      go : (u : Laid) → Walks b e κ′ ms u → Walks a e κ′ (ns ++ ms) (also ps u)
-      go (laid qs u r) w =
-          record {
-            here = w .here;
-            inside = inside-both d img a b e (h .inside) (w .inside);
-            matches = w .matches;
-            names = strip-append ps qs ∙ ap₂ _++_ (h .names) (w .names);
-            dimensions = every-append DimensionIs ps qs (h .dimensions) (w .dimensions);
-          }
-      go (stopped qs (short i x)) w = first-before a b e i x l (h .inside) w
-      go (stopped qs (fault x i)) w = w
-  walks-then a b e κ κ′ ns ms (stopped ps (short i x)) next l m h k = first-after a b e i x m h
-  walks-then a b e κ κ′ ns ms (stopped ps (fault x i)) next l m h k = h
-
   -- A PIECE at item a, of n octets from q on, that sets its slot to the number there
-  module _ (a : ℕ) (s : Slots) (q n : ℕ) (here : At a s q) (piece : isPiece d (numbersBefore d img a) a ≡ true) (long : octetsOf d (numbersOf s) a ≡ n) where
+  module _ (a : ℕ) (s : Slots) (q n : ℕ) (here : At d img a s q) (piece : isPiece d (numbersBefore d img a) a ≡ true) (long : octetsOf d (numbersOf s) a ≡ n) where
     octet-here : octetBefore d img a ≡ q
     octet-here = ap (λ (r : Reached). r .octet) here
 
@@ -203,23 +109,23 @@ module _ (d img : List ℕ) (p : PassedLaws d) where
     in-image l = piece-inside d img a (omega (arith, end-here))
 
     -- or is short
-    is-short : length img < q + n → FirstIn a (a + 1) a q
+    is-short : length img < q + n → FirstIn d img a (a + 1) a q
     is-short l =
         record { low = omega arith; high = omega arith; at = octet-here; past = piece-past d img a piece (omega (arith, end-here)); before = λ j m r. absurd (omega arith) }
 
     -- laid, it comes to one or the other
-    walks-piece : (κ : Known) (ns : List Name) (ps : List Placed) (t : Slots) → At (a + 1) t (q + n) → Matches t κ → strip ps ≡ ns → Every DimensionIs ps
-        → Walks a (a + 1) κ ns (inImage false (length img) a q (laid ps t (q + n)))
+    walks-piece : (κ : Known) (ns : List Name) (ps : List Placed) (t : Slots) → At d img (a + 1) t (q + n) → Matches t κ → strip ps ≡ ns → Every (DimensionIs d img) ps
+        → Walks d img a (a + 1) κ ns (inImage false (length img) a q (laid ps t (q + n)))
     unfolding inImage
     walks-piece κ ns ps t at m names dimensions =
-        tested (Walks a (a + 1) κ ns) (q + n ≤? length img) (laid ps t (q + n)) (stopped [] (short a q))
+        tested (Walks d img a (a + 1) κ ns) (q + n ≤? length img) (laid ps t (q + n)) (stopped [] (short a q))
         (λ e. record { here = at; inside = inside-one d img a (in-image (leb-true (q + n) (length img) e)); matches = m; names = names; dimensions = dimensions })
         (λ e. is-short (leb-false (q + n) (length img) e))
 
   -- a UINT, BLOCK or SET
-  walks-leaf : (a : ℕ) (s : Slots) (κ : Known) (q : ℕ) → At a s q → Matches s κ → a < itemCount d → isPiece d (numbersBefore d img a) a ≡ true
+  walks-leaf : (a : ℕ) (s : Slots) (κ : Known) (q : ℕ) → At d img a s q → Matches s κ → a < itemCount d → isPiece d (numbersBefore d img a) a ≡ true
       → 2 ≤ fieldsAt d a .kind → fieldsAt d a .kind ≤ 4 → (0 < fieldsAt d a .sets → fieldsAt d a .slot ≡ 0) → value (numbersOf s) (fieldsAt d a) ≡ value v (fieldsAt d a)
-      → Walks a (a + 1) (setKnown (fieldsAt d a .sets) (fieldsAt d a .octets) κ)
+      → Walks d img a (a + 1) (setKnown (fieldsAt d a .sets) (fieldsAt d a .octets) κ)
       (record { item = a; subscripts = []; octets = leafOctets (fieldsAt d a) (value v (fieldsAt d a)) } ∷ [])
       (inImage false (length img) a q (placed a (fieldsAt d a) img s q (leafOctets (fieldsAt d a) (value (numbersOf s) (fieldsAt d a)))))
   unfolding placed strip Every
@@ -243,31 +149,31 @@ module _ (d img : List ℕ) (p : PassedLaws d) where
           number-stays d img p k (a + 1) (itemCount d) some (omega arith) (omega arith) set ∙ past ∙ set-same k (numberAt img q n) (numbersOf s) some
 
   -- an outermost ARRAY: what is laid whole, with these names
-  walks-array : (a : ℕ) (s : Slots) (κ : Known) (q n : ℕ) (ns : List Name) (f : ℕ → List ℕ → Spot) (o : Laid) → At a s q → Matches s κ → endOf d a ≤ itemCount d
+  walks-array : (a : ℕ) (s : Slots) (κ : Known) (q n : ℕ) (ns : List Name) (f : ℕ → List ℕ → Spot) (o : Laid) → At d img a s q → Matches s κ → endOf d a ≤ itemCount d
       → isPiece d (numbersBefore d img a) a ≡ true → isArray (fieldsAt d a) ≡ true → fieldsAt d a .sets ≡ 0 → octetsOf d (numbersOf s) a ≡ n
-      → Whole s q n f o → Strips s ns o → Walks a (endOf d a) κ ns (inImage false (length img) a q o)
+      → Whole s q n f o → Strips s ns o → Walks d img a (endOf d a) κ ns (inImage false (length img) a q o)
   walks-array a s κ q n ns f (laid ps t r) here m room piece is sets long h names =
       rw (h .same, h .ends)
-      (walks-after a (a + 1) (endOf d a) κ ns (inImage false (length img) a q (laid ps s (q + n))) (λ i l u. array-piece (numbersBefore d img i) a i is (omega arith) u) (omega arith)
+      (walks-after d img a (a + 1) (endOf d a) κ ns (inImage false (length img) a q (laid ps s (q + n))) (λ i l u. array-piece d (numbersBefore d img i) a i is (omega arith) u) (omega arith)
       (walks-piece a s q n here piece long κ ns ps s (past-piece a s q n here piece long ∙ rw sets (set-nothing q n (numberAt img q n) (numbersOf s))) m (names .1)
-      (every-map (λ x. x .slot ≡ 0) DimensionIs (λ x z some. absurd (omega arith)) ps (h .unset))))
+      (every-map (λ x. x .slot ≡ 0) (DimensionIs d img) (λ x z some. absurd (omega arith)) ps (h .unset))))
   walks-array a s κ q n ns f (stopped ps x) here m room piece is sets long h names = absurd h
 
   -- AN ITEM AND A BODY
   -- what is said of bodies that b gives
   abbrev Bodies : (b : ℕ → ℕ → Body) → Type 0
-  Bodies b = (a m : ℕ) (r : Round) (free : Bool) (κ : Known) (s : Slots) (q : ℕ) → Run d a (a + m) r → SoundBody free κ (b a m) → Same d κ a → Matches s κ → At a s q → Open a (a + m)
-      → Walks a (a + m) (afterBody (b a m) κ) (namesBody (b a m) v) (layBody (b a m) img false s q)
+  Bodies b = (a m : ℕ) (r : Round) (free : Bool) (κ : Known) (s : Slots) (q : ℕ) → Run d a (a + m) r → SoundBody free κ (b a m) → Same d κ a → Matches s κ → At d img a s q → Open d img a (a + m)
+      → Walks d img a (a + m) (afterBody (b a m) κ) (namesBody (b a m) v) (layBody (b a m) img false s q)
 
   -- slots known by then have the numbers that they keep
-  agrees : (a : ℕ) (s : Slots) (κ : Known) (q : ℕ) → a ≤ itemCount d → Same d κ a → At a s q → Agree κ (numbersOf s) v
+  agrees : (a : ℕ) (s : Slots) (κ : Known) (q : ℕ) → a ≤ itemCount d → Same d κ a → At d img a s q → Agree κ (numbersOf s) v
   agrees a s κ q l same here k some h =
       sym (ap (λ (r : Reached). r .numbers k) here) ∙ sym (number-stays d img p k a (itemCount d) some l (omega arith) (omega (arith, same k some)))
 
   -- with an IF at item a, before those of its branch
-  module _ (a e : ℕ) (o : Open a e) (is : isChoice (fieldsAt d a) ≡ true) (l : a < e) (ends : endOf d a ≤ e) (room : e ≤ itemCount d) where
+  module _ (a e : ℕ) (o : Open d img a e) (is : isChoice (fieldsAt d a) ≡ true) (l : a < e) (ends : endOf d a ≤ e) (room : e ≤ itemCount d) where
     -- round the items of its first body, or of its second, stands it too
-    open-body : (b c : ℕ) → a < b → c ≤ endOf d a → ((i : ℕ) → b ≤ i → i < c → nestsTo d b i ≡ nestsTo d a i ++ a ∷ []) → ((i : ℕ) → b ≤ i → i < c → inChosen d v a i ≡ true) → Open b c
+    open-body : (b c : ℕ) → a < b → c ≤ endOf d a → ((i : ℕ) → b ≤ i → i < c → nestsTo d b i ≡ nestsTo d a i ++ a ∷ []) → ((i : ℕ) → b ≤ i → i < c → inChosen d v a i ≡ true) → Open d img b c
     unfolding arraysOf allChosen
     open-body b c m n round chosen i x y =
         let h = o i (omega arith) (omega arith) in
@@ -277,7 +183,7 @@ module _ (d img : List ℕ) (p : PassedLaws d) where
         rw (round i x y) (arrays-append d (nestsTo d a i) (a ∷ []) ∙ rw (h .0) none, chosen-append d v i (nestsTo d a i) (a ∷ []) (h .1) one)
 
   -- an ARRAY or IF at item a, first of the items up to e, that is reached
-  module _ (a e : ℕ) (r : Round) (κ : Known) (s : Slots) (q : ℕ) (run : Run d a e r) (l : a < e) (same : Same d κ a) (m : Matches s κ) (here : At a s q) (o : Open a e)
+  module _ (a e : ℕ) (r : Round) (κ : Known) (s : Slots) (q : ℕ) (run : Run d a e r) (l : a < e) (same : Same d κ a) (m : Matches s κ) (here : At d img a s q) (o : Open d img a e)
       (nest : nests (fieldsAt d a) ≡ true) where
     abbrev room : endOf d a ≤ itemCount d
     room = omega (arith, first-ends p run l, run .whole)
@@ -300,20 +206,20 @@ module _ (d img : List ℕ) (p : PassedLaws d) where
 
       -- up to it and from it on no item is a piece
       walks-branch : (b c : ℕ) (body : Body) → a < b → b ≤ c → c ≤ endOf d a → ((i : ℕ) → a < i → i < b → inChosen d v a i ≡ false) → ((i : ℕ) → c ≤ i → i < endOf d a → inChosen d v a i ≡ false)
-          → SoundBody false κ body → (At b s q → Walks b c (afterBody body κ) (namesBody body v) (layBody body img false s q)) → Walks a (endOf d a) κ (namesBody body v) (layBody body img false s q)
+          → SoundBody false κ body → (At d img b s q → Walks d img b c (afterBody body κ) (namesBody body v) (layBody body img false s q)) → Walks d img a (endOf d a) κ (namesBody body v) (layBody body img false s q)
       walks-branch b c body x y z before after sound walk =
-          let first = other-piece (numbersBefore d img a) a element (choice-no-array f is) in
+          let first = other-piece d (numbersBefore d img a) a element (choice-no-array f is) in
           let none : (i : ℕ) → a + 1 ≤ i → i < b → isPiece d (numbersBefore d img i) i ≡ false
           = λ i u w. unchosen-piece a i is (omega arith) (omega arith) (omega (arith, room)) (before i (omega arith) w) in
           let start = no-pieces d img (a + 1) b (omega arith) none ∙ no-piece d img a first ∙ here in
-          walks-after a c (endOf d a) κ (namesBody body v) (layBody body img false s q) (λ i u w. unchosen-piece a i is (omega arith) w (omega (arith, room)) (after i u w)) z
-          (walks-before a b c κ (namesBody body v) (layBody body img false s q)
+          walks-after d img a c (endOf d a) κ (namesBody body v) (layBody body img false s q) (λ i u w. unchosen-piece a i is (omega arith) w (omega (arith, room)) (after i u w)) z
+          (walks-before d img a b c κ (namesBody body v) (layBody body img false s q)
           (inside-both d img a (a + 1) b (inside-one d img a (no-runs d img a first)) (λ i u w. no-runs d img i (none i u w))) (omega arith)
-          (subst (λ (κ′ : Known). Walks b c κ′ (namesBody body v) (layBody body img false s q)) (quiet-body κ body sound) (walk start)))
+          (subst (λ (κ′ : Known). Walks d img b c κ′ (namesBody body v) (layBody body img false s q)) (quiet-body κ body sound) (walk start)))
 
       -- the first where the value isn't 0, else the second
       walks-taken : (t : Bool) → (0 <? value v f) ≡ t → SoundBody false κ (bodyIn inner a (bodyTaken f t))
-          → Walks a (endOf d a) κ (namesBody (bodyIn inner a (bodyTaken f t)) v) (layBody (bodyIn inner a (bodyTaken f t)) img false s q)
+          → Walks d img a (endOf d a) κ (namesBody (bodyIn inner a (bodyTaken f t)) v) (layBody (bodyIn inner a (bodyTaken f t)) img false s q)
       unfolding inChosen
       walks-taken true x sound =
           let z : a + 1 + 0 ≡ a + 1 = omega arith in
@@ -335,16 +241,16 @@ module _ (d img : List ℕ) (p : PassedLaws d) where
           (λ i u w. rw x (le-leb (a + 1 + f .first) i u))))
 
   -- AN ITEM, kind by kind
-  walks-node : (k a n e : ℕ) (r : Round) (free : Bool) (κ : Known) (s : Slots) (q : ℕ) → k ≤ 4 → Bodies (innerAt k d) → Run d a e r → a < e → Same d κ a → Matches s κ → At a s q → Open a e
+  walks-node : (k a n e : ℕ) (r : Round) (free : Bool) (κ : Known) (s : Slots) (q : ℕ) → k ≤ 4 → Bodies (innerAt k d) → Run d a e r → a < e → Same d κ a → Matches s κ → At d img a s q → Open d img a e
       → FitNode (nodeAt k d a n) → SoundNode free κ (nodeAt k d a n)
-      → Walks a (endOf d a) (afterNode (nodeAt k d a n) κ) (namesNode (nodeAt k d a n) v) (layNode (nodeAt k d a n) img false s q)
+      → Walks d img a (endOf d a) (afterNode (nodeAt k d a n) κ) (namesNode (nodeAt k d a n) v) (layNode (nodeAt k d a n) img false s q)
   unfolding SoundNode afterNode namesNode layNode RisesNode itemSize branchesIn ifBranches taken
   walks-node k a n e r free κ s q deep below run l same m here o fit sound =
       let f = fieldsAt d a in
       let ends = first-ends p run l in
       let room = run .whole in
       let w = numbersOf s in
-      node-cases (λ t. itemSize t w ≡ octetsOf d w a → RisesNode d 0 a (endOf d a) t → SoundNode free κ t → Walks a (endOf d a) (afterNode t κ) (namesNode t v) (layNode t img false s q))
+      node-cases (λ t. itemSize t w ≡ octetsOf d w a → RisesNode d 0 a (endOf d a) t → SoundNode free κ t → Walks d img a (endOf d a) (afterNode t κ) (namesNode t v) (layNode t img false s q))
       (innerAt k d) d a n
       (λ lost long rises h. absurd h)
       (λ g two four long rises h.
@@ -358,7 +264,7 @@ module _ (d img : List ℕ) (p : PassedLaws d) where
       let b = bodyIn (innerAt k d) a (onlyBody f) in
       let agree = agrees a s κ q (omega arith) same here in
       rw (value-is s κ f a _ m (h .0))
-      (subst (λ (ns : List Name). Walks a (endOf d a) κ ns (inImage false (length img) a q
+      (subst (λ (ns : List Name). Walks d img a (endOf d a) κ ns (inImage false (length img) a q
       (repeated (λ t x. layBody b img true t x) a (sizeFrom q (layBody b img true s q)) (value w f) 0 s q)))
       (ap₂ (λ (c : ℕ) (ns : List Name). repeatNames c 0 ns) (value-agrees κ w v f agree (h .0)) (names-agree κ w v b agree (h .1)))
       (walks-array a s κ q (value w f * bodySize b w) (repeatNames (value w f) 0 (namesBody b w)) _ _ here m (omega arith) (open-piece a e l room o (rw (is, or-true))) is
@@ -375,7 +281,7 @@ module _ (d img : List ℕ) (p : PassedLaws d) where
       sound
 
   -- what is known after it
-  same-after : (k a n e : ℕ) (r : Round) (free : Bool) (κ : Known) (s : Slots) (q : ℕ) → Run d a e r → a < e → Same d κ a → Matches s κ → At a s q → Open a e → SoundNode free κ (nodeAt k d a n)
+  same-after : (k a n e : ℕ) (r : Round) (free : Bool) (κ : Known) (s : Slots) (q : ℕ) → Run d a e r → a < e → Same d κ a → Matches s κ → At d img a s q → Open d img a e → SoundNode free κ (nodeAt k d a n)
       → Same d (afterNode (nodeAt k d a n) κ) (endOf d a)
   unfolding SoundNode afterNode
   same-after k a n e r free κ s q run l same m here o =
@@ -388,18 +294,18 @@ module _ (d img : List ℕ) (p : PassedLaws d) where
       (λ g is h. same-in a e r κ s q run l same m here o (rw (is, or-true)) (endOf d a) (omega arith) (omega arith))
 
   -- round the items after it stands what stood round it
-  open-rest : (a e : ℕ) → endOf d a ≤ e → e ≤ itemCount d → Open a e → Open (endOf d a) e
+  open-rest : (a e : ℕ) → endOf d a ≤ e → e ≤ itemCount d → Open d img a e → Open d img (endOf d a) e
   open-rest a e l room o i x y =
       let z = to-past d a (endOf d a) i (omega arith) (λ j g h. omega (arith, nested-ends d (p .nest) a j (omega arith) g h)) in
       rw z (o i (omega arith) y)
 
   -- A BODY is its first item and the rest
   walks-more : (k a n e : ℕ) (r : Round) (free : Bool) (κ : Known) (s : Slots) (q : ℕ) → k ≤ 4 → Bodies (innerAt k d) → a + suc n ≡ e → nested (fieldsAt d a) ≤ n → Run d a e r → Same d κ a → Matches s κ
-      → At a s q → Open a e → FitNode (nodeAt k d a n) → SoundNode free κ (nodeAt k d a n)
-      → ((κ′ : Known) (t : Slots) (x : ℕ) → κ′ ≡ afterNode (nodeAt k d a n) κ → Run d (endOf d a) e r → Same d κ′ (endOf d a) → Matches t κ′ → At (endOf d a) t x → Open (endOf d a) e
-      → Walks (endOf d a) e (afterBody (bodyAt k d (endOf d a) (n - nested (fieldsAt d a))) κ′) (namesBody (bodyAt k d (endOf d a) (n - nested (fieldsAt d a))) v)
+      → At d img a s q → Open d img a e → FitNode (nodeAt k d a n) → SoundNode free κ (nodeAt k d a n)
+      → ((κ′ : Known) (t : Slots) (x : ℕ) → κ′ ≡ afterNode (nodeAt k d a n) κ → Run d (endOf d a) e r → Same d κ′ (endOf d a) → Matches t κ′ → At d img (endOf d a) t x → Open d img (endOf d a) e
+      → Walks d img (endOf d a) e (afterBody (bodyAt k d (endOf d a) (n - nested (fieldsAt d a))) κ′) (namesBody (bodyAt k d (endOf d a) (n - nested (fieldsAt d a))) v)
       (layBody (bodyAt k d (endOf d a) (n - nested (fieldsAt d a))) img false t x))
-      → Walks a e (afterBody (bodyAt k d a (suc n)) κ) (namesBody (bodyAt k d a (suc n)) v) (layBody (bodyAt k d a (suc n)) img false s q)
+      → Walks d img a e (afterBody (bodyAt k d a (suc n)) κ) (namesBody (bodyAt k d a (suc n)) v) (layBody (bodyAt k d a (suc n)) img false s q)
   unfolding afterBody namesBody layBody
   walks-more k a n e r free κ s q deep below end fits run same m here o fit sound rest =
       let l : a < e = omega arith in
@@ -407,15 +313,15 @@ module _ (d img : List ℕ) (p : PassedLaws d) where
       let u = nested (fieldsAt d a) in
       let there : a + 1 + u ≡ endOf d a = omega arith in
       rw (body-step k d a n, there)
-      (walks-then a (endOf d a) e (afterNode (nodeAt k d a n) κ) _ (namesNode (nodeAt k d a n) v) (namesBody (bodyAt k d (endOf d a) (n - u)) v)
+      (walks-then d img a (endOf d a) e (afterNode (nodeAt k d a n) κ) _ (namesNode (nodeAt k d a n) v) (namesBody (bodyAt k d (endOf d a) (n - u)) v)
       (layNode (nodeAt k d a n) img false s q) (λ t x. layBody (bodyAt k d (endOf d a) (n - u)) img false t x) (omega arith) ends
       (walks-node k a n e r free κ s q deep below run l same m here o fit sound)
       (λ t x at matches.
       rest (afterNode (nodeAt k d a n) κ) t x refl (rest-body p run l) (same-after k a n e r free κ s q run l same m here o sound) matches at (open-rest a e ends (run .whole) o)))
 
   -- of no items
-  walks-none : (k a : ℕ) (κ : Known) (s : Slots) (q : ℕ) → Matches s κ → At a s q
-      → Walks a (a + 0) (afterBody (bodyAt k d a 0) κ) (namesBody (bodyAt k d a 0) v) (layBody (bodyAt k d a 0) img false s q)
+  walks-none : (k a : ℕ) (κ : Known) (s : Slots) (q : ℕ) → Matches s κ → At d img a s q
+      → Walks d img a (a + 0) (afterBody (bodyAt k d a 0) κ) (namesBody (bodyAt k d a 0) v) (layBody (bodyAt k d a 0) img false s q)
   unfolding afterBody namesBody layBody strip Every
   walks-none k a κ s q m here =
       let e : a + 0 ≡ a = omega arith in
@@ -429,13 +335,13 @@ module _ (d img : List ℕ) (p : PassedLaws d) where
   -- of any number
   abbrev WalksItems : (k a n : ℕ) → Type 0
   WalksItems k a n = (e : ℕ) (r : Round) (free : Bool) (κ : Known) (s : Slots) (q : ℕ) → a + n ≡ e → Run d a e r → SoundBody free κ (bodyAt k d a n) → Same d κ a → Matches s κ
-      → At a s q → Open a e → Walks a e (afterBody (bodyAt k d a n) κ) (namesBody (bodyAt k d a n) v) (layBody (bodyAt k d a n) img false s q)
+      → At d img a s q → Open d img a e → Walks d img a e (afterBody (bodyAt k d a n) κ) (namesBody (bodyAt k d a n) v) (layBody (bodyAt k d a n) img false s q)
 
   walks-items : (k : ℕ) → k ≤ 4 → Bodies (innerAt k d) → (a n : ℕ) → WalksItems k a n
   walks-items k deep below =
       by-items d (WalksItems k)
       (λ a e r free κ s q end run sound same m here o.
-      subst (λ (x : ℕ). Walks a x (afterBody (bodyAt k d a 0) κ) (namesBody (bodyAt k d a 0) v) (layBody (bodyAt k d a 0) img false s q)) end (walks-none k a κ s q m here))
+      subst (λ (x : ℕ). Walks d img a x (afterBody (bodyAt k d a 0) κ) (namesBody (bodyAt k d a 0) v) (layBody (bodyAt k d a 0) img false s q)) end (walks-none k a κ s q m here))
       (λ a n rest e r free κ s q end run sound same m here o.
       let h = sound-step k a n free κ sound in
       let fit = fit-node free κ (nodeAt k d a n) (h .0) in

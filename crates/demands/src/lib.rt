@@ -8,7 +8,7 @@
 //
 // proofs/, from below:
 // Told, Surrounds, Rules: our check says what the rules in words say.
-// Around, Lengths, Naming, Stripped, Pieces, Walked, InTables: laying out the tree comes to what the walk in
+// Around, Lengths, Naming, Stripped, Pieces, Walking, Walked, InTables: laying out comes to what the walk in
 // words comes to. Facts and Laid: what the rest leans on of it.
 // Calendar: the tier and the matrix.
 // Names, Elements, Tables, Made, Outcomes: places. Writes, Writable, Dimensions, Allowed, Octets, RangeWrites,
