@@ -11,6 +11,7 @@ use Rattle.meaning.specs.declared.Triple.{Triple}
 use Rattle.meaning.specs.Calendar.{orLater, latest}
 use Rattle.almanac.specs.Latest.{_among_, Latest, LatestSays}
 use Rattle.almanac.proofs.Tests.{lt-or-ge}
+use Rattle.meaning.proofs.Either.{clash}
 
 -- AN EARLIER RECORD'S BEFORE A LATER ONE'S
 pub none-earlier : (b : Chosen) → orLater Nothing b ≡ b
@@ -32,7 +33,7 @@ earlier-stays w x v y h = rw (lt-leb w v h)
 
 -- something isn't nothing
 pub entry-some : {w x : ℕ} → Entry w x ≡ Nothing → ⊥
-entry-some e = let z : _≡_ {A = ℕ} 0 1 = cc in omega arith
+entry-some e = clash (cc)
 
 -- BEFORE A TIME: what is brought holds from an earlier time on, or is nothing
 abbrev Below : ℕ → Chosen → Type 0

@@ -3,7 +3,6 @@ use Prim.Native.Nat.{ℕ}
 use mathlib.Core.Path.{_≡_, refl}
 use mathlib.Core.Bool.{Bool, true, false, not}
 use mathlib.Core.List.{List}
-use native.Mathlib.Omega.{arith}
 use Rattle.meaning.specs.Basics.{if_then_else_}
 use Rattle.meaning.specs.declared.Refusal.{Refusal}
 use Rattle.meaning.specs.declared.Verdict.{Verdict}
@@ -12,11 +11,12 @@ use Rattle.meaning.specs.Layout.{Placed}
 use Rattle.meaning.specs.Refusals.{placeVerdict, writable, anyDimension, allowed}
 use Rattle.meaning.specs.Numbers.{notWritable, holdsDimension}
 use Rattle.demands.specs.Replies.{octetsAt}
+use Rattle.meaning.proofs.Either.{clash}
 
 -- a refusal isn't passed
 pub refused-not : (r : Refusal) → placeVerdict (Place.Refused r) ≡ Verdict.Passed → ⊥
 unfolding placeVerdict
-refused-not r e = let z : _≡_ {A = ℕ} 0 1 = cc in omega arith
+refused-not r e = clash (cc)
 
 -- the table is marked writable, and no dimension is found
 pub record Open (d img : List ℕ) (es : List Placed) (t p n : ℕ) : Type 0 where

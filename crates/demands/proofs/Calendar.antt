@@ -3,7 +3,6 @@ use Prim.Native.Nat.{ℕ, _+_, _*_}
 use mathlib.Core.Path.{_≡_, refl, sym, _∙_}
 use mathlib.Core.Bool.{false, not, _&&_, _||_}
 use mathlib.Core.List.{List}
-use native.Mathlib.Omega.{arith}
 use borrow.Author.Tests.{leb-false, lt-leb, not-false}
 use Rattle.meaning.specs.Basics.{_≤?_}
 use Rattle.meaning.specs.declared.Chosen.{Chosen}
@@ -18,17 +17,13 @@ use Rattle.meaning.specs.declared.Verdict.{Verdict}
 use Rattle.meaning.specs.Layout.{dataOrder}
 use Rattle.meaning.specs.Refusals.{tablePartReply}
 use Rattle.meaning.specs.Calendar.{realDate, realTime, dayNumber, datesOf, seasonOn, specialOn, columnOn, missingSpecial, cellAt, latest, switchEntry, switchesOf, tierFrom, tierBySchedule, Found, found, tierOn, tierDay, tierIn, tierReply, matrixIn, matrixReply, matrixVerdictIn, matrixVerdict, cellsAfter}
-use Rattle.meaning.proofs.Either.{tested}
+use Rattle.meaning.proofs.Either.{tested, clash}
 use Rattle.meaning.proofs.Rules.{either-false}
 use Rattle.almanac.specs.Choices.{SwitchSays}
 use Rattle.almanac.proofs.Tests.{both-true}
 use Rattle.almanac.proofs.Choices.{season-says, special-says, switch-says}
 use Rattle.almanac.proofs.Matrix.{FoundIn, there, absent, calendar-found, matrix-found, matrix-fifteen}
 use Rattle.demands.specs.Calendar.{ColumnOn, Answerable, Scheduled, TierIs, NoneYetToday, TierAnswers, TierSays, MatrixSays}
-
--- no reply is two at once: `cc` would have 0 equal 1
-clash : {A : Type 0} → _≡_ {A = ℕ} 0 1 → A
-clash e = absurd (omega arith)
 
 -- THE COLUMN of the special schedule on a day, where it isn't missing
 module _ (c : Controls) (day : ℕ) (dates : List Triple) where

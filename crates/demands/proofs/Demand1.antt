@@ -1,16 +1,15 @@
 -- DEMAND 1, for every description, image and question, of our replies. Assumes nothing.
 use Prim.Native.Nat.{ℕ}
-use mathlib.Core.Path.{_≡_, refl, sym, ap, subst}
+use mathlib.Core.Path.{_≡_, refl, sym, subst}
 use mathlib.Core.List.{List, []}
-use mathlib.Core.Option.{Option, some, none}
+use mathlib.Core.Option.{some}
 use lib.ListN.{replicate}
-use native.Mathlib.Omega.{arith}
 use Rattle.meaning.specs.Basics.{build}
 use Rattle.meaning.specs.declared.Reply.{Reply}
 use Rattle.meaning.specs.declared.Place.{Place}
 use Rattle.meaning.specs.declared.Refusal.{Refusal}
 use Rattle.meaning.specs.declared.Verdict.{Verdict}
-use Rattle.meaning.specs.Refusals.{toldBy, verdictReply, placePart, tablePartReply, elementPartReply}
+use Rattle.meaning.specs.Refusals.{toldBy, placePart, tablePartReply, elementPartReply}
 use Rattle.meaning.specs.Calendar.{Found, found, missing, matrixIn, matrixReply, matrixVerdictIn, matrixVerdict, cellsAfter}
 use Rattle.meaning.specs.Questions as ask
 use Rattle.meaning.specs.Questions.{Question, refusalIn}
@@ -21,8 +20,10 @@ use Rattle.laying.specs.Every.{Every}
 use Rattle.laying.proofs.Every.{every-append}
 use Rattle.demands.proofs.Demand2.{demand-2}
 use Rattle.demands.proofs.Known.{KnownIn, known-last, known-more, first-known, sound-known, layout-knows, after, one-known, four-known}
+use Rattle.demands.proofs.OnlyFirst.{verdict-refused}
 use Rattle.demands.proofs.FirstGiven.{first-given}
 use Rattle.demands.proofs.Rules.{check-in-words}
+use Rattle.meaning.proofs.Either.{clash}
 
 -- BY ITS NUMBERS: each kind of reply
 reply-numbered : (r : Reply) → KnownIn (refusalIn r) → Numbered (refusalIn r) (toldBy r)
@@ -35,16 +36,7 @@ reply-numbered (Reply.Number x) h = refl
 reply-numbered (Reply.Tier t) h = refl
 reply-numbered Reply.NoneYet h = refl
 
-abbrev refusalOr : Refusal → Option Refusal → Refusal
-refusalOr r none = r
-refusalOr r (some x) = x
-
-verdict-refused : (v : Verdict) (r : Refusal) → refusalIn (verdictReply v) ≡ some r → v ≡ Verdict.Refused r
-unfolding refusalIn verdictReply
-verdict-refused Verdict.Passed r e = let z : _≡_ {A = ℕ} 0 1 = cc in absurd (omega arith)
-verdict-refused (Verdict.Refused x) r e = ap Verdict.Refused (ap (refusalOr x) e)
-
--- EACH QUESTION: its refusals are on the paper, and where it is refused no octet changes
+-- EACH QUESTION: its refusals are document 01's, and where it is refused no octet changes
 record Kept (d img : List ℕ) (q : Question) : Type 0 where
   known : Every KnownIn (refusalsOf ours q d img)
   unchanged : (r : Refusal) → refusalIn (outcomeBy ours q d img .reply) ≡ some r → outcomeBy ours q d img .image ≡ img
@@ -93,7 +85,7 @@ part-none img x r e = rw e
 
 no-matrix : (f : Found) (r : Refusal) → matrixVerdictIn f ≡ Verdict.Refused r → matrixIn f ≡ replicate 15 (replicate 22 0)
 unfolding matrixVerdictIn matrixIn build
-no-matrix (found o c t) r e = let z : _≡_ {A = ℕ} 0 1 = cc in absurd (omega arith)
+no-matrix (found o c t) r e = clash (cc)
 no-matrix (missing x) r e = refl
 
 -- cells lent stay as they were

@@ -28,6 +28,7 @@ use Rattle.laying.proofs.Among.{Among, every-among, ElementOf, named-among, Has
 use Rattle.laying.proofs.Found.{own}
 use Rattle.demands.proofs.Laid.{laid-facts}
 use Rattle.demands.proofs.Names.{cause, caused, dimension-exists, Found, name-found, none-found}
+use Rattle.meaning.proofs.Either.{clash}
 
 -- an element's name: its item, and its subscripts filled up to four places
 abbrev pub nameOf : Placed → ElementName
@@ -119,7 +120,7 @@ module _ {d img : List ℕ} {ts : List Seat} {es : List Placed} {s : Slots} {tot
   no-such q = (go (exists d (numbersIn d img) q) refl, λ n. where-laid o q ∙ ap placedPlace (none-found o q (caused d (numbersIn d img) q n)))
     where
       go : (b : Bool) → exists d (numbersIn d img) q ≡ b → elementPlaceReply d img q ≡ Place.Refused noElement → NoSuchElement d (numbersIn d img) q
-      go true h e = let z : _≡_ {A = ℕ} 0 1 = cc (name-told q h .1) in absurd (omega arith)
+      go true h e = clash (cc (name-told q h .1))
       go false h e = cause d (numbersIn d img) q h
 
   -- nor has a BLOCK or SET a number
@@ -131,7 +132,7 @@ module _ {d img : List ℕ} {ts : List Seat} {es : List Placed} {s : Slots} {tot
           → NoSuchElement d (numbersIn d img) q ⊎ (isUint (fieldsAt d (q .item)) ≡ false)
       go b false h g e = inr g
       go false true h g e = inl (cause d (numbersIn d img) q h)
-      go true true h g e = let k = rw (name-told q h .1, g) at e in let z : _≡_ {A = ℕ} 0 1 = cc in absurd (omega arith)
+      go true true h g e = let k = rw (name-told q h .1, g) at e in clash (cc)
 
       back : NoSuchElement d (numbersIn d img) q ⊎ (isUint (fieldsAt d (q .item)) ≡ false) → elementNumberReply d img q ≡ Reply.Refused noElement
       back (inl n) = rw (no-such q .1 n)

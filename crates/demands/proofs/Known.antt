@@ -1,4 +1,4 @@
--- Of demand 1: every refusal that a question may get has its number on the paper, 1 to 20, with the item and the octet that it reports. Assumes nothing.
+-- Of demand 1: every refusal that a question may get has one of document 01's numbers, 1 to 20, with the item and the octet that it reports. Assumes nothing.
 use Prim.Native.Nat.{ℕ, zero, suc, _+_}
 use mathlib.Core.Path.{_≡_, refl, sym, ap, subst}
 use mathlib.Core.Logic.{inl, inr}

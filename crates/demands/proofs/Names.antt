@@ -7,14 +7,13 @@ use mathlib.Core.List.{List, []}
 use mathlib.Core.Option.{Option, some, none}
 use lib.ListN.{length}
 use borrow.Author.Tests.{lt-ltb, ltb-true, eqb-true}
-use native.Mathlib.Omega.{arith}
 use Rattle.meaning.specs.Basics.{if_then_else_, _=?_, _<?_, _≤?_}
 use Rattle.meaning.specs.declared.ElementName.{ElementName}
 use Rattle.meaning.specs.Description.{itemCount, fieldsAt, isElement, nests}
 use Rattle.meaning.specs.Layout.{Placed, Seat, Slots, elementNamed}
 use Rattle.meaning.specs.Passed.{Passes, endOf}
 use Rattle.meaning.specs.Refusals.{elementIn}
-use Rattle.meaning.proofs.Either.{tested}
+use Rattle.meaning.proofs.Either.{tested, clash}
 use Rattle.meaning.proofs.Ranges.{fields-range}
 use Rattle.laying.proofs.Among.{every-among, ElementOf, named-among}
 use Rattle.laying.proofs.LaidOut.{names-found}
@@ -140,7 +139,7 @@ module _ {d img : List ℕ} {ts : List Seat} {es : List Placed} {s : Slots} {tot
       go true c h =
           let n = named-among (q .item) (subscriptsOf q) es e h in
           rw (n .item, n .subscripts) at (every-among _ e es (laid-facts o .named) (n .among))
-      go false c h = let z : _≡_ {A = ℕ} 0 1 = cc in absurd (omega arith)
+      go false c h = clash (cc)
 
   pub none-found : (q : ElementName) → exists d (numbersIn d img) q ≡ false → elementIn q es ≡ none
   none-found q h = go (elementIn q es) refl

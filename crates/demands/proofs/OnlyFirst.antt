@@ -6,7 +6,6 @@ use mathlib.Core.Bool.{Bool, true, false}
 use mathlib.Core.List.{List, _∷_}
 use mathlib.Core.Option.{Option, some, none}
 use Prim.Native.Nat.{ℕ}
-use native.Mathlib.Omega.{arith}
 use Rattle.meaning.specs.declared.Place.{Place}
 use Rattle.meaning.specs.declared.Place.the-variants as place
 use Rattle.meaning.specs.declared.Refusal.{Refusal}
@@ -24,11 +23,9 @@ use Rattle.demands.specs.Demands.{Demands}
 use Rattle.demands.specs.Replies.{Replies, outcomeBy}
 use Rattle.demands.specs.Rules.{CheckSays}
 use Rattle.demands.proofs.Rules.{check-in-words}
+use Rattle.meaning.proofs.Either.{clash}
 
 -- THE REFUSAL IN A REPLY, whichever kind of reply it is
-pub clash : {A : Type 0} → _≡_ {A = ℕ} 0 1 → A
-clash e = absurd (omega arith)
-
 pub reply-refused : (x : Reply) (r : Refusal) → refusalIn x ≡ some r → x ≡ Reply.Refused r
 unfolding refusalIn
 reply-refused (reply.Refused s) r e = cc
@@ -44,7 +41,7 @@ unfolding refusalIn placeReply
 place-refused (place.Refused s) r e = cc
 place-refused (place.At p n) r e = clash (cc)
 
-verdict-refused : (x : Verdict) (r : Refusal) → refusalIn (verdictReply x) ≡ some r → x ≡ Verdict.Refused r
+pub verdict-refused : (x : Verdict) (r : Refusal) → refusalIn (verdictReply x) ≡ some r → x ≡ Verdict.Refused r
 unfolding refusalIn verdictReply
 verdict-refused (verdict.Refused s) r e = cc
 verdict-refused verdict.Passed r e = clash (cc)

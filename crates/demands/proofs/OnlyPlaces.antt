@@ -26,9 +26,10 @@ use Rattle.demands.specs.Demand3.{Passed, LaysOrShort, SameName, lengthI
 use Rattle.demands.specs.Demands.{Demands}
 use Rattle.demands.specs.Replies.{Replies, outcomeBy, octetsAt, startOf, lengthOf}
 use Rattle.demands.specs.Walk.{octetsIn, numbersIn, exists, wayTo, Earlier}
-use Rattle.demands.proofs.OnlyFirst.{clash, verdict-passed, first-none, given-none}
+use Rattle.demands.proofs.OnlyFirst.{verdict-passed, first-none, given-none}
 use Rattle.demands.proofs.OnlyNames.{existing}
 use Rattle.demands.proofs.OnlyTiles.{SetOut, Tiled}
+use Rattle.meaning.proofs.Either.{clash}
 
 -- a place that isn't refused
 pub told : (x : Place) → refusalIn (placeReply x) ≡ none → x ≡ octetsAt (startOf x) (lengthOf x)

@@ -21,6 +21,7 @@ use Rattle.demands.specs.Replies.{ours}
 use Rattle.demands.specs.Walk.{FirstPast}
 use Rattle.demands.proofs.Laid.{laid-facts, short-first}
 use Rattle.demands.proofs.Rules.{check-in-words}
+use Rattle.meaning.proofs.Either.{clash}
 
 -- a description is passed exactly when it meets the rules
 pub passed-exactly : (d : List ℕ) → PassedExactly ours d
@@ -68,7 +69,7 @@ module _ {d img : List ℕ} (p : Passed ours d img) where
   ends : {A : Type 0} → ((i q : ℕ) → layoutReply d img ≡ Reply.Refused (imageShort i q) → FirstPast d img i q → A)
       → ((n : ℕ) → layoutReply d img ≡ Reply.Total n → AllInside d img n → A) → A
   ends cut whole =
-      opening d img (λ r e h. let z : _≡_ {A = ℕ} 0 1 = cc (p .passes) in absurd (omega arith))
+      opening d img (λ r e h. clash (cc (p .passes)))
       (λ q l h. absurd (omega (arith, ltb-true 65535 (length img) l, p .allowed)))
       (λ q l es i x e h. cut i x (short-told es i x e) (short-first d img q es i x e)) (λ ts es s n o. whole n (total-laid o) (laid-facts o .inside))
 
@@ -80,7 +81,7 @@ module _ {d img : List ℕ} (p : Passed ours d img) where
   pub short-exactly : ShortExactly ours d img
   unfolding toldBy
   short-exactly i q = (
-    (λ e. ends (λ j r h f. moved j r f (sym h ∙ e)) (λ n h a. let z : _≡_ {A = ℕ} 0 1 = cc in absurd (omega arith))),
+    (λ e. ends (λ j r h f. moved j r f (sym h ∙ e)) (λ n h a. clash (cc))),
     λ f. ends (λ j r h g. let a = one-item f g in let b = one-octet f g in rw (a, b) h) (λ n h a. absurd (none-past f a)),
   )
     where

@@ -2,7 +2,7 @@
 -- nothing.
 use Prim.Native.Nat.{ℕ, zero, suc, _+_, _<_, _≤_}
 use mathlib.Core.Path.{_≡_, refl, _∙_, ap, sym, subst}
-use mathlib.Core.Bool.{Bool, true, false, cond, and-false}
+use mathlib.Core.Bool.{Bool, true, false, cond, and-false, _&&_}
 use mathlib.Core.List.{List, [], _∷_}
 use lib.ListN.{length}
 use borrow.Author.Tests.{ltb-true, lt-ltb, le-ltb, eq-eqb, ne-eqb}
@@ -78,7 +78,9 @@ module _ (d img : List ℕ) where
 
   pub piece-inside : (i : ℕ) → octetBefore d img i + octetsOf d (numbersBefore d img i) i ≤ length img → runsPast d img i ≡ false
   unfolding runsPast
-  piece-inside i l = rw (le-ltb (length img) _ l, and-false (isPiece d (numbersBefore d img i) i))
+  piece-inside i l =
+      let piece = isPiece d (numbersBefore d img i) i in
+      ap (λ (b : Bool). piece && b) (le-ltb _ _ l) ∙ and-false piece
 
   pub piece-past : (i : ℕ) → isPiece d (numbersBefore d img i) i ≡ true → length img < octetBefore d img i + octetsOf d (numbersBefore d img i) i → runsPast d img i ≡ true
   unfolding runsPast

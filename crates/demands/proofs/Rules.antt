@@ -9,14 +9,14 @@ use borrow.Author.Tests.{eq-eqb, ne-eqb}
 use lib.Dec.{eqb, ltb}
 use lib.ListN.{length}
 use Rattle.meaning.specs.Description.{itemCount, fieldsAt, isTableNamed, isTable00, isDataOrder, round, slotOctets, tableGiven, misplaced, breaks1, breaks2, breaks3, breaks4, breaks5, breaks6, breaks7, checkReply}
-use Rattle.meaning.specs.Passed.{Exactly, breaks, endOf, MeetsRules as BreaksNone, FirstToBreak as FirstBroken}
+use Rattle.meaning.specs.Passed.{Exactly, breaks, endOf, MeetsRules as BreaksNone, FirstToBreak as FirstBroken, LengthAllowed}
 use Rattle.meaning.proofs.Rules.{slot-step, given-none, given-step}
 use Rattle.meaning.proofs.Nesting.{upward}
 use Rattle.meaning.proofs.Ranges.{fields-range}
 use Rattle.meaning.proofs.Given.{slot-given, setter, table-given}
 use Rattle.meaning.proofs.Passed.{check-says}
 use Rattle.almanac.proofs.Choices.{put}
-use Rattle.demands.specs.Rules.{WellFormed, InPlace, EndsInside, Shallow, Once, RefersBack, KeepsRule, KeepsRules, LengthAllowed, MeetsRules, FirstToBreak, CheckSays}
+use Rattle.demands.specs.Rules.{WellFormed, InPlace, EndsInside, Shallow, Once, RefersBack, KeepsRule, KeepsRules, MeetsRules, FirstToBreak, CheckSays}
 use Rattle.demands.proofs.Told.{Fails, onward, itself, below, equal, at-most, denied, fails-not, holds-not, nothing, both, neither, given, chosen}
 use Rattle.demands.proofs.Surrounds.{Rising, tables, depth, over, each, no-one, by-limit}
 

@@ -28,6 +28,7 @@ use Rattle.demands.proofs.Elements.{name-told}
 use Rattle.demands.proofs.Laid.{laid-facts}
 use Rattle.demands.proofs.Names.{name-long, dimension-direct, dimension-exists, is-found, name-found, found-name}
 use Rattle.demands.proofs.Tables.{TableNamed, named-is, is-named, one-table, table-found, found-table}
+use Rattle.meaning.proofs.Either.{clash}
 
 -- that there is none
 unfoldable pub noSeat : Option Seat → Bool
@@ -103,7 +104,7 @@ module _ {d img : List ℕ} {ts : List Seat} {es : List Placed} {s : Slots} {tot
       go none e false g = refl
       go none e true g =
           let r = given-table d (itemCount d) m k g in
-          let z : _≡_ {A = ℕ} 0 1 = cc (table-found o (named-is (r .1) (r .2)) .3) in absurd (omega arith)
+          clash (cc (table-found o (named-is (r .1) (r .2)) .3))
       go (some t) e true g = refl
       go (some t) e false g =
           let i = found-table o e in
@@ -133,7 +134,7 @@ module _ {d img : List ℕ} {ts : List Seat} {es : List Placed} {s : Slots} {tot
     where
       go : (x : Option Placed) → elementIn q es ≡ x → (b : Bool) → exists d (numbersIn d img) q ≡ b → not b ≡ noPlaced x
       go none e false g = refl
-      go none e true g = let z : _≡_ {A = ℕ} 0 1 = cc (name-found o q g .found) in absurd (omega arith)
+      go none e true g = clash (cc (name-found o q g .found))
       go (some f) e true g = refl
       go (some f) e false g = absurd (true≢false (sym (found-name o q f e) ∙ g))
 

@@ -25,6 +25,7 @@ use Rattle.demands.specs.Demand2.{OthersSame, Unchanged}
 use Rattle.demands.specs.Replies.{octetsAt, ours}
 use Rattle.demands.specs.Demand3.{StaysPut}
 use Rattle.laying.proofs.Opened.{Opens, total-laid, table-laid, where-laid}
+use Rattle.meaning.proofs.Either.{clash}
 
 -- OCTETS OUTSIDE DIMENSIONS
 -- an image whose octets are the same but for n from p on, none of them a dimension's
@@ -155,5 +156,5 @@ stays-put (Place.Refused r) data′ h = record { total = refl; tables = λ m k. 
 -- a refused write changes nothing
 pub refused-unchanged : (img : List ℕ) (w : Place) (data′ : ℕ → List ℕ) → Unchanged (placeVerdict w) img (writtenWith img data′ w)
 unfolding placeVerdict writtenWith
-refused-unchanged img (Place.At p n) data′ r e = let z : _≡_ {A = ℕ} 0 1 = cc in absurd (omega arith)
+refused-unchanged img (Place.At p n) data′ r e = clash (cc)
 refused-unchanged img (Place.Refused s) data′ r e = refl

@@ -23,7 +23,8 @@ use Rattle.demands.specs.Wrong.{TotalsOfD, WrongPrograms}
 use Rattle.demands.proofs.Calendar.{tier-says}
 use Rattle.demands.proofs.Demand3.{demand-3}
 use Rattle.demands.proofs.Names.{cause}
-use Rattle.demands.proofs.OnlyFirst.{clash}
+use Rattle.meaning.proofs.Either.{clash}
+
 
 -- OUR REPLIES, COMPUTED
 D-passed : checkReply D ≡ Verdict.Passed

@@ -1,7 +1,7 @@
 -- THE RULES ON DESCRIPTIONS, as facts in the words of document 01, "Description items" and refusals 1 to 7. What an item's fields are is read from its octets by `fieldsAt` (crate
 -- meaning, specs/Description); all else is said here, by which items enclose which. proofs/Rules.antt proves `CheckSays` of our check, for every description. Assumes
 -- nothing.
-use Prim.Native.Nat.{ℕ, _+_, _%_, _<_, _≤_}
+use Prim.Native.Nat.{ℕ, _+_, _<_, _≤_}
 use mathlib.Core.Path.{_≡_}
 use mathlib.Core.Bool.{true, false}
 use mathlib.Core.List.{List}
@@ -9,7 +9,7 @@ use lib.ListN.{length}
 use Rattle.meaning.specs.Basics.{if_then_else_, _=?_, _<?_}
 use Rattle.meaning.specs.declared.Verdict.{Verdict}
 use Rattle.meaning.specs.Description.{itemCount, fieldsAt, isTable, nests, isTableNamed}
-use Rattle.meaning.specs.Passed.{Exactly, endOf, SetEarlier}
+use Rattle.meaning.specs.Passed.{Exactly, LengthAllowed, endOf, SetEarlier}
 use Rattle.meaning.specs.Numbers.{descriptionLength, breaksRule}
 
 -- WHAT ENCLOSES WHAT. Counts include nested items: item j encloses the items that follow it, as many as it counts
@@ -87,14 +87,8 @@ pub record KeepsRules (d : List ℕ) (i : ℕ) : Type 0 where
   pub once : Once d i
   pub refersBack : RefersBack d i
 
--- 1: a description has 1 to 512 items of 4 octets
-pub record LengthAllowed (d : List ℕ) : Type 0 where
-  pub some : 0 < length d
-  pub few : length d ≤ 2048
-  pub whole : length d % 4 ≡ 0
-
 -- THE REPLY TO "IS THIS DESCRIPTION SOUND", any family's
--- its length is allowed, and every item keeps the rules
+-- its length is allowed (1), and every item keeps the rules
 pub record MeetsRules (d : List ℕ) : Type 0 where
   pub allowed : LengthAllowed d
   pub keeps : (i : ℕ) → i < itemCount d → KeepsRules d i

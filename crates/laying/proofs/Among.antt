@@ -11,7 +11,7 @@ use native.Mathlib.Omega.{arith}
 use Rattle.meaning.specs.Basics.{_=?_}
 use Rattle.meaning.specs.Layout.{Placed, Seat, sameList, elementNamed, tableNamed}
 use Rattle.laying.specs.Every.{Every}
-use Rattle.meaning.proofs.Either.{tested}
+use Rattle.meaning.proofs.Either.{tested, clash}
 use Rattle.laying.proofs.Apart.{named-true}
 use Rattle.laying.proofs.Cover.{Lies, Consecutive, no-more, next, consecutive-fill}
 
@@ -55,7 +55,7 @@ pub record ElementOf (i : ℕ) (subs : List ℕ) (es : List Placed) (e : Placed)
 -- the element found by a name is one of them, and has that name
 pub named-among : (i : ℕ) (subs : List ℕ) (es : List Placed) (e : Placed) → elementNamed i subs es ≡ some e → ElementOf i subs es e
 unfolding elementNamed Among
-named-among i subs [] e h = let z : _≡_ {A = ℕ} 0 1 = cc in absurd (omega arith)
+named-among i subs [] e h = clash (cc)
 named-among i subs (f ∷ es) e h =
     tested (λ o. o ≡ some e → ElementOf i subs (f ∷ es) e) (f .item =? i && sameList (f .subscripts) subs) (some f) (elementNamed i subs es)
     (λ t g. let n = named-true f i subs t in let s : f ≡ e = cc in record { among = inl s; item = cc; subscripts = cc })
@@ -70,7 +70,7 @@ pub record SeatOf (m k : ℕ) (ts : List Seat) (t : Seat) : Type 0 where
 -- the table found by a name is one of them, and has that name
 pub seat-among : (m k : ℕ) (ts : List Seat) (t : Seat) → tableNamed m k ts ≡ some t → SeatOf m k ts t
 unfolding tableNamed Among
-seat-among m k [] t h = let z : _≡_ {A = ℕ} 0 1 = cc in absurd (omega arith)
+seat-among m k [] t h = clash (cc)
 seat-among m k (u ∷ ts) t h =
     tested (λ o. o ≡ some t → SeatOf m k (u ∷ ts) t) (u .manufacturer =? m && u .number =? k) (some u) (tableNamed m k ts)
     (λ b g.

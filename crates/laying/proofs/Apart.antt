@@ -9,7 +9,7 @@ use Rattle.meaning.specs.Basics.{_=?_}
 use Rattle.meaning.specs.Layout.{Placed, sameList, elementNamed}
 use Rattle.laying.specs.Every.{Every}
 use Rattle.laying.specs.Names.{Differ, Apart, Found}
-use Rattle.meaning.proofs.Either.{tested}
+use Rattle.meaning.proofs.Either.{tested, clash}
 use Rattle.laying.proofs.Every.{every-map, every-both, every-append}
 
 -- no name of the first list is one of the second

@@ -7,7 +7,6 @@ use mathlib.Core.List.{List}
 use mathlib.Core.Option.{Option, some, none}
 use lib.ListN.{length, take}
 use borrow.Author.Tests.{ltb-false, le-ltb}
-use native.Mathlib.Omega.{arith}
 use Rattle.meaning.specs.Basics.{if_then_else_, _<?_, _≤?_}
 use Rattle.meaning.specs.declared.ElementName.{ElementName}
 use Rattle.meaning.specs.declared.Refusal.{Refusal}
@@ -22,6 +21,7 @@ use Rattle.meaning.specs.Refusals.{seatPlace, tablePlaceIn, tablePlaceReply, el
 use Rattle.meaning.specs.Numbers.{imageTooLong, imageShort, noElement}
 use Rattle.laying.specs.Outcomes.{Lays}
 use Rattle.laying.proofs.Reaches.{passed-lays}
+use Rattle.meaning.proofs.Either.{clash}
 
 -- THE IMAGE OPENED
 -- a passed description, an image of at most 65,535 octets, and the tables, elements, slots and total that laying out comes to
@@ -99,7 +99,7 @@ total-opens d img n e = go (came d img)
     go (opens ts es s m o) =
         let h : m ≡ n = cc (total-laid o) in
         subst (TotalOf d img) h (record { seats = ts; elements = es; slots = s; opens = o })
-    go (refuses r h) = let z : _≡_ {A = ℕ} 0 1 = cc (ap layoutIn h) in absurd (omega arith)
+    go (refuses r h) = clash (cc (ap layoutIn h))
 
 -- a place's octet
 abbrev pub placeStart : Place → ℕ
@@ -120,8 +120,8 @@ integer-exactly d i (Place.At s l) p n = (go (isUint (fieldsAt d i)) refl, λ c.
     go : (b : Bool) → isUint (fieldsAt d i) ≡ b → (if b then Place.At s l else Place.Refused noElement) ≡ Place.At (record { 0 = p }) n
         → (isUint (fieldsAt d i) ≡ true) × (Place.At s l ≡ Place.At (record { 0 = p }) n)
     go true e h = (e, h)
-    go false e h = let z : _≡_ {A = ℕ} 0 1 = cc in absurd (omega arith)
-integer-exactly d i (Place.Refused r) p n = (λ e. let z : _≡_ {A = ℕ} 0 1 = cc in absurd (omega arith), λ c. c .1)
+    go false e h = clash (cc)
+integer-exactly d i (Place.Refused r) p n = (λ e. clash (cc), λ c. c .1)
 
 -- an element was found, at p and n octets long
 pub record FoundAt (o : Option Placed) (p n : ℕ) : Type 0 where
@@ -133,7 +133,7 @@ pub record FoundAt (o : Option Placed) (p n : ℕ) : Type 0 where
 -- where a place is replied, one was
 found-at : (o : Option Placed) (p n : ℕ) → placedPlace o ≡ Place.At (record { 0 = p }) n → FoundAt o p n
 unfolding placedPlace
-found-at none p n e = let z : _≡_ {A = ℕ} 0 1 = cc in absurd (omega arith)
+found-at none p n e = clash (cc)
 found-at (some x) p n e = record { element = x; found = refl; start = ap placeStart e; size = ap placeLength e }
 
 -- a table was found, at p and n octets long
@@ -146,7 +146,7 @@ pub record SeatAt (o : Option Seat) (p n : ℕ) : Type 0 where
 -- where a place is replied, one was
 seat-at : (o : Option Seat) (p n : ℕ) → seatPlace o ≡ Place.At (record { 0 = p }) n → SeatAt o p n
 unfolding seatPlace
-seat-at none p n e = let z : _≡_ {A = ℕ} 0 1 = cc in absurd (omega arith)
+seat-at none p n e = clash (cc)
 seat-at (some t) p n e = record { seat = t; found = refl; start = ap placeStart e; size = ap placeLength e }
 
 -- of an opened image: the element whose place is replied, by its item and subscripts
@@ -158,7 +158,7 @@ where-found {es = es} o q p n e = go (q .count ≤? 4) (sym (where-laid o q) ∙
     go : (b : Bool) → placedPlace (if b then elementNamed (q .item) (take (q .count) (q .subscripts)) es else none) ≡ Place.At (record { 0 = p }) n
         → FoundAt (elementNamed (q .item) (take (q .count) (q .subscripts)) es) p n
     go true h = found-at _ p n h
-    go false h = let z : _≡_ {A = ℕ} 0 1 = cc in absurd (omega arith)
+    go false h = clash (cc)
 
 -- the image opened, and that table found
 pub record TableOf (d img : List ℕ) (m k p n : ℕ) : Type 0 where
@@ -176,7 +176,7 @@ table-opens d img m k p n e = go (came d img)
   where
     go : Came d img → TableOf d img m k p n
     go (opens ts es s l o) = record { seats = ts; elements = es; slots = s; total = l; opens = o; at = seat-at _ p n (sym (table-laid o m k) ∙ e) }
-    go (refuses r h) = let z : _≡_ {A = ℕ} 0 1 = cc (ap (tablePlaceIn m k) h) in absurd (omega arith)
+    go (refuses r h) = clash (cc (ap (tablePlaceIn m k) h))
 
 -- the image opened, and that element found
 pub record ElementAt (d img : List ℕ) (q : ElementName) (p n : ℕ) : Type 0 where
@@ -194,4 +194,4 @@ where-opens d img q p n e = go (came d img)
   where
     go : Came d img → ElementAt d img q p n
     go (opens ts es s l o) = record { seats = ts; elements = es; slots = s; total = l; opens = o; at = where-found o q p n e }
-    go (refuses r h) = let z : _≡_ {A = ℕ} 0 1 = cc (ap (elementPlaceIn q) h) in absurd (omega arith)
+    go (refuses r h) = clash (cc (ap (elementPlaceIn q) h))

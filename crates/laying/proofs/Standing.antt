@@ -17,6 +17,7 @@ use Rattle.laying.specs.Sound.{FitBody, FitNode}
 use Rattle.laying.specs.Tree.{innerAt, nodeAt}
 use Rattle.laying.proofs.Nodes.{node-cases}
 use Rattle.laying.proofs.Steps.{body-step, by-items}
+use Rattle.meaning.proofs.Either.{clash}
 
 -- WHERE THERE IS NONE, there was none before
 missing-first : (r q : Row) → firstRow r q ≡ noRow → (r ≡ noRow) × (q ≡ noRow)
@@ -59,7 +60,7 @@ module _ (d : List ℕ) (v : Numbers) (i : ℕ) (element : isElement (fieldsAt d
       (λ l two four fit a b e.
       let here : at ≡ i = omega (arith, fields-range d at .whole two four) in
       let e = rw (eq-eqb at i here) at e in
-      let z : _≡_ {A = ℕ} 0 1 = cc in omega arith)
+      clash (cc))
       (λ l five fit a b e.
       let s = past at (λ h. false≢true (rw five at h)) in
       below _ _ fit (omega arith) (omega (arith, fields-range d at .one (omega arith))) (missing-array _ _ _ e))
@@ -69,7 +70,7 @@ module _ (d : List ℕ) (v : Numbers) (i : ℕ) (element : isElement (fieldsAt d
       let one : count (nests f) ≡ 1 = rw (choice, or-true) in
       omega (arith, fields-range d at .single (leb-true 2 (f .kind) (b .0)) (leb-true (f .kind) 4 (b .1)))) in
       let e = rw (le-leb (at + 1) i (omega arith), lt-ltb i (at + 1 + nested f) b) at (missing-first _ _ e .1) in
-      let z : _≡_ {A = ℕ} 0 1 = cc in omega arith)
+      clash (cc))
 
   items-there : (k : ℕ) → Below k → (at n : ℕ) → FitBody (bodyAt k d at n) → at ≤ i → i < at + n → bodyRow (bodyAt k d at n) v i ≡ noRow → ⊥
   unfolding FitBody bodyRow

@@ -15,7 +15,7 @@ use Rattle.meaning.specs.declared.Fields.{Fields}
 use Rattle.meaning.specs.declared.Round.{Round}
 use Rattle.meaning.specs.declared.Verdict.{Verdict}
 use Rattle.meaning.specs.Description.{itemCount, fieldsAt, isTable, isTableNamed, isTable00, isDataOrder, isDimension, nests, refers, inside, around, round, slotOctets, tableGiven, misplaced, breaks1, breaks2, breaks3, breaks4, breaks5, breaks6, breaks7, lowestBroken, ruleBroken, firstBroken, checkReply}
-use Rattle.meaning.specs.Passed.{Keeps}
+use Rattle.meaning.specs.Passed.{Keeps, LengthAllowed}
 use Rattle.meaning.specs.Numbers.{descriptionLength, breaksRule}
 
 -- WHAT EARLIER ITEMS GAVE, before the first item and past one more
@@ -137,12 +137,6 @@ first-refused d (suc m) i k n p q h e ne =
         → cond (eqb (ruleBroken d i) 0) (firstBroken d m (i + 1)) (Verdict.Refused (breaksRule (ruleBroken d i) i)) ≡ Verdict.Refused (breaksRule n k)
     go rec (inl x) = rw (x, e, ne-eqb _ _ ne)
     go rec (inr x) = rw (h i (omega arith) x) (rec x)
-
--- a length that is allowed: 1 to 2,048 octets, a multiple of 4
-pub record LengthAllowed (d : List ℕ) : Type 0 where
-  pub some : 0 < length d
-  pub few : length d ≤ 2048
-  pub whole : length d % 4 ≡ 0
 
 pub length-allowed : (d : List ℕ) → breaks1 d ≡ false → LengthAllowed d
 unfolding breaks1

@@ -1,10 +1,11 @@
 -- WHAT A PASSED DESCRIPTION IS: that the reply says what the rules say, and what follows of a description that is passed, in document 01's words.
 -- Statements only; proofs/Passed.antt proves each for every description. Assumes nothing.
-use Prim.Native.Nat.{ℕ, _+_, _*_, _<_, _≤_}
+use Prim.Native.Nat.{ℕ, _+_, _*_, _%_, _<_, _≤_}
 use mathlib.Core.Path.{_≡_}
 use mathlib.Core.Logic.{_⊎_}
 use mathlib.Core.Bool.{Bool, true, false, not}
 use mathlib.Core.List.{List}
+use lib.ListN.{length}
 use Rattle.meaning.specs.declared.Fields.{Fields}
 use Rattle.meaning.specs.declared.Round.{Round}
 use Rattle.meaning.specs.declared.Refusal.{Refusal}
@@ -15,6 +16,12 @@ use Rattle.meaning.specs.Numbers.{descriptionLength, breaksRule}
 
 abbrev pub Exactly : Type 0 → Type 0 → Type 0
 Exactly A B = (A → B) × (B → A)
+
+-- a description has 1 to 512 items of 4 octets
+pub record LengthAllowed (d : List ℕ) : Type 0 where
+  pub some : 0 < length d
+  pub few : length d ≤ 2048
+  pub whole : length d % 4 ≡ 0
 
 -- THE REPLY SAYS WHAT THE RULES SAY
 -- item i breaks rule n, of 2 to 7

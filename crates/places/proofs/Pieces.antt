@@ -15,6 +15,7 @@ use Rattle.places.specs.declared.walk.Aim.{Aim}
 use Rattle.places.specs.declared.walk.Walk.{Walk}
 use Rattle.places.specs.Rows.{firstOf, onwardBy}
 use Rattle.places.specs.Walking.{meets, dimensionAt, place, noted, pastPiece, shortHere, stepOf}
+use Rattle.meaning.proofs.Either.{clash}
 
 -- A DIMENSION'S OCTETS
 -- two tests are one, where they come to it

@@ -34,6 +34,7 @@ use Rattle.places.specs.Rows.{Few}
 use Rattle.places.specs.Surveying.{tableFound, heldIn, StandsAs, AnswerAs}
 use Rattle.places.proofs.Reach.{spot-as}
 use Rattle.places.proofs.RowLaws.{as-none}
+use Rattle.meaning.proofs.Either.{clash}
 
 -- a place in a table, and none
 seat-place : (t : Option Seat) → foundPlace (tableFound t) ≡ seatPlace t
@@ -46,8 +47,8 @@ seat-place (some t) = refl
 found-place : (p : ℕ) (e : Option Placed) (s : Spot) → spotOf e ≡ further p s → ((x : Placed) → e ≡ some x → x .start ≤ 65535) → spotPlace p s ≡ placedPlace e
 unfolding spotPlace placedPlace spotOf further
 found-place p none absent h small = refl
-found-place p none (spot o n) h small = let z : _≡_ {A = ℕ} 0 1 = cc in absurd (omega arith)
-found-place p (some x) absent h small = let z : _≡_ {A = ℕ} 0 1 = cc in absurd (omega arith)
+found-place p none (spot o n) h small = clash (cc)
+found-place p (some x) absent h small = clash (cc)
 found-place p (some x) (spot o n) h small =
     let a : x .start ≡ p + o = cc in
     let b : x .size ≡ n = cc in
@@ -57,7 +58,7 @@ found-place p (some x) (spot o n) h small =
 -- and so it isn't far into the table
 spot-early : (p : ℕ) (e : Option Placed) (s : Spot) → spotOf e ≡ further p s → ((x : Placed) → e ≡ some x → x .start ≤ 65535) → (o m : ℕ) → s ≡ spot o m → o ≤ 65535
 unfolding spotOf further
-spot-early p none s h small o m e = let z : _≡_ {A = ℕ} 0 1 = cc (h ∙ ap (further p) e) in absurd (omega arith)
+spot-early p none s h small o m e = clash (cc (h ∙ ap (further p) e))
 spot-early p (some x) s h small o m e =
     let a : x .start ≡ p + o = cc (h ∙ ap (further p) e) in
     omega (arith, small x refl)
@@ -97,8 +98,8 @@ module _ (d img : List ℕ) (q : Asked) (r : Answer) (a : AnswerAs d img q r (op
   -- THE TOTAL
   total-in : (o : Opened) → AnswerAs d img q r o → ((x : Refusal) → r .verdict ≡ Verdict.Refused x → Reply.Refused x ≡ layoutIn o) × (r .verdict ≡ Verdict.Passed → Reply.Total (r .total) ≡ layoutIn o)
   unfolding layoutIn
-  total-in (opened ts es s n) h = ((λ x e. let z : _≡_ {A = ℕ} 0 1 = cc (h .passed) in absurd (omega arith)), λ e. rw (h .total))
-  total-in (refused y) h = ((λ x e. cc), λ e. let z : _≡_ {A = ℕ} 0 1 = cc in absurd (omega arith))
+  total-in (opened ts es s n) h = ((λ x e. clash (cc (h .passed))), λ e. rw (h .total))
+  total-in (refused y) h = ((λ x e. cc), λ e. clash (cc))
 
   pub total-refused : (x : Refusal) → r .verdict ≡ Verdict.Refused x → Reply.Refused x ≡ layoutReply d img
   unfolding layoutReply
@@ -155,8 +156,8 @@ module _ (d img : List ℕ) (q : Asked) (r : Answer) (a : AnswerAs d img q r (op
       → ((x : Refusal) → r .verdict ≡ Verdict.Refused x → Ranged.Refused x ≡ rangeIn (q .first .manufacturer) (q .first .number) (q .from) (q .octets) o)
       × (r .verdict ≡ Verdict.Passed → ranged (r .first) (r .held) ≡ rangeIn (q .first .manufacturer) (q .first .number) (q .from) (q .octets) o)
   unfolding rangeIn
-  range-in (opened ts es s n) h = ((λ x e. let z : _≡_ {A = ℕ} 0 1 = cc (h .passed) in absurd (omega arith)), λ e. range-found _ es (h .first) (h .held))
-  range-in (refused y) h = ((λ x e. cc), λ e. let z : _≡_ {A = ℕ} 0 1 = cc in absurd (omega arith))
+  range-in (opened ts es s n) h = ((λ x e. clash (cc (h .passed))), λ e. range-found _ es (h .first) (h .held))
+  range-in (refused y) h = ((λ x e. cc), λ e. clash (cc))
 
   pub range-refused : (x : Refusal) → r .verdict ≡ Verdict.Refused x → Ranged.Refused x ≡ rangeIn (q .first .manufacturer) (q .first .number) (q .from) (q .octets) (openImage d img)
   range-refused = range-in (openImage d img) a .0

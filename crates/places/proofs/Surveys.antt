@@ -53,6 +53,7 @@ use Rattle.places.specs.Surveying.{tableFound, isFirst, seatIn, firstSta
 use Rattle.places.specs.Walking.{WalkEnds, Ends, WalkBodyReady, WalksBody}
 use Rattle.places.proofs.Held.{holds-append}
 use Rattle.places.proofs.RowLaws.{as-none}
+use Rattle.meaning.proofs.Either.{clash}
 
 -- WHERE THINGS ARE
 -- the first of two that is found
@@ -93,8 +94,8 @@ seat-more n ts h i p l = rw (named-more _ _ ts (seatOf h i p l)) (go (tableNamed
 -- a row of the code that is none says none, and one that is some comes before any other
 said-none : (L : List def.Array) (r : def.Row) → saying Nowhere L ≡ cutRow r → r ≡ noRow
 unfolding saying cutRow
-said-none L (row p n rest) e = let z : _≡_ {A = ℕ} 0 1 = cc in absurd (omega arith)
-said-none L (notChosen rest) e = let z : _≡_ {A = ℕ} 0 1 = cc in absurd (omega arith)
+said-none L (row p n rest) e = clash (cc)
+said-none L (notChosen rest) e = clash (cc)
 said-none L noRow e = refl
 
 said-some : (p : ℕ) (x : Stands) (L : List def.Array) (r q : def.Row) → saying x L ≡ cutRow r → (x ≡ Nowhere → ⊥) → firstRow (onward p r) q ≡ onward p r
@@ -102,8 +103,8 @@ unfolding saying cutRow firstRow onward
 said-some p x L (row o n rest) q e other = refl
 said-some p x L (notChosen rest) q e other = refl
 said-some p Nowhere L noRow q e other = absurd (other refl)
-said-some p NotChosen L noRow q e other = let z : _≡_ {A = ℕ} 0 1 = cc in absurd (omega arith)
-said-some p (There o n) L noRow q e other = let z : _≡_ {A = ℕ} 0 1 = cc in absurd (omega arith)
+said-some p NotChosen L noRow q e other = clash (cc)
+said-some p (There o n) L noRow q e other = clash (cc)
 
 -- which of two rows stands
 standing-first : (a b : Standing) (r q : def.Row) → StandsAs a r → StandsAs b q → StandsAs (firstStanding a b) (firstRow r q)
@@ -118,8 +119,8 @@ standing-first a b r q h g = go (a .row .stands) (h .row-as .says)
 
     go : (x : Stands) → saying x L ≡ cutRow (h .inTable) → StandsAs (firstBy x a b) (firstRow r q)
     go Nowhere e = record { inTable = g .inTable; is = rw (h .is, said-none L (h .inTable) e) (g .is); row-as = g .row-as; early = g .early }
-    go NotChosen e = stays NotChosen e (λ z. let y : _≡_ {A = ℕ} 0 1 = cc in absurd (omega arith))
-    go (There p n) e = stays (There p n) e (λ z. let y : _≡_ {A = ℕ} 0 1 = cc in absurd (omega arith))
+    go NotChosen e = stays NotChosen e (λ z. clash (cc))
+    go (There p n) e = stays (There p n) e (λ z. clash (cc))
 
 -- OCTETS OF DIMENSIONS. n octets from offset o on of the table of that name, among tables and elements that end by p; then a table from p to x, with elements ps
 module _ (n : TableName) (o l p : ℕ) (ts : List Seat) (es ps : List Placed) (h : Fields) (i x : ℕ) (order : p ≤ x)
