@@ -15,7 +15,7 @@ use Rattle.meaning.specs.declared.Refusal.{Refusal}
 use Rattle.meaning.specs.declared.Place.{Place}
 use Rattle.meaning.specs.Description.{itemCount, fieldsAt, isUint}
 use Rattle.meaning.specs.Layout.{Placed, Seat, tableNamed, numberAt}
-use Rattle.meaning.specs.Refusals.{openImage, seatPlace, tablePlaceReply, elementPlaceReply, integerPlace, writable, anyDimension, tableAround, allowed, allowedAt, fitting, rangeOf, rangeIn, rangePlace, octetsPlaceIn, numberPlaceIn}
+use Rattle.meaning.specs.Refusals.{openImage, seatPlace, tablePlaceReply, elementPlaceReply, integerPlace, writable, anyDimension, tableAround, allowed, allowedAt, fitting, rangeOf, rangeIn, rangePlace, octetsPlaceIn, numberPlaceIn, placeStart}
 use Rattle.meaning.proofs.Ranges.{fields-range}
 use Rattle.meaning.specs.Numbers.{outsideTable, notWritable, holdsDimension, wrongSize}
 use Rattle.laying.proofs.LaidOut.{total-inside}
@@ -23,7 +23,7 @@ use Rattle.laying.proofs.Found.{element-own, element-ends, table-ends}
 use Rattle.laying.proofs.Opened.{Came, opens, refuses, came, opened-image, table-laid, where-opens, table-opens, integer-exactly}
 use Rattle.octets.specs.Octets.{numberRead}
 use Rattle.octets.proofs.Laws.{read-there}
-use Rattle.access.specs.Access.{FitsAt, Inside, firstOctet}
+use Rattle.access.specs.Access.{FitsAt, Inside}
 use Rattle.access.proofs.Laws.{elementsIn, octets-told, number-told}
 
 -- AN ELEMENT
@@ -60,8 +60,7 @@ table-inside d img m k (Place.At p n) e =
 table-inside d img m k (Place.Refused r) e = tt
 
 -- A PART stands at the first octet of its place, which the image's end doesn't cut
-pub first-told : (img : List ℕ) (w : Place) (p : ImageOffset) (n : ℕ) → Inside img w → w ≡ Place.At p n → min (p .0) (length img) ≡ firstOctet w
-unfolding firstOctet
+pub first-told : (img : List ℕ) (w : Place) (p : ImageOffset) (n : ℕ) → Inside img w → w ≡ Place.At p n → min (p .0) (length img) ≡ placeStart w
 first-told img w p n h e = let k : p .0 + n ≤ length img = subst (Inside img) e h in rw e (omega (arith, k))
 
 -- AN ACCEPTED WRITE FITS WHERE IT GOES

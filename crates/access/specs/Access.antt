@@ -35,8 +35,3 @@ FitsAt img n (Place.Refused r) = Unit {0}
 abbrev pub Inside : (image : List ℕ) → Place → Type 0
 Inside img (Place.At p l) = p .0 + l ≤ length img
 Inside img (Place.Refused r) = Unit {0}
-
--- the octet of the image at which a part stands: the first of its place; on refusal the part is empty, and stands at octet 0
-unfoldable pub firstOctet : Place → ℕ
-firstOctet (Place.At p l) = p .0
-firstOctet (Place.Refused r) = 0

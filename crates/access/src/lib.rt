@@ -20,8 +20,8 @@ ghost use Prim.Native.Nat.{_+_, _^_, _<_};
 ghost use lib.ListN.{length};
 ghost use Rattle.meaning.specs.Basics.{if_then_else_, _<?_, _=?_};
 ghost use Rattle.meaning.specs.Description.{itemCount, isTable, isDimension};
-ghost use Rattle.meaning.specs.Refusals.{openImage, tablePlaceReply, elementPlaceReply, placePart, tablePartReply, elementPartReply, integerPlace, elementNumberReply, placeVerdict, imageWith, rangePlace, octetsPlaceIn, numberPlaceIn, imageWithNumber, writeRangeReply, writeRangeImage, writeOctetsReply, writeOctetsImage, writeNumberReply, writeNumberImage};
-ghost use Rattle.access.specs.Access.{SeenAs, allowedBy, fittedBy, FitsAt, Inside, firstOctet};
+ghost use Rattle.meaning.specs.Refusals.{openImage, tablePlaceReply, elementPlaceReply, placePart, placeStart, tablePartReply, elementPartReply, integerPlace, elementNumberReply, placeVerdict, imageWith, rangePlace, octetsPlaceIn, numberPlaceIn, imageWithNumber, writeRangeReply, writeRangeImage, writeOctetsReply, writeOctetsImage, writeNumberReply, writeNumberImage};
+ghost use Rattle.access.specs.Access.{SeenAs, allowedBy, fittedBy, FitsAt, Inside};
 
 // The kinds of items that are asked for.
 const TABLE: u32 = 1;
@@ -205,7 +205,7 @@ fn number_place(description: &[u8], image: &[u8], name: ElementName, value: u64)
 fn part_at<'a>(image: &'a [u8], place: Place) -> &'a [u8]
     requires { ⌜ Inside (now image) place ⌝ }
     ensures reply { λ r. ⌜ now r ≡ placePart (now (image .entry)) place ⌝ }
-    ensures place { λ r. ⌜ r .ptr ≡ (image .entry .ptr .0, image .entry .ptr .1 + firstOctet place) ⌝ }
+    ensures place { λ r. ⌜ r .ptr ≡ (image .entry .ptr .0, image .entry .ptr .1 + placeStart place) ⌝ }
 {
     match place {
         Place::Refused(_) => &image[0..0],
@@ -237,7 +237,7 @@ pub fn table_part<'a>(
     number: u32,
 ) -> &'a [u8]
     ensures reply { λ r. ⌜ now r ≡ tablePartReply (now (description .entry)) (now (image .entry)) manufacturer number ⌝ }
-    ensures place { λ r. ⌜ r .ptr ≡ (image .entry .ptr .0, image .entry .ptr .1 + firstOctet (tablePlaceReply (now (description .entry)) (now (image .entry)) manufacturer number)) ⌝ }
+    ensures place { λ r. ⌜ r .ptr ≡ (image .entry .ptr .0, image .entry .ptr .1 + placeStart (tablePlaceReply (now (description .entry)) (now (image .entry)) manufacturer number)) ⌝ }
 {
     part_at(
         image,
@@ -248,7 +248,7 @@ pub fn table_part<'a>(
 // An element's octets, as a part of the image; empty on refusal.
 pub fn element_part<'a>(description: &[u8], image: &'a [u8], name: ElementName) -> &'a [u8]
     ensures reply { λ r. ⌜ now r ≡ elementPartReply (now (description .entry)) (now (image .entry)) name ⌝ }
-    ensures place { λ r. ⌜ r .ptr ≡ (image .entry .ptr .0, image .entry .ptr .1 + firstOctet (elementPlaceReply (now (description .entry)) (now (image .entry)) name)) ⌝ }
+    ensures place { λ r. ⌜ r .ptr ≡ (image .entry .ptr .0, image .entry .ptr .1 + placeStart (elementPlaceReply (now (description .entry)) (now (image .entry)) name)) ⌝ }
 {
     part_at(image, places::element_place(description, image, name))
 }

@@ -15,7 +15,7 @@ use Rattle.meaning.specs.declared.Reply.{Reply}
 use Rattle.meaning.specs.Description.{fieldsAt, isUint}
 use Rattle.meaning.specs.Layout.{Placed, Seat, Slots, dataOrder, numberAt}
 use Rattle.meaning.specs.Passed.{Exactly}
-use Rattle.meaning.specs.Refusals.{opened, refused, openImage, elementIn, placedPlace, placePart, elementPlaceReply, elementPartReply, integerPlace, placeNumber}
+use Rattle.meaning.specs.Refusals.{opened, refused, openImage, elementIn, placedPlace, placePart, elementPlaceReply, elementPartReply, integerPlace, placeNumber, placeStart, placeLength}
 use Rattle.meaning.specs.Refusals.{elementNumberReply, placeVerdict, tableAround, fitting, allowedAt, octetsPlaceIn, writeOctetsReply, writeOctetsImage}
 use Rattle.meaning.specs.Refusals.{numberPlaceIn, writeNumberReply, writeNumberImage}
 use Rattle.meaning.proofs.Octets.{octets-long, octets-back}
@@ -25,7 +25,7 @@ use Rattle.meaning.specs.Numbers.{wrongSize}
 use Rattle.demands.specs.Demand2.{OthersSame, ElementGood, NumberGood, OctetsWrites, NumberWrites}
 use Rattle.demands.specs.Replies.{octetsAt, ours}
 use Rattle.demands.specs.Demand3.{StaysPut}
-use Rattle.laying.proofs.Opened.{Came, opens, refuses, came, opened-image, where-laid, where-opens, placeStart, placeLength, integer-exactly}
+use Rattle.laying.proofs.Opened.{Came, opens, refuses, came, opened-image, where-laid, where-opens, integer-exactly}
 use Rattle.laying.proofs.Found.{element-own, element-ends}
 use Rattle.demands.proofs.Octets.{octets-below}
 use Rattle.demands.proofs.Dimensions.{found-none, none-found}

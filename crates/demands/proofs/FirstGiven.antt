@@ -21,7 +21,7 @@ use Rattle.meaning.specs.declared.Refusal.{Refusal}
 use Rattle.meaning.specs.declared.Verdict.{Verdict}
 use Rattle.meaning.specs.Description.{itemCount, fieldsAt, isUint, checkReply}
 use Rattle.meaning.specs.Layout.{Placed, Seat, Slots, tableNamed, dataOrder}
-use Rattle.meaning.specs.Refusals.{verdictReply, placeReply, refused, openImage, layoutIn, layoutReply, seatPlace, tablePlaceIn, tablePlaceReply, placePart, tablePartReply}
+use Rattle.meaning.specs.Refusals.{verdictReply, placeReply, refused, openImage, layoutIn, layoutReply, seatPlace, tablePlaceIn, tablePlaceReply, placePart, tablePartReply, placeStart, placeLength}
 use Rattle.meaning.specs.Refusals.{elementIn, placedPlace, elementPlaceIn, elementPlaceReply, integerPlace, placeNumber, elementNumberReply, placeVerdict}
 use Rattle.meaning.specs.Refusals.{writable, anyDimension, allowed, rangeOf, rangeIn, rangePlace, writeRangeReply, fitting, allowedAt, octetsPlaceIn}
 use Rattle.meaning.specs.Refusals.{writeOctetsReply, numberPlaceIn, writeNumberReply, tableAround}
@@ -35,7 +35,7 @@ use Rattle.meaning.specs.Numbers.{imageShort, noTable, noElement, outsideTable,
 use Rattle.laying.proofs.Opened.{Opens, opening, opened-image, total-laid, table-laid, where-laid}
 use Rattle.demands.specs.Demand1.{given, firstOf, eight, nineFrom, ten, eleven, elevenNumber, twelve, thirteen, tableItem, fourteen, fifteen}
 use Rattle.demands.specs.Demand1.{noneChosen, chosen, twenty, seventeenAndNineteen, sixteenToNineteen, ofCalendar, ofMoment, refusalsOf}
-use Rattle.demands.specs.Replies.{ours, outcomeBy, startOf, lengthOf}
+use Rattle.demands.specs.Replies.{ours, outcomeBy}
 use Rattle.demands.specs.Walk.{octetBefore, runsPast, FirstPast}
 use Rattle.demands.proofs.Laid.{laid-facts, short-first}
 use Rattle.demands.proofs.Tests.{noSeat, noPlaced, table-test, table-item, element-test, dimension-test}
@@ -114,8 +114,8 @@ module _ (d img : List ℕ) (es : List Placed) where
   -- the three writes
   range-first : (o : TableOffset) (n i : ℕ) (x : Option Seat) → ((t : Seat) → x ≡ some t → i ≡ t .item)
       → writeRefusal (rangeOf d img es o n x)
-      ≡ firstOf (given (noSeat x) noTable ∷ given (lengthOf (seatPlace x) <? o .0 + n) outsideTable ∷ behind i (startOf (seatPlace x) + o .0) n [])
-  unfolding rangeOf noSeat seatPlace lengthOf startOf firstOf given refusalIn verdictReply placeVerdict
+      ≡ firstOf (given (noSeat x) noTable ∷ given (placeLength (seatPlace x) <? o .0 + n) outsideTable ∷ behind i (placeStart (seatPlace x) + o .0) n [])
+  unfolding rangeOf noSeat seatPlace firstOf given refusalIn verdictReply placeVerdict
   range-first o n i none h = refl
   range-first o n i (some t) h =
       rw (h t refl)
@@ -123,17 +123,17 @@ module _ (d img : List ℕ) (es : List Placed) where
 
   module _ (q : ElementName) (fits : ℕ → Bool) where
     abbrev behindElement : Option Placed → List (Option Refusal)
-    behindElement x = behind (tableAround d (q .item)) (startOf (placedPlace x)) (lengthOf (placedPlace x)) (given (not (fits (lengthOf (placedPlace x)))) wrongSize ∷ [])
+    behindElement x = behind (tableAround d (q .item)) (placeStart (placedPlace x)) (placeLength (placedPlace x)) (given (not (fits (placeLength (placedPlace x)))) wrongSize ∷ [])
 
     octets-first : (x : Option Placed) → writeRefusal (fitting fits (allowedAt d img q es (placedPlace x))) ≡ firstOf (given (noPlaced x) noElement ∷ behindElement x)
-    unfolding placedPlace allowedAt fitting noPlaced startOf lengthOf firstOf given refusalIn verdictReply placeVerdict
+    unfolding placedPlace allowedAt fitting noPlaced firstOf given refusalIn verdictReply placeVerdict
     octets-first none = refl
     octets-first (some e) = fitting-first fits (tableAround d (q .item)) (e .start) (e .size)
 
     integer-first : (x : Option Placed)
         → writeRefusal (fitting fits (allowedAt d img q es (integerPlace d (q .item) (placedPlace x))))
         ≡ firstOf (given (noPlaced x || not (isUint (fieldsAt d (q .item)))) noElement ∷ behindElement x)
-    unfolding placedPlace integerPlace allowedAt fitting noPlaced startOf lengthOf firstOf given refusalIn verdictReply placeVerdict
+    unfolding placedPlace integerPlace allowedAt fitting noPlaced firstOf given refusalIn verdictReply placeVerdict
     integer-first none = refl
     integer-first (some e) =
         fails-first (λ v. writeRefusal (fitting fits (allowedAt d img q es v))) (isUint (fieldsAt d (q .item))) noElement _ _ (behindElement (some e)) refl

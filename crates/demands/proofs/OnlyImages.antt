@@ -13,10 +13,11 @@ use Rattle.meaning.specs.Layout.{dataOrder, numberAt}
 use Rattle.meaning.proofs.Splices.{part-at, part-long}
 use Rattle.demands.specs.Demand2.{OthersSame, Unchanged}
 use Rattle.demands.specs.Demands.{Demands}
-use Rattle.demands.specs.Replies.{Replies, octetsAt, startOf}
+use Rattle.demands.specs.Replies.{Replies, octetsAt}
 use Rattle.demands.proofs.OnlyOctets.{Octets, octets-at, writing-only}
 use Rattle.demands.proofs.OnlyOrder.{order-kept}
 use Rattle.demands.proofs.OnlyWrites.{later-same, range-only, octets-only, number-write-only, range-written, octets-written}
+use Rattle.meaning.specs.Refusals.{placeStart}
 
 -- A NUMBER WRITTEN, by one family: its octets, in the DATA_ORDER of before
 record NumberPut (img : List ℕ) (x p n : ℕ) (later : List ℕ) : Type 0 where
@@ -26,12 +27,12 @@ record NumberPut (img : List ℕ) (x p n : ℕ) (later : List ℕ) : Type 0 wher
 
 number-put : (R : Replies) → Demands R → (d img : List ℕ) (q : ElementName) (x p n : ℕ) → R .writeNumber d img q x ≡ Verdict.Passed → R .elementPlace d img q ≡ octetsAt p n
     → NumberPut img x p n (R .numberImage d img q x)
-unfolding numberAt dataOrder startOf
+unfolding numberAt dataOrder
 number-put R r d img q x p n w at =
     let later = R .numberImage d img q x in
     let law = r .second d img .number q x in
     let good = law .accepted .0 w in
-    let start : good .1 .start ≡ p = ap startOf (sym (good .1 .exists) ∙ at) in
+    let start : good .1 .start ≡ p = ap placeStart (sym (good .1 .exists) ∙ at) in
     let size : good .1 .size ≡ n = cc (good .1 .exists) in
     let others = law .others p n w at in
     let first = others .same 0 (order-kept R r d img q p n at (λ y a b. good .1 .free y (omega arith) (omega arith))) in

@@ -23,12 +23,13 @@ use Rattle.laying.specs.Sizes.{value}
 use Rattle.demands.specs.Demand2.{NoDimension}
 use Rattle.demands.specs.Demand3.{SameName}
 use Rattle.demands.specs.Demands.{Demands}
-use Rattle.demands.specs.Replies.{Replies, octetsAt, startOf, alone}
+use Rattle.demands.specs.Replies.{Replies, octetsAt, alone}
 use Rattle.demands.specs.Walk.{octetsIn, numbersIn, arraysRound, subscriptsOf, way, wayTo, Earlier}
 use Rattle.demands.proofs.OnlyFirst.{check-decided}
 use Rattle.demands.proofs.OnlyNames.{Element, Array, existing, arrays-are, names-compared}
 use Rattle.demands.proofs.OnlyPlaces.{told-none, passed-is, element-told, number-told, Is, start, size, set-out}
 use Rattle.demands.proofs.OnlyTiles.{Compared, earlier, same, later}
+use Rattle.meaning.specs.Refusals.{placeStart}
 
 -- THE LEAST WAY
 way-alone : (ks : List ℕ) (i : ℕ) → way ks [] i ≡ i ∷ []
@@ -98,7 +99,6 @@ module _ (R : Replies) (r : Demands R) (d img : List ℕ) where
 
   -- so an element that holds no dimension's octet doesn't hold it
   pub order-kept : (q : ElementName) (p n : ℕ) → R .elementPlace d img q ≡ octetsAt p n → NoDimension R d img p n → (0 < p) ⊎ (p + n ≤ 0)
-  unfolding startOf
   order-kept q p n at free =
       let told = element-told R r d img q (told-none _ p n at) in
       go (decLt 0 p) (decLt 0 n) (first-octet (told .layout) q (told .named))
@@ -106,6 +106,6 @@ module _ (R : Replies) (r : Demands R) (d img : List ℕ) where
       go : Dec (0 < p) → Dec (0 < n) → (0 < start R r d img q) ⊎ (isDimension (fieldsAt d (q .item)) ≡ true) → (0 < p) ⊎ (p + n ≤ 0)
       go (yes l) m h = inl l
       go (no l) (no m) h = inr (omega (arith, l, m))
-      go (no l) (yes m) (inl h) = absurd (l (omega (arith, ap startOf at)))
+      go (no l) (yes m) (inl h) = absurd (l (omega (arith, ap placeStart at)))
       go (no l) (yes m) (inr h) =
           absurd (true≢false (sym h ∙ free 0 (omega (arith, l)) (omega arith) q (record { start = p; size = n; reply = at; from = omega (arith, l); to = omega arith })))

@@ -19,12 +19,12 @@ use Rattle.meaning.specs.Description.{itemCount, fieldsAt, isUint}
 use Rattle.meaning.specs.Numbers.{imageTooLong, noTable, noElement}
 use Rattle.meaning.specs.Questions as ask
 use Rattle.meaning.specs.Questions.{Question, refusalIn}
-use Rattle.meaning.specs.Refusals.{verdictReply, placeReply}
+use Rattle.meaning.specs.Refusals.{verdictReply, placeReply, placeStart, placeLength}
 use Rattle.meaning.proofs.Rules.{either-false}
 use Rattle.demands.specs.Demand1.{given, firstOf, eight, nineFrom, ten, eleven, elevenNumber, refusalsOf}
 use Rattle.demands.specs.Demand3.{Passed, LaysOrShort, SameName, lengthIn}
 use Rattle.demands.specs.Demands.{Demands}
-use Rattle.demands.specs.Replies.{Replies, outcomeBy, octetsAt, startOf, lengthOf}
+use Rattle.demands.specs.Replies.{Replies, outcomeBy, octetsAt}
 use Rattle.demands.specs.Walk.{octetsIn, numbersIn, exists, wayTo, Earlier}
 use Rattle.demands.proofs.OnlyFirst.{verdict-passed, first-none, given-none}
 use Rattle.demands.proofs.OnlyNames.{existing}
@@ -32,8 +32,8 @@ use Rattle.demands.proofs.OnlyTiles.{SetOut, Tiled}
 use Rattle.meaning.proofs.Either.{clash}
 
 -- a place that isn't refused
-pub told : (x : Place) → refusalIn (placeReply x) ≡ none → x ≡ octetsAt (startOf x) (lengthOf x)
-unfolding refusalIn placeReply startOf lengthOf
+pub told : (x : Place) → refusalIn (placeReply x) ≡ none → x ≡ octetsAt (placeStart x) (placeLength x)
+unfolding refusalIn placeReply
 told (place.At p n) e = refl
 told (place.Refused r) e = clash (cc)
 
@@ -101,11 +101,10 @@ module _ (R : Replies) (r : Demands R) (d img : List ℕ) where
 
   -- THE ELEMENTS SET OUT, by their starts
   abbrev pub start : ElementName → ℕ
-  start q = startOf (R .elementPlace d img q)
+  start q = placeStart (R .elementPlace d img q)
 
   module _ (laid : R .layout d img ≡ Reply.Total (octetsIn d img)) where
     pub stands-at : (q : ElementName) → Is d img q → R .elementPlace d img q ≡ octetsAt (start q) (size d img q)
-    unfolding startOf
     stands-at q h = let p = r .third d img .elementsStand _ laid .there q h in rw (p .1)
 
     pub set-out : SetOut (Is d img) (Before d img) (size d img) start (octetsIn d img)
@@ -116,7 +115,6 @@ module _ (R : Replies) (r : Demands R) (d img : List ℕ) where
     -- without gaps, and each in one place where names are read up to their counts
     pub tiled : ((q s : ElementName) → SameName q s → q .count ≤ 4 → s .count ≤ 4 → R .elementPlace d img q ≡ R .elementPlace d img s)
         → Tiled (Is d img) SameName (size d img) start (octetsIn d img)
-    unfolding startOf
     tiled counted =
         record {
           over = λ x l.
@@ -124,9 +122,9 @@ module _ (R : Replies) (r : Demands R) (d img : List ℕ) where
               let q = r .third d img .elementsStand _ laid .one x l .name in
               let is = element-told q (told-none _ _ _ (h .reply)) .named in
               let at = stands-at q is in
-              let first : h .start ≡ start q = cc (ap startOf (h .reply)) in
+              let first : h .start ≡ start q = cc (ap placeStart (h .reply)) in
               let long : h .size ≡ size d img q = cc (h .reply) in
               record { name = q; is = is; from = omega (arith, h .from); to = omega (arith, h .to) };
-          once = λ q s h k e. ap startOf (counted q s e (existing d _ q h .few) (existing d _ s k .few));
+          once = λ q s h k e. ap placeStart (counted q s e (existing d _ q h .few) (existing d _ s k .few));
           long = λ q s h k e. ap (lengthIn d (numbersIn d img)) (e .item);
         }

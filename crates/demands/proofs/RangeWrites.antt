@@ -12,14 +12,14 @@ use Rattle.meaning.specs.Basics.{if_then_else_, _<?_}
 use Rattle.meaning.specs.declared.Verdict.{Verdict}
 use Rattle.meaning.specs.declared.Place.{Place}
 use Rattle.meaning.specs.Layout.{Placed, Seat, Slots, tableNamed}
-use Rattle.meaning.specs.Refusals.{seatPlace, placePart, tablePartReply, placeVerdict, allowed, rangeOf, rangeIn, rangePlace, writeRangeReply, writeRangeImage}
+use Rattle.meaning.specs.Refusals.{seatPlace, placePart, tablePartReply, placeVerdict, allowed, rangeOf, rangeIn, rangePlace, writeRangeReply, writeRangeImage, placeStart}
 use Rattle.meaning.proofs.Passed.{passed-laws}
 use Rattle.meaning.proofs.Splices.{part-part}
 use Rattle.meaning.specs.Numbers.{outsideTable}
 use Rattle.demands.specs.Demand2.{RangeGood, RangeWrites}
 use Rattle.demands.specs.Demand3.{StaysPut}
 use Rattle.demands.specs.Replies.{ours}
-use Rattle.laying.proofs.Opened.{Opens, Came, opens, refuses, came, opened-image, table-laid, table-opens, placeStart}
+use Rattle.laying.proofs.Opened.{Opens, Came, opens, refuses, came, opened-image, table-laid, table-opens}
 use Rattle.laying.proofs.Found.{table-ends}
 use Rattle.demands.proofs.Tables.{found-table}
 use Rattle.demands.proofs.Dimensions.{found-none, none-found}

@@ -13,18 +13,17 @@ use Rattle.meaning.specs.declared.Verdict.{Verdict}
 use Rattle.meaning.specs.Description.{checkReply, fieldsAt, isUint, isDimension}
 use Rattle.meaning.specs.Examples.{D, D-writable, first, second, at, offset, clock, clock-image, moment}
 use Rattle.meaning.specs.Layout.{numberAt}
-use Rattle.meaning.specs.Refusals.{layoutReply, elementPlaceReply}
+use Rattle.meaning.specs.Refusals.{layoutReply, elementPlaceReply, placeStart, placeLength}
 use Rattle.meaning.specs.Calendar.{tierReply, matrixVerdict}
 use Rattle.meaning.proofs.Computing.{computing}
 use Rattle.demands.specs.Demand3.{Passed, AllInside, ElementsStand, lengthIn}
-use Rattle.demands.specs.Replies.{Replies, ours, octetsAt, alone, startOf, lengthOf}
+use Rattle.demands.specs.Replies.{Replies, ours, octetsAt, alone}
 use Rattle.demands.specs.Walk.{numbersIn, exists}
 use Rattle.demands.specs.Wrong.{TotalsOfD, WrongPrograms}
 use Rattle.demands.proofs.Calendar.{tier-says}
 use Rattle.demands.proofs.Demand3.{demand-3}
 use Rattle.demands.proofs.Names.{cause}
 use Rattle.meaning.proofs.Either.{clash}
-
 
 -- OUR REPLIES, COMPUTED
 D-passed : checkReply D ≡ Verdict.Passed
@@ -86,8 +85,7 @@ dimension = refl
 
 -- one place starts at one octet
 place-start : (p q n m : ℕ) → octetsAt p n ≡ octetsAt q m → p ≡ q
-unfolding startOf
-place-start p q n m e = ap startOf e
+place-start p q n m e = ap placeStart e
 
 -- D's images lay out, up to where our totals say
 laid : (img : List ℕ) (n : ℕ) → length img ≤ 65535 → layoutReply D img ≡ Reply.Total n → AllInside D img n
@@ -103,8 +101,7 @@ module _ (R : Replies) (d img : List ℕ) (total : ℕ) (stand : ElementsStand R
       go false h = let none = stand .none q .1 (cause d (numbersIn d img) q h) in clash (cc)
 
   as-long : (q : ElementName) (p n : ℕ) → R .elementPlace d img q ≡ octetsAt p n → n ≡ lengthIn d (numbersIn d img) (q .item)
-  unfolding lengthOf
-  as-long q p n e = let t = stand .there q (is-there q p n e) in ap lengthOf (sym e ∙ t .1)
+  as-long q p n e = let t = stand .there q (is-there q p n e) in ap placeLength (sym e ∙ t .1)
 
 -- D's elements stand, by our replies
 D-stands : ElementsStand ours D first 8

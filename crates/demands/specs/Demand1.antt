@@ -20,13 +20,13 @@ use Rattle.meaning.specs.declared.Told.{Told}
 use Rattle.meaning.specs.declared.Verdict.{Verdict}
 use Rattle.meaning.specs.Description.{itemCount, fieldsAt, isUint, isDimension, isTableNamed, tableGiven}
 use Rattle.meaning.specs.Layout.{dataOrder}
-use Rattle.meaning.specs.Refusals.{refusedWith, toldBy, verdictReply, tableAround, writable}
+use Rattle.meaning.specs.Refusals.{refusedWith, toldBy, verdictReply, tableAround, writable, placeStart, placeLength}
 use Rattle.meaning.specs.Calendar.{realDate, realTime, dayNumber, controlsOf, table54Size, datesOf, seasonOn, specialOn, missingSpecial}
 use Rattle.meaning.specs.Questions as ask
 use Rattle.meaning.specs.Questions.{Question, refusalIn}
 use Rattle.meaning.specs.Numbers.{reportsItem, reportsOctet, lastNumber, nothingRefused, imageTooLong, imageShort, noTable, noElement, outsideTable}
 use Rattle.meaning.specs.Numbers.{notWritable, holdsDimension, wrongSize, notADate, noSeason, seasonChangeArmed, noRowOrColumn, notACalendar}
-use Rattle.demands.specs.Replies.{Replies, outcomeBy, startOf, lengthOf, alone}
+use Rattle.demands.specs.Replies.{Replies, outcomeBy, alone}
 use Rattle.demands.specs.Rules.{CheckSays}
 use Rattle.demands.specs.Walk.{octetBefore, runsPast, numbersIn, exists}
 
@@ -141,23 +141,23 @@ refusalsOf R (ask.elementNumber q) d img = refusalIn (R .layout d img) ∷ eleve
 refusalsOf R (ask.writeRange m k o new) d img =
     refusalIn (R .layout d img)
     ∷ ten d m k
-    ∷ twelve (lengthOf (R .tablePlace d img m k)) (o .0) (length new)
+    ∷ twelve (placeLength (R .tablePlace d img m k)) (o .0) (length new)
     ∷ thirteen d img (tableItem d (itemCount d) m k)
-    ∷ fourteen R d img (startOf (R .tablePlace d img m k) + o .0) (length new)
+    ∷ fourteen R d img (placeStart (R .tablePlace d img m k) + o .0) (length new)
     ∷ []
 refusalsOf R (ask.writeOctets q new) d img =
     refusalIn (R .layout d img)
     ∷ eleven d img q
     ∷ thirteen d img (tableAround d (q .item))
-    ∷ fourteen R d img (startOf (R .elementPlace d img q)) (lengthOf (R .elementPlace d img q))
-    ∷ fifteen (length new =? lengthOf (R .elementPlace d img q))
+    ∷ fourteen R d img (placeStart (R .elementPlace d img q)) (placeLength (R .elementPlace d img q))
+    ∷ fifteen (length new =? placeLength (R .elementPlace d img q))
     ∷ []
 refusalsOf R (ask.writeNumber q x) d img =
     refusalIn (R .layout d img)
     ∷ elevenNumber d img q
     ∷ thirteen d img (tableAround d (q .item))
-    ∷ fourteen R d img (startOf (R .elementPlace d img q)) (lengthOf (R .elementPlace d img q))
-    ∷ fifteen (x <? 256 ^ lengthOf (R .elementPlace d img q))
+    ∷ fourteen R d img (placeStart (R .elementPlace d img q)) (placeLength (R .elementPlace d img q))
+    ∷ fifteen (x <? 256 ^ placeLength (R .elementPlace d img q))
     ∷ []
 refusalsOf R (ask.tier w q) d img = refusalIn (R .layout d img) ∷ ofCalendar R d img ++ ofMoment R d img w
 refusalsOf R ask.matrix d img = refusalIn (R .layout d img) ∷ ofCalendar R d img

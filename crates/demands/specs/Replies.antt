@@ -73,17 +73,9 @@ outcomeBy R (ask.writeNumber q x) d img = outcome (verdictReply (R .writeNumber 
 outcomeBy R (ask.tier w q) d img = outcome (R .tier d img w q) [] img
 outcomeBy R ask.matrix d img = outcome (verdictReply (R .matrixVerdict d img)) (flatten (R .matrix d img)) img
 
--- A PLACE: n octets from octet p on; and the numbers of one that is told, 0 where it is refused
+-- A PLACE: n octets from octet p on
 abbrev pub octetsAt : (p n : ℕ) → Place
 octetsAt p n = Place.At (record { 0 = p }) n
-
-unfoldable pub startOf : Place → ℕ
-startOf (Place.At p n) = p .0
-startOf (Place.Refused r) = 0
-
-unfoldable pub lengthOf : Place → ℕ
-lengthOf (Place.At p n) = n
-lengthOf (Place.Refused r) = 0
 
 -- the element of an item with no ARRAY round it
 abbrev pub alone : (item : ℕ) → ElementName

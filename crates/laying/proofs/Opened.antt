@@ -16,7 +16,7 @@ use Rattle.meaning.specs.declared.Place.{Place}
 use Rattle.meaning.specs.Description.{checkReply, fieldsAt, isUint}
 use Rattle.meaning.specs.Passed.{Passes, Exactly}
 use Rattle.meaning.specs.Layout.{Placed, Seat, Slots, fault, short, Layout, laidOut, stoppedAt, layOut, elementNamed, tableNamed}
-use Rattle.meaning.specs.Refusals.{stopRefusal, opened, refused, openLaid, openSound, openImage, layoutIn, layoutReply}
+use Rattle.meaning.specs.Refusals.{stopRefusal, opened, refused, openLaid, openSound, openImage, layoutIn, layoutReply, placeStart, placeLength}
 use Rattle.meaning.specs.Refusals.{seatPlace, tablePlaceIn, tablePlaceReply, elementIn, placedPlace, elementPlaceIn, elementPlaceReply, integerPlace}
 use Rattle.meaning.specs.Numbers.{imageTooLong, imageShort, noElement}
 use Rattle.laying.specs.Outcomes.{Lays}
@@ -100,16 +100,6 @@ total-opens d img n e = go (came d img)
         let h : m ≡ n = cc (total-laid o) in
         subst (TotalOf d img) h (record { seats = ts; elements = es; slots = s; opens = o })
     go (refuses r h) = clash (cc (ap layoutIn h))
-
--- a place's octet
-abbrev pub placeStart : Place → ℕ
-placeStart (Place.At p n) = p .0
-placeStart (Place.Refused r) = 0
-
--- and length
-abbrev pub placeLength : Place → ℕ
-placeLength (Place.At p n) = n
-placeLength (Place.Refused r) = 0
 
 -- the place of an integer is where the element is
 pub integer-exactly : (d : List ℕ) (i : ℕ) (v : Place) (p n : ℕ)

@@ -57,6 +57,15 @@ unfoldable pub placeReply : Place → Reply
 placeReply (Place.At p n) = Reply.At p n
 placeReply (Place.Refused r) = Reply.Refused r
 
+-- a place's first octet, and its length; 0 on refusal
+abbrev pub placeStart : Place → ℕ
+placeStart (Place.At p n) = p .0
+placeStart (Place.Refused r) = 0
+
+abbrev pub placeLength : Place → ℕ
+placeLength (Place.At p n) = n
+placeLength (Place.Refused r) = 0
+
 -- ORDER: 1 TO 9 COME BEFORE ANY ANSWER
 -- 9 is the short image. A fault never comes for a passed description; were one to come, it would be the rule that it breaks
 unfoldable pub faultRule : Fault → ℕ

@@ -4,13 +4,12 @@ use mathlib.Core.Path.{refl, _∙_}
 use borrow.Author.Needs.{needs}
 use Rattle.meaning.specs.Refusals.{placePart}
 use Rattle.octets.proofs.Laws.{stands-at}
-use Rattle.access.specs.Access.{firstOctet}
 use Rattle.access.proofs.Inside.{first-told}
 use Rattle.access.proofs.part_at.Statement.{statement}
 use Rattle.access.proofs.part_at.Tie as tie
 
 pub part-at-spec : {M : Type 1} → statement M
-unfolding placePart firstOctet
+unfolding placePart
 part-at-spec =
     tie.close
     (tie.spec
