@@ -7,7 +7,7 @@
 #     make clean                    removes both, and keeps what is proved
 
 # The one place that holds the version.
-VERSION := 0.1.0
+VERSION := 0.2.0
 PREFIX := /usr/local
 DESTDIR :=
 

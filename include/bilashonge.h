@@ -47,8 +47,9 @@ extern "C" {
 
 /*
  * Why a question is refused. Of all that apply, a question gives the first in this order: 1 to 9,
- * then 10 to 15; a question about the calendar 1 to 9, 10, 20, 16, 18, 17, 19. 2 to 7 report the
- * first item that breaks a rule, with the lowest number of those that it breaks.
+ * then 10 to 15; a question about the calendar 1 to 9, 10, 20, 16, 18, 19. 2 to 7 report the
+ * first item that breaks a rule, with the lowest number of those that it breaks. 17 is reserved: it
+ * was given for a day before every season record, which is now in season 0.
  */
 enum bilashonge_refusal_number {
     BILASHONGE_ANSWERED = 0,             /* not refused */
@@ -68,9 +69,9 @@ enum bilashonge_refusal_number {
     BILASHONGE_HOLDS_DIMENSION = 14,     /* what would be written holds an octet of a dimension */
     BILASHONGE_WRONG_SIZE = 15,          /* data of another length than the element, or number too large */
     BILASHONGE_NOT_A_DATE = 16,          /* no real date of 1990 to 2089, or no time 00:00 to 23:59 */
-    BILASHONGE_NO_SEASON = 17,           /* no season chosen by that date */
+    BILASHONGE_RESERVED_17 = 17,         /* no longer given */
     BILASHONGE_SEASON_CHANGE_ARMED = 18, /* SEASON_CHNG_ARMED_FLAG set */
-    BILASHONGE_NO_ROW_OR_COLUMN = 19,    /* season or special schedule without a row or column */
+    BILASHONGE_NO_ROW_OR_COLUMN = 19,    /* season or special schedule without a row or column; no seasons at all */
     BILASHONGE_NOT_A_CALENDAR = 20       /* Table 51 isn't 9 octets, or Table 54 not of the size it says */
 };
 
@@ -106,6 +107,12 @@ struct bilashonge_tier {
     struct bilashonge_refusal refusal;
     uint64_t none;
     uint64_t tier;
+};
+
+/* yes: 1 for yes, 0 for no. */
+struct bilashonge_answer {
+    struct bilashonge_refusal refusal;
+    uint64_t yes;
 };
 
 /* What a tier is asked for. Any number but 0 is taken for demands. */
@@ -192,14 +199,26 @@ struct bilashonge_refusal bilashonge_write_number(
     uint64_t value);
 
 /*
- * THE TIER at a date and time, of tables 51 and 54; or 1 to 10 and 16 to 20. year is written whole
- * (2024), month and day from 1. quantity is of enum bilashonge_quantity.
+ * THE TIER at a date and time, of tables 51 and 54; or 1 to 10, 16, 18, 19 and 20. year is written
+ * whole (2024), month and day from 1. quantity is of enum bilashonge_quantity. A day before every
+ * season record is in season 0, so a meter that has none yet is in season 0 on every day.
  */
 struct bilashonge_tier bilashonge_tier_at(
     const uint8_t *description, size_t description_length,
     const uint8_t *image, size_t image_length,
     uint32_t year, uint32_t month, uint32_t day, uint32_t hour, uint32_t minute,
     uint32_t quantity);
+
+/*
+ * DOES A SEASON RECORD STAND at or before this date: does any record of Table 54 with a real date
+ * select a season by then; or 1 to 10, 16 and 20. Where none stands, the tier of that day is season
+ * 0's because no record says otherwise. A record counts though its season has no row, and though a
+ * season change is armed.
+ */
+struct bilashonge_answer bilashonge_seasoned(
+    const uint8_t *description, size_t description_length,
+    const uint8_t *image, size_t image_length,
+    uint32_t year, uint32_t month, uint32_t day);
 
 /*
  * THE SCHEDULE MATRIX: into cells, the schedule number of each season (row) and day (column), as they

@@ -1,11 +1,12 @@
 /*
  * A crew's tablet, as small as can be: what a programmer writes over bilashonge.h.
  *
- *     tablet DESCRIPTION IMAGE
+ *     tablet DESCRIPTION IMAGE NEW
  *
- * Both files are in hex; what stands behind # on a line is for people. It prints the meter's tables and
- * calendar, moves the 07:00 switch to 06:30 in its own copy of the image, and then provokes every refusal and
- * prints it in words. The files are only read.
+ * The files are in hex; what stands behind # on a line is for people. It prints the meter's tables and
+ * calendar, moves the 07:00 switch to 06:30 in its own copy of the image, and prints tables and calendar of a
+ * new meter of that description, whose image is NEW. Then it provokes every refusal and prints it in words. The
+ * files are only read.
  */
 #include <bilashonge.h>
 
@@ -38,15 +39,14 @@ static const char *const words[] = {
     [14] = "The tables are laid out by this count, so it stays. Nothing was written; ask the office.",
     [15] = "The new value doesn't fit its place. Nothing was written; enter another value.",
     [16] = "There is no such date or time. Enter one from 1990 to 2089, from 00:00 to 23:59.",
-    [17] = "The calendar has no season for that day yet. Ask about a later day, or have a season added.",
     [18] = "This meter changes season at a demand reset. Its tables don't tell the tier: read its display.",
     [19] = "The calendar chooses a season or special day that it has no schedule for. Report the calendar.",
     [20] = "Tables 51 and 54 don't make a calendar together. Read both again; if it stays so, report it.",
 };
 
 static const char *in_words(struct bilashonge_refusal refusal) {
-    /* A later library may know more numbers than this table. */
-    if (refusal.number >= sizeof words / sizeof words[0])
+    /* A later library may know more numbers than this table; 17 is reserved. */
+    if (refusal.number >= sizeof words / sizeof words[0] || words[refusal.number] == NULL)
         return "Refused, and this tablet can't say why. Update it.";
     return words[refusal.number];
 }
@@ -180,11 +180,15 @@ struct day {
 };
 
 static const struct day days[] = {
+    {"Friday 29 December 2023", 2023, 12, 29},
     {"Tuesday 5 March 2024", 2024, 3, 5},
     {"Saturday 9 March 2024", 2024, 3, 9},
     {"Monday 3 June 2024", 2024, 6, 3},
-    {"Special day 25 December 2024", 2024, 12, 25},
+    {"Wednesday 25 December 2024", 2024, 12, 25},
 };
+
+/* The one on which the switch is moved. */
+enum { TUESDAY = 1 };
 
 static struct bilashonge_tier tier_of(const struct meter *meter, const struct day *day, uint32_t minute) {
     return bilashonge_tier_at(LENT(meter), day->year, day->month, day->day, minute / 60, minute % 60,
@@ -234,6 +238,9 @@ static void print_day(const struct meter *meter, const struct day *day) {
         putchar(tier_mark(meter, day, minute));
     printf("\n%-28s  ", "");
     print_in_words(meter, day);
+    /* The tier was answered, so the date is real, and this is answered too. */
+    if (!bilashonge_seasoned(LENT(meter), day->year, day->month, day->day).yes)
+        printf("%-28s  season 0, as no season record stands by that day\n", "");
 }
 
 static void print_calendar(const struct meter *meter) {
@@ -337,7 +344,7 @@ static void move_switch(struct meter *meter) {
     printf(": its number was %" PRIu64 ", and is %" PRIu32 " now\n", old.number, number);
     print_difference(&before, meter);
     print_hours();
-    print_day(meter, &days[0]);
+    print_day(meter, &days[TUESDAY]);
 }
 
 /* EVERY REFUSAL */
@@ -393,7 +400,6 @@ static const struct provocation {
     {"an octet written over the count in Table 05", SMALL, ENTRIES, write_octet, 5, 0},
     {"65,536 written to two octets", SMALL, ENTRIES, write_entry, 0, 65536},
     {"the tier on 30 February 2024", CALENDAR("00", "02", "03"), 2, 30},
-    {"the tier on 29 February 2024, a day before the first season", CALENDAR("00", "02", "03"), 2, 29},
     {"the tier, where season changes are armed", CALENDAR("08", "02", "03"), 3, 5},
     {"the tier in season 1, where there is season 0 alone", CALENDAR("00", "02", "04"), 3, 5},
     {"the tier, where Table 51 says three switches and Table 54 has two", CALENDAR("00", "03", "03"), 3, 5},
@@ -423,23 +429,38 @@ static void print_refusals(void) {
     printf("%zu refusals; octets changed: %d\n", count, changed);
 }
 
-int main(int argument_count, char **arguments) {
-    static struct meter meter;
-    if (argument_count != 3)
-        give_up("two files are wanted", "tablet DESCRIPTION IMAGE");
-    meter.description_length = read_hex_file(arguments[1], meter.description, DESCRIPTION_ROOM);
-    meter.image_length = read_hex_file(arguments[2], meter.image, IMAGE_ROOM);
-    /* A meter that can't be laid out is shown to the crew as its refusal, and nothing else is asked. */
-    struct bilashonge_total layout = bilashonge_layout(LENT(&meter));
+static void read_meter(struct meter *meter, const char *description, const char *image) {
+    meter->description_length = read_hex_file(description, meter->description, DESCRIPTION_ROOM);
+    meter->image_length = read_hex_file(image, meter->image, IMAGE_ROOM);
+}
+
+/* Whether there was anything to print: a meter that can't be laid out is shown to the crew as its refusal, and
+ * nothing else is asked. */
+static bool print_meter(struct meter *meter) {
+    struct bilashonge_total layout = bilashonge_layout(LENT(meter));
     if (!answered(layout.refusal)) {
         print_refusal(layout.refusal);
         puts(in_words(layout.refusal));
-        return 1;
+        return false;
     }
-    print_tables(&meter, layout.total);
-    print_calendar(&meter);
-    print_schedules(&meter);
+    print_tables(meter, layout.total);
+    print_calendar(meter);
+    print_schedules(meter);
+    return true;
+}
+
+int main(int argument_count, char **arguments) {
+    static struct meter meter, new_meter;
+    if (argument_count != 4)
+        give_up("three files are wanted", "tablet DESCRIPTION IMAGE NEW");
+    read_meter(&meter, arguments[1], arguments[2]);
+    read_meter(&new_meter, arguments[1], arguments[3]);
+    if (!print_meter(&meter))
+        return 1;
     move_switch(&meter);
+    printf("\nA NEW METER, with one season and no season record\n");
+    if (!print_meter(&new_meter))
+        return 1;
     print_refusals();
     return 0;
 }

@@ -49,8 +49,9 @@ static const uint8_t first_image[] = {0x00, 0x82, 0xaa, 0xbb, 0x34, 0x12, 0x78, 
 static const uint8_t second_image[] = {0x01, 0x02, 0x34, 0x12, 0x78, 0x56};
 static const uint8_t bare_image[] = {0x00, 0x00};
 
-/* The starred calendar. Table 51 is a BLOCK of 9 octets and Table 54 one of 12. Season 0 begins on 1 January
- * 2024; each day of it has schedule 1, which switches at 00:00 to tier 0 and at 07:30 to tier 2. */
+/* The starred calendar. Table 51 is a BLOCK of 9 octets and Table 54 one of 12. A record selects season 0
+ * from 1 January 2024 on; each day of it has schedule 1, which switches at 00:00 to tier 0 and at 07:30 to
+ * tier 2. */
 static const uint8_t clock_description[] = {
     0x10, 0x00, 0x00, 0x01, 0x20, 0x10, 0x00, 0x00, 0x10, 0x33, 0x00, 0x01,
     0x30, 0x09, 0x00, 0x00, 0x10, 0x36, 0x00, 0x01, 0x30, 0x0c, 0x00, 0x00,
@@ -61,9 +62,61 @@ static const uint8_t clock_image[] = {
     0x98, 0x08, 0x03, 0x00, 0x00, 0x01, 0xc2, 0x3b, 0x01, 0x01, 0x01, 0x01, /* Table 54 */
 };
 
-/* Demands apart from summations, and a Table 54 of 18 octets. Season 0 begins on 1 January 2020; schedule 1
- * switches at 00:00 to tier 1 for both, at 06:00 to tier 2 for summations, at 07:00 to tier 3 for demands,
- * and at 08:00 to tier 4 for neither. */
+/* A new meter's calendar: the starred one without its record. Table 54 has 9 octets. */
+static const uint8_t new_description[] = {
+    0x10, 0x00, 0x00, 0x01, 0x20, 0x10, 0x00, 0x00, 0x10, 0x33, 0x00, 0x01,
+    0x30, 0x09, 0x00, 0x00, 0x10, 0x36, 0x00, 0x01, 0x30, 0x09, 0x00, 0x00,
+};
+static const uint8_t new_image[] = {
+    0x00,                                                 /* Table 00 */
+    0x00, 0x00, 0x01, 0x00, 0x00, 0x02, 0x00, 0x00, 0x00, /* Table 51 */
+    0x00, 0x00, 0x01, 0xc2, 0x3b, 0x01, 0x01, 0x01, 0x01, /* Table 54 */
+};
+
+/* No seasons, records or switches: Table 54 has no octets. */
+static const uint8_t empty_description[] = {
+    0x10, 0x00, 0x00, 0x01, 0x20, 0x10, 0x00, 0x00, 0x10, 0x33,
+    0x00, 0x01, 0x30, 0x09, 0x00, 0x00, 0x10, 0x36, 0x00, 0x00,
+};
+static const uint8_t empty_image[10] = {0};
+
+/* Two seasons, and a Table 54 of 15 octets. A record selects season 1 from 1 January 2024 on. Each day of
+ * season 0 has schedule 1, which is tier 0 all day; each of season 1 has schedule 2, which is tier 5. */
+static const uint8_t two_description[] = {
+    0x10, 0x00, 0x00, 0x01, 0x20, 0x10, 0x00, 0x00, 0x10, 0x33, 0x00, 0x01,
+    0x30, 0x09, 0x00, 0x00, 0x10, 0x36, 0x00, 0x01, 0x30, 0x0f, 0x00, 0x00,
+};
+static const uint8_t two_image[] = {
+    0x00,                                                 /* Table 00 */
+    0x00, 0x00, 0x02, 0x01, 0x00, 0x02, 0x00, 0x00, 0x00, /* Table 51 */
+    0x98, 0x08, 0x04, 0x00, 0x00, 0x01, 0x05, 0x00, 0x02, /* Table 54 */
+    0x01, 0x01, 0x01, 0x02, 0x02, 0x02,
+};
+
+/* Five records and no seasons: Table 54 is an anchor date, 1 January 2020, and the records, 17 octets. They
+ * are a notice (action 31) on 1 March 2024, season 1 from 1 June 2024 on, season 0 from 1 May 2024 on, season
+ * 0 from 29 February 2023 on, which is no real date, and special schedule 0 on 1 April 2024. Once with the
+ * least significant octet first, once with it last. */
+static const uint8_t dated_description[] = {
+    0x10, 0x00, 0x00, 0x01, 0x20, 0x10, 0x00, 0x00, 0x10, 0x33, 0x00, 0x01,
+    0x30, 0x09, 0x00, 0x00, 0x10, 0x36, 0x00, 0x01, 0x30, 0x11, 0x00, 0x00,
+};
+static const uint8_t dated_image[] = {
+    0x00,                                                       /* Table 00 */
+    0x20, 0x00, 0x00, 0x05, 0x00, 0x00, 0x00, 0x00, 0x00,       /* Table 51 */
+    0x94, 0x08, 0x98, 0x09, 0x1f, 0x18, 0x0b, 0x04, 0x98, 0x0a, /* Table 54 */
+    0x03, 0x17, 0xe9, 0x03, 0x18, 0x0a, 0x13,
+};
+static const uint8_t dated_image_turned[] = {
+    0x01,                                                       /* Table 00 */
+    0x20, 0x00, 0x00, 0x05, 0x00, 0x00, 0x00, 0x00, 0x00,       /* Table 51 */
+    0x08, 0x94, 0x09, 0x98, 0x1f, 0x0b, 0x18, 0x04, 0x0a, 0x98, /* Table 54 */
+    0x03, 0xe9, 0x17, 0x03, 0x0a, 0x18, 0x13,
+};
+
+/* Demands apart from summations, and a Table 54 of 18 octets. A record selects season 0 from 1 January
+ * 2020 on; schedule 1 switches at 00:00 to tier 1 for both, at 06:00 to tier 2 for summations, at 07:00 to
+ * tier 3 for demands, and at 08:00 to tier 4 for neither. */
 static const uint8_t apart_description[] = {
     0x10, 0x00, 0x00, 0x01, 0x20, 0x10, 0x00, 0x00, 0x10, 0x33, 0x00, 0x01,
     0x30, 0x09, 0x00, 0x00, 0x10, 0x36, 0x00, 0x01, 0x30, 0x12, 0x00, 0x00,
@@ -160,6 +213,16 @@ static bool no_tier(struct bilashonge_tier tier, uint64_t number)
     return refused(tier.refusal, number) && tier.none == 0 && tier.tier == 0;
 }
 
+static bool is_answer(struct bilashonge_answer answer, uint64_t yes)
+{
+    return answered(answer.refusal) && answer.yes == yes;
+}
+
+static bool no_answer(struct bilashonge_answer answer, uint64_t number)
+{
+    return refused(answer.refusal, number) && answer.yes == 0;
+}
+
 #define SAME(array, other) (sizeof array == sizeof other && memcmp(array, other, sizeof array) == 0)
 
 /* -------------------------------------------------------------------------------------------- the header */
@@ -184,6 +247,9 @@ static void structs(void)
     CHECK(offsetof(struct bilashonge_tier, refusal) == 0);
     CHECK(offsetof(struct bilashonge_tier, none) == 24);
     CHECK(offsetof(struct bilashonge_tier, tier) == 32);
+    CHECK(sizeof(struct bilashonge_answer) == 32);
+    CHECK(offsetof(struct bilashonge_answer, refusal) == 0);
+    CHECK(offsetof(struct bilashonge_answer, yes) == 24);
 }
 
 static void enums(void)
@@ -205,7 +271,7 @@ static void enums(void)
     CHECK(BILASHONGE_HOLDS_DIMENSION == 14);
     CHECK(BILASHONGE_WRONG_SIZE == 15);
     CHECK(BILASHONGE_NOT_A_DATE == 16);
-    CHECK(BILASHONGE_NO_SEASON == 17);
+    CHECK(BILASHONGE_RESERVED_17 == 17);
     CHECK(BILASHONGE_SEASON_CHANGE_ARMED == 18);
     CHECK(BILASHONGE_NO_ROW_OR_COLUMN == 19);
     CHECK(BILASHONGE_NOT_A_CALENDAR == 20);
@@ -258,6 +324,7 @@ static void starred_writes(void)
     }
 }
 
+/* The days before the record are in season 0 as well, so they have its schedule: document 02. */
 static void starred_tiers(void)
 {
     for (uint32_t quantity = 0; quantity < 2; quantity++) {
@@ -265,8 +332,12 @@ static void starred_tiers(void)
                                          quantity), 2));
         CHECK(is_tier(bilashonge_tier_at(OCTETS(clock_description), OCTETS(clock_image), 2024, 3, 5, 7, 29,
                                          quantity), 0));
-        CHECK(no_tier(bilashonge_tier_at(OCTETS(clock_description), OCTETS(clock_image), 2023, 12, 31, 7,
-                                         30, quantity), 17));
+        CHECK(is_tier(bilashonge_tier_at(OCTETS(clock_description), OCTETS(clock_image), 2023, 12, 31, 0, 0,
+                                         quantity), 0));
+        CHECK(is_tier(bilashonge_tier_at(OCTETS(clock_description), OCTETS(clock_image), 2023, 12, 31, 7,
+                                         29, quantity), 0));
+        CHECK(is_tier(bilashonge_tier_at(OCTETS(clock_description), OCTETS(clock_image), 2023, 12, 31, 7,
+                                         30, quantity), 2));
     }
 }
 
@@ -355,6 +426,8 @@ static void null_description(void)
     CHECK(refused(bilashonge_write_octets(NONE, OCTETS(image), 7, SUBSCRIPTS(one), OCTETS(data)), 1));
     CHECK(refused(bilashonge_write_number(NONE, OCTETS(image), 7, SUBSCRIPTS(one), 1), 1));
     CHECK(no_tier(bilashonge_tier_at(NONE, OCTETS(image), 2024, 3, 5, 7, 30, 0), 1));
+    CHECK(no_answer(bilashonge_seasoned(NONE, OCTETS(image), 2024, 3, 5), 1));
+    CHECK(no_answer(bilashonge_seasoned(NONE, NONE, 2024, 3, 5), 1));
     CHECK(refused(bilashonge_matrix(NONE, OCTETS(image), cells), 1));
     CHECK(SAME(image, first_image));
     total = bilashonge_layout(NONE, NONE);
@@ -379,6 +452,8 @@ static void null_image(void)
     CHECK(is_refusal(bilashonge_write_number(OCTETS(D), NONE, 7, SUBSCRIPTS(one), 1), 9, 1, 0));
     struct bilashonge_tier tier = bilashonge_tier_at(OCTETS(clock_description), NONE, 2024, 3, 5, 7, 30, 0);
     CHECK(is_refusal(tier.refusal, 9, 1, 0) && tier.none == 0 && tier.tier == 0);
+    struct bilashonge_answer answer = bilashonge_seasoned(OCTETS(clock_description), NONE, 2024, 3, 5);
+    CHECK(is_refusal(answer.refusal, 9, 1, 0) && answer.yes == 0);
     CHECK(is_refusal(bilashonge_matrix(OCTETS(clock_description), NONE, cells), 9, 1, 0));
 }
 
@@ -471,6 +546,341 @@ static void full_matrix(void)
     CHECK(wrong == 0);
 }
 
+/* ------------------------------------------------------------------------ whether a season record stands */
+
+/* The starred calendar as it stands, and with octets of its image changed. */
+#define CLOCK OCTETS(clock_description), OCTETS(clock_image)
+#define CHANGED OCTETS(clock_description), OCTETS(image)
+
+/* Which octet of the image has what may be changed. */
+enum { FLAGS = 1, MORE_FLAGS, ROWS, RECORDS, RECURRING, SWITCHES, RECORD_DATE = 10, ACTION = 12 };
+
+/* From the record's day on, and on no day before. */
+static void stands_from_its_day_on(void)
+{
+    CHECK(is_answer(bilashonge_seasoned(CLOCK, 2023, 12, 31), 0));
+    CHECK(is_answer(bilashonge_seasoned(CLOCK, 2024, 1, 1), 1));
+    CHECK(is_answer(bilashonge_seasoned(CLOCK, 2024, 1, 2), 1));
+    CHECK(is_answer(bilashonge_seasoned(CLOCK, 2024, 3, 5), 1));
+    CHECK(is_answer(bilashonge_seasoned(CLOCK, 2023, 2, 28), 0));
+    CHECK(is_answer(bilashonge_seasoned(CLOCK, 2024, 2, 29), 1));
+    for (uint32_t year = 1990; year <= 2089; year++) {
+        CHECK(is_answer(bilashonge_seasoned(CLOCK, year, 1, 1), year >= 2024));
+        CHECK(is_answer(bilashonge_seasoned(CLOCK, year, 12, 31), year >= 2024));
+    }
+}
+
+/* Asked about no date of 1990 to 2089, also where a number cut to fewer bits would make it one. */
+static void asked_of_no_date(void)
+{
+    static const uint32_t dates[][3] = {
+        {2023, 2, 29}, {2024, 2, 30}, {2024, 4, 31}, {2024, 12, 32}, {1989, 12, 31}, {2090, 1, 1},
+        {0, 1, 1}, {24, 1, 1}, {2024, 0, 1}, {2024, 13, 1}, {2024, 1, 0}, {0, 0, 0},
+        {2024 + 65536, 1, 1}, {2024, 1 + 256, 1}, {2024, 1, 1 + 256},
+        {2024, 1 + 65536, 1}, {2024, 1, 1 + 65536},
+        {2024 + 0x80000000, 1, 1}, {2024, 0x80000001, 1}, {2024, 1, 0x80000001},
+        {UINT32_MAX, 1, 1}, {2024, UINT32_MAX, 1}, {2024, 1, UINT32_MAX},
+        {UINT32_MAX, UINT32_MAX, UINT32_MAX},
+    };
+    for (size_t k = 0; k < sizeof dates / sizeof dates[0]; k++)
+        CHECK(no_answer(bilashonge_seasoned(CLOCK, dates[k][0], dates[k][1], dates[k][2]), 16));
+}
+
+/* An armed change of season hides the tier, but not whether a record stands. */
+static void armed(void)
+{
+    uint8_t image[sizeof clock_image];
+    memcpy(image, clock_image, sizeof image);
+    image[FLAGS] = 0x08;
+    CHECK(no_tier(bilashonge_tier_at(CHANGED, 2024, 1, 1, 7, 30, 0), 18));
+    CHECK(is_answer(bilashonge_seasoned(CHANGED, 2024, 1, 1), 1));
+    CHECK(is_answer(bilashonge_seasoned(CHANGED, 2023, 12, 31), 0));
+    CHECK(no_answer(bilashonge_seasoned(CHANGED, 2023, 2, 29), 16));
+}
+
+/* Bits 0 to 4 of an action select a season where they are 3 to 18, whether it has a row or not. The tier on
+ * the record's day: there is a row for season 0 alone, and no column for a special schedule; where nothing is
+ * selected, it is season 0's, and so it is on the day before. */
+static void actions(void)
+{
+    uint8_t image[sizeof clock_image];
+    memcpy(image, clock_image, sizeof image);
+    for (unsigned action = 0; action < 256; action++) {
+        image[ACTION] = (uint8_t)action;
+        CHECK(is_answer(bilashonge_seasoned(CHANGED, 2024, 1, 1), action % 32 >= 3 && action % 32 <= 18));
+        CHECK(is_answer(bilashonge_seasoned(CHANGED, 2023, 12, 31), 0));
+    }
+    static const struct {
+        uint8_t action;
+        uint64_t yes;
+        uint64_t refusal; /* of the tier; 0 where it is tier 2 */
+    } some[] = {{2, 0, 0}, {3, 1, 0}, {4, 1, 19}, {18, 1, 19}, {19, 0, 19}, {30, 0, 19}, {31, 0, 0}};
+    for (size_t k = 0; k < sizeof some / sizeof some[0]; k++) {
+        image[ACTION] = some[k].action;
+        struct bilashonge_tier tier = bilashonge_tier_at(CHANGED, 2024, 1, 1, 7, 30, 0);
+        CHECK(is_answer(bilashonge_seasoned(CHANGED, 2024, 1, 1), some[k].yes));
+        CHECK(some[k].refusal == 0 ? is_tier(tier, 2) : no_tier(tier, some[k].refusal));
+        CHECK(is_tier(bilashonge_tier_at(CHANGED, 2023, 12, 31, 7, 30, 0), 2));
+    }
+}
+
+/* A record without a real date never stands, so every day is in season 0. */
+static void records_of_no_date(void)
+{
+    static const uint8_t dates[][2] = {
+        {0x17, 0xe9}, /* 29 February 2023 */
+        {0x18, 0xf1}, /* 30 February 2024 */
+        {0x98, 0x00}, /* day 0 of January 2024 */
+        {0x18, 0x08}, /* day 1 of month 0, 2024 */
+        {0x98, 0x0e}, /* day 1 of month 13, 2024 */
+        {0xe4, 0x08}, /* 1 January of year 100 */
+        {0xff, 0x08}, /* 1 January of year 127 */
+        {0x00, 0x00},
+        {0xff, 0xff},
+    };
+    uint8_t image[sizeof clock_image];
+    memcpy(image, clock_image, sizeof image);
+    for (size_t k = 0; k < sizeof dates / sizeof dates[0]; k++) {
+        memcpy(image + RECORD_DATE, dates[k], 2);
+        CHECK(is_answer(bilashonge_seasoned(CHANGED, 2024, 3, 5), 0));
+        CHECK(is_answer(bilashonge_seasoned(CHANGED, 2089, 12, 31), 0));
+        CHECK(is_tier(bilashonge_tier_at(CHANGED, 2024, 3, 5, 7, 30, 0), 2));
+    }
+}
+
+/* A record on the first day that a DATE can have, on the last, on the last before 2000, on a leap day. */
+static void records_at_the_ends(void)
+{
+    static const uint8_t first[] = {0xda, 0x08};  /* 1 January 1990 */
+    static const uint8_t last[] = {0x59, 0xfe};   /* 31 December 2089 */
+    static const uint8_t before[] = {0x63, 0xfe}; /* 31 December 1999 */
+    static const uint8_t leap[] = {0x18, 0xe9};   /* 29 February 2024 */
+    uint8_t image[sizeof clock_image];
+    memcpy(image, clock_image, sizeof image);
+    memcpy(image + RECORD_DATE, first, 2);
+    CHECK(is_answer(bilashonge_seasoned(CHANGED, 1990, 1, 1), 1));
+    memcpy(image + RECORD_DATE, last, 2);
+    CHECK(is_answer(bilashonge_seasoned(CHANGED, 2089, 12, 30), 0));
+    CHECK(is_answer(bilashonge_seasoned(CHANGED, 2089, 12, 31), 1));
+    memcpy(image + RECORD_DATE, before, 2);
+    CHECK(is_answer(bilashonge_seasoned(CHANGED, 1999, 12, 30), 0));
+    CHECK(is_answer(bilashonge_seasoned(CHANGED, 1999, 12, 31), 1));
+    CHECK(is_answer(bilashonge_seasoned(CHANGED, 2000, 1, 1), 1));
+    memcpy(image + RECORD_DATE, leap, 2);
+    CHECK(is_answer(bilashonge_seasoned(CHANGED, 2024, 2, 28), 0));
+    CHECK(is_answer(bilashonge_seasoned(CHANGED, 2024, 2, 29), 1));
+}
+
+/* Of several records the earliest that counts decides, wherever it stands among them. There are no seasons,
+ * so no day has a tier. */
+static void several_records(void)
+{
+#define DATED OCTETS(dated_description), OCTETS(dated_image)
+#define TURNED OCTETS(dated_description), OCTETS(dated_image_turned)
+    static const uint32_t before[][3] = {{1990, 1, 1}, {2020, 1, 1}, {2023, 2, 28}, {2023, 3, 1},
+                                         {2024, 3, 1}, {2024, 4, 1}, {2024, 4, 30}};
+    static const uint32_t after[][3] = {{2024, 5, 1}, {2024, 5, 31}, {2024, 6, 1}, {2089, 12, 31}};
+    for (size_t k = 0; k < sizeof before / sizeof before[0]; k++) {
+        CHECK(is_answer(bilashonge_seasoned(DATED, before[k][0], before[k][1], before[k][2]), 0));
+        CHECK(is_answer(bilashonge_seasoned(TURNED, before[k][0], before[k][1], before[k][2]), 0));
+        CHECK(no_tier(bilashonge_tier_at(DATED, before[k][0], before[k][1], before[k][2], 0, 0, 0), 19));
+    }
+    for (size_t k = 0; k < sizeof after / sizeof after[0]; k++) {
+        CHECK(is_answer(bilashonge_seasoned(DATED, after[k][0], after[k][1], after[k][2]), 1));
+        CHECK(is_answer(bilashonge_seasoned(TURNED, after[k][0], after[k][1], after[k][2]), 1));
+        CHECK(no_tier(bilashonge_tier_at(DATED, after[k][0], after[k][1], after[k][2], 0, 0, 0), 19));
+    }
+}
+
+/* A recurring record isn't applied: the starred calendar with its record counted as one. */
+static void recurring_records(void)
+{
+    uint8_t image[sizeof clock_image];
+    memcpy(image, clock_image, sizeof image);
+    image[RECORDS] = 0;
+    image[RECURRING] = 1;
+    CHECK(is_answer(bilashonge_seasoned(CHANGED, 2024, 1, 1), 0));
+    CHECK(is_answer(bilashonge_seasoned(CHANGED, 2089, 12, 31), 0));
+    CHECK(is_tier(bilashonge_tier_at(CHANGED, 2024, 1, 1, 7, 30, 0), 2));
+}
+
+/* A meter without a record is in season 0 on every day; without a season it has no tier on any. */
+static void no_records(void)
+{
+    static const uint32_t dates[][3] = {{1990, 1, 1}, {2023, 12, 31}, {2024, 3, 5}, {2089, 12, 31}};
+#define NEW OCTETS(new_description), OCTETS(new_image)
+#define EMPTY OCTETS(empty_description), OCTETS(empty_image)
+    for (size_t k = 0; k < sizeof dates / sizeof dates[0]; k++) {
+        uint32_t year = dates[k][0], month = dates[k][1], day = dates[k][2];
+        CHECK(is_answer(bilashonge_seasoned(NEW, year, month, day), 0));
+        CHECK(is_tier(bilashonge_tier_at(NEW, year, month, day, 0, 0, 0), 0));
+        CHECK(is_tier(bilashonge_tier_at(NEW, year, month, day, 7, 29, 0), 0));
+        CHECK(is_tier(bilashonge_tier_at(NEW, year, month, day, 7, 30, 0), 2));
+        CHECK(is_tier(bilashonge_tier_at(NEW, year, month, day, 23, 59, 1), 2));
+        CHECK(is_answer(bilashonge_seasoned(EMPTY, year, month, day), 0));
+        CHECK(no_tier(bilashonge_tier_at(EMPTY, year, month, day, 0, 0, 0), 19));
+    }
+    CHECK(no_answer(bilashonge_seasoned(NEW, 2023, 2, 29), 16));
+    CHECK(no_answer(bilashonge_seasoned(EMPTY, 2023, 2, 29), 16));
+}
+
+/* Season 0 before the record, season 1 from its day on. */
+static void two_seasons(void)
+{
+#define TWO OCTETS(two_description), OCTETS(two_image)
+    CHECK(is_answer(bilashonge_seasoned(TWO, 2023, 12, 31), 0));
+    CHECK(is_tier(bilashonge_tier_at(TWO, 2023, 12, 31, 0, 0, 0), 0));
+    CHECK(is_tier(bilashonge_tier_at(TWO, 1990, 1, 1, 23, 59, 0), 0));
+    CHECK(is_answer(bilashonge_seasoned(TWO, 2024, 1, 1), 1));
+    CHECK(is_tier(bilashonge_tier_at(TWO, 2024, 1, 1, 0, 0, 0), 5));
+}
+
+/* Refused so by the layout, and by the question of a real date and of one that isn't. */
+static bool refused_so(const uint8_t *description, size_t description_length, const uint8_t *image,
+                       size_t image_length, uint64_t number, uint64_t item, uint64_t octet)
+{
+    struct bilashonge_total total = bilashonge_layout(description, description_length, image, image_length);
+    struct bilashonge_answer real =
+        bilashonge_seasoned(description, description_length, image, image_length, 2024, 3, 5);
+    struct bilashonge_answer unreal =
+        bilashonge_seasoned(description, description_length, image, image_length, 2023, 2, 29);
+    return is_refusal(total.refusal, number, item, octet) && total.total == 0
+           && is_refusal(real.refusal, number, item, octet) && real.yes == 0
+           && is_refusal(unreal.refusal, number, item, octet) && unreal.yes == 0;
+}
+
+/* 1 to 7: the starred calendar cut, or with one item changed; for 5, a description of its own. */
+static void seasoned_of_unsound(void)
+{
+    static const uint8_t longest[2052] = {0};
+    static const struct {
+        size_t item;
+        uint8_t octets[4];
+        uint64_t number;
+    } changes[] = {
+        {5, {0x00, 0x0c, 0x00, 0x00}, 2}, /* kind 0 */
+        {3, {0x30, 0x09, 0x00, 0x01}, 2}, /* a spare bit */
+        {1, {0x30, 0x01, 0x00, 0x00}, 3}, /* item 1 no UINT */
+        {5, {0x10, 0x37, 0x00, 0x00}, 3}, /* a TABLE in a body */
+        {4, {0x10, 0x36, 0x00, 0x02}, 4}, /* a body of two items where one is left */
+        {4, {0x10, 0x33, 0x00, 0x01}, 6}, /* Table 51 again */
+        {5, {0x50, 0x80, 0x00, 0x01}, 4}, /* an ARRAY whose body isn't there, of a slot never set */
+        {5, {0x40, 0x80, 0x00, 0x00}, 7}, /* a SET of a slot never set */
+    };
+    /* deep_description with one ARRAY more, item 6 */
+    static const uint8_t fifth[] = {
+        0x10, 0x00, 0x80, 0x07, 0x20, 0x10, 0x00, 0x00, 0x50, 0x40, 0x00, 0x05, 0x50, 0x40, 0x00, 0x04,
+        0x50, 0x40, 0x00, 0x03, 0x50, 0x40, 0x00, 0x02, 0x50, 0x40, 0x00, 0x01, 0x20, 0x00, 0x00, 0x00,
+    };
+    for (size_t length = 0; length < sizeof clock_description; length++)
+        if (length % 4 != 0 || length == 0)
+            CHECK(refused_so(clock_description, length, OCTETS(clock_image), 1, 0, 0));
+    CHECK(refused_so(OCTETS(longest), OCTETS(clock_image), 1, 0, 0));
+    CHECK(refused_so(longest, 2048, OCTETS(clock_image), 2, 0, 0));
+    for (size_t k = 0; k < sizeof changes / sizeof changes[0]; k++) {
+        uint8_t description[sizeof clock_description];
+        memcpy(description, clock_description, sizeof description);
+        memcpy(description + 4 * changes[k].item, changes[k].octets, 4);
+        CHECK(refused_so(OCTETS(description), OCTETS(clock_image), changes[k].number, changes[k].item, 0));
+    }
+    CHECK(refused_so(OCTETS(fifth), OCTETS(clock_image), 5, 6, 0));
+    CHECK(refused_so(OCTETS(D_unset), OCTETS(first_image), 7, 4, 0));
+}
+
+/* 8 and 9: the calendar with octets behind it, as many as an image may have and one more; and cut short. */
+static void seasoned_of_long_and_short(void)
+{
+    static uint8_t image[65536];
+    memcpy(image, clock_image, sizeof clock_image);
+    CHECK(is_answer(bilashonge_seasoned(OCTETS(clock_description), image, 65535, 2024, 1, 1), 1));
+    CHECK(is_answer(bilashonge_seasoned(OCTETS(clock_description), image, 65535, 2023, 12, 31), 0));
+    CHECK(refused_so(OCTETS(clock_description), image, 65536, 8, 0, 0));
+    CHECK(refused_so(OCTETS(clock_description), clock_image, 0, 9, 1, 0));
+    for (size_t length = 1; length < 10; length++)
+        CHECK(refused_so(OCTETS(clock_description), clock_image, length, 9, 3, 1));
+    for (size_t length = 10; length < sizeof clock_image; length++)
+        CHECK(refused_so(OCTETS(clock_description), clock_image, length, 9, 5, 10));
+}
+
+/* Refused by that number, whether the date is real or not. */
+static bool no_calendar(const uint8_t *description, size_t description_length, const uint8_t *image,
+                        size_t image_length, uint64_t number)
+{
+    struct bilashonge_answer real =
+        bilashonge_seasoned(description, description_length, image, image_length, 2024, 3, 5);
+    struct bilashonge_answer unreal =
+        bilashonge_seasoned(description, description_length, image, image_length, 2023, 2, 29);
+    return no_answer(real, number) && no_answer(unreal, number);
+}
+
+/* 10: neither table, or not both; and those of the manufacturer aren't they. */
+static void seasoned_without_tables(void)
+{
+    static const struct {
+        size_t octet; /* of the description: items 2 and 4 are the tables */
+        uint8_t value;
+    } changes[] = {{9, 0x34}, {17, 0x37}, {8, 0x18}, {16, 0x18}};
+    CHECK(no_calendar(OCTETS(D), OCTETS(first_image), 10));
+    for (size_t k = 0; k < sizeof changes / sizeof changes[0]; k++) {
+        uint8_t description[sizeof clock_description];
+        memcpy(description, clock_description, sizeof description);
+        description[changes[k].octet] = changes[k].value;
+        CHECK(no_calendar(OCTETS(description), OCTETS(clock_image), 10));
+    }
+}
+
+/* 20: a table that the description makes an octet shorter or longer, and counts and flags of Table 51 that
+ * want another Table 54. The size that Table 51 has last isn't used. */
+static void seasoned_of_wrong_size(void)
+{
+    static const struct {
+        size_t octet; /* of the description: items 3 and 5 are the BLOCKs */
+        uint8_t value;
+    } blocks[] = {{13, 0x08}, {13, 0x0a}, {21, 0x0b}, {21, 0x0d}};
+    static const struct {
+        size_t octet;
+        uint8_t value;
+    } counts[] = {{FLAGS, 0x20}, {FLAGS, 0x28}, {MORE_FLAGS, 0x02}, {ROWS, 0x00}, {ROWS, 0x02}, {ROWS, 0x11},
+                  {RECORDS, 0}, {RECORDS, 2}, {RECORDS, 255}, {RECURRING, 1}, {RECURRING, 255}, {SWITCHES, 1},
+                  {SWITCHES, 3}, {SWITCHES + 1, 1}};
+    uint8_t longer_image[sizeof clock_image + 1] = {0};
+    memcpy(longer_image, clock_image, sizeof clock_image);
+    for (size_t k = 0; k < sizeof blocks / sizeof blocks[0]; k++) {
+        uint8_t description[sizeof clock_description];
+        memcpy(description, clock_description, sizeof description);
+        description[blocks[k].octet] = blocks[k].value;
+        CHECK(no_calendar(OCTETS(description), OCTETS(longer_image), 20));
+    }
+    for (size_t k = 0; k < sizeof counts / sizeof counts[0]; k++) {
+        uint8_t image[sizeof clock_image];
+        memcpy(image, clock_image, sizeof image);
+        image[counts[k].octet] = counts[k].value;
+        CHECK(no_calendar(CHANGED, 20));
+    }
+    uint8_t image[sizeof clock_image];
+    memcpy(image, clock_image, sizeof image);
+    image[SWITCHES + 2] = image[SWITCHES + 3] = 0xff;
+    CHECK(is_answer(bilashonge_seasoned(CHANGED, 2024, 1, 1), 1));
+}
+
+/* Answered or refused, what is lent stays as it is. */
+static void seasoned_changes_nothing(void)
+{
+    uint8_t description[sizeof clock_description], image[sizeof clock_image];
+    memcpy(description, clock_description, sizeof description);
+    memcpy(image, clock_image, sizeof image);
+    CHECK(is_answer(bilashonge_seasoned(OCTETS(description), OCTETS(image), 2024, 1, 1), 1));
+    CHECK(SAME(description, clock_description) && SAME(image, clock_image));
+    CHECK(is_answer(bilashonge_seasoned(OCTETS(description), OCTETS(image), 2023, 12, 31), 0));
+    CHECK(SAME(description, clock_description) && SAME(image, clock_image));
+    CHECK(no_answer(bilashonge_seasoned(OCTETS(description), OCTETS(image), 2023, 2, 29), 16));
+    CHECK(SAME(description, clock_description) && SAME(image, clock_image));
+    CHECK(refused_so(OCTETS(description), image, sizeof image - 1, 9, 5, 10));
+    CHECK(SAME(description, clock_description) && SAME(image, clock_image));
+    CHECK(refused_so(description, sizeof description - 1, OCTETS(image), 1, 0, 0));
+    CHECK(SAME(description, clock_description) && SAME(image, clock_image));
+}
+
 /* ---------------------------------------------------------------------------------------------- overlaps */
 
 /* The description stands inside the image, past its tables: each reply is as of copies. */
@@ -493,15 +903,22 @@ static void description_in_image(void)
                     0x5678));
     CHECK(is_tier(bilashonge_tier_at(within_calendar, sizeof clock_description, OCTETS(calendar), 2024, 3,
                                      5, 7, 30, 0), 2));
+    CHECK(is_answer(bilashonge_seasoned(within_calendar, sizeof clock_description, OCTETS(calendar), 2023,
+                                        12, 31), 0));
+    CHECK(is_answer(bilashonge_seasoned(within_calendar, sizeof clock_description, OCTETS(calendar), 2024, 1,
+                                        1), 1));
     CHECK(answered(bilashonge_matrix(within_calendar, sizeof clock_description, OCTETS(calendar), cells)));
     CHECK(SAME(cells, expected));
 }
 
-/* D is its own image: slot 2 is its second octet, 0, so table 5 has no octets. */
+/* D is its own image: slot 2 is its second octet, 0, so table 5 has no octets. The new meter's description is
+ * its own: Table 51 is then 00 00 01 20 10 00 00 10 33, of which the fourth octet says 32 records, and Table
+ * 54 is too short for them. */
 static void description_as_image(void)
 {
     CHECK(is_total(bilashonge_layout(OCTETS(D), OCTETS(D)), 2));
     CHECK(is_place(bilashonge_table_place(OCTETS(D), OCTETS(D), 0, 5), 2, 0));
+    CHECK(no_answer(bilashonge_seasoned(OCTETS(new_description), OCTETS(new_description), 2024, 3, 5), 20));
 }
 
 /* Data inside the description (its octets 8 and 9 are 20 20), and subscripts inside the image. */
@@ -546,6 +963,8 @@ static void two_descriptions_in_turn(void)
                                          1), 2));
         CHECK(is_tier(bilashonge_tier_at(OCTETS(apart_description), OCTETS(apart_image), 2024, 3, 5, 8, 0,
                                          1), 3));
+        CHECK(is_answer(bilashonge_seasoned(OCTETS(clock_description), OCTETS(clock_image), 2024, 3, 5), 1));
+        CHECK(is_answer(bilashonge_seasoned(OCTETS(new_description), OCTETS(new_image), 2024, 3, 5), 0));
     }
 }
 
@@ -607,6 +1026,21 @@ int main(void)
     cells_untouched();
     cells_overwritten();
     full_matrix();
+    stands_from_its_day_on();
+    asked_of_no_date();
+    armed();
+    actions();
+    records_of_no_date();
+    records_at_the_ends();
+    several_records();
+    recurring_records();
+    no_records();
+    two_seasons();
+    seasoned_of_unsound();
+    seasoned_of_long_and_short();
+    seasoned_without_tables();
+    seasoned_of_wrong_size();
+    seasoned_changes_nothing();
     description_in_image();
     description_as_image();
     other_overlaps();

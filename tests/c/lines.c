@@ -193,10 +193,15 @@ static bool read_element_and_value(struct words *words, struct request *request)
     return read_element(words, request) && read_number(words, UINT64_MAX, &request->value);
 }
 
-static bool read_moment(struct words *words, struct request *request)
+static bool read_date(struct words *words, struct request *request)
 {
     return read_short(words, UINT32_MAX, &request->year) && read_short(words, UINT32_MAX, &request->month)
-           && read_short(words, UINT32_MAX, &request->day) && read_short(words, UINT32_MAX, &request->hour)
+           && read_short(words, UINT32_MAX, &request->day);
+}
+
+static bool read_moment(struct words *words, struct request *request)
+{
+    return read_date(words, request) && read_short(words, UINT32_MAX, &request->hour)
            && read_short(words, UINT32_MAX, &request->minute) && read_short(words, 1, &request->quantity);
 }
 
@@ -288,6 +293,13 @@ static struct reply ask_tier(const struct request *request, const struct lent *l
         bilashonge_tier_at(LENT_DESCRIPTION, LENT_IMAGE, request->year, request->month, request->day,
                            request->hour, request->minute, request->quantity);
     return reply_of(tier.refusal, tier.none, tier.tier);
+}
+
+static struct reply ask_seasoned(const struct request *request, const struct lent *lent)
+{
+    struct bilashonge_answer answer =
+        bilashonge_seasoned(LENT_DESCRIPTION, LENT_IMAGE, request->year, request->month, request->day);
+    return reply_of(answer.refusal, answer.yes, 0);
 }
 
 static struct reply ask_matrix(const struct request *request, const struct lent *lent)
@@ -393,6 +405,7 @@ static const struct question questions[] = {
     {"writeoctets", read_element_and_data, ask_write_octets, tell_image, D_M_S | 1 << DATA, IMAGE},
     {"writenumber", read_element_and_value, ask_write_number, tell_image, D_M_S, IMAGE},
     {"tier", read_moment, ask_tier, tell_two_values, D_M, NO_PART},
+    {"seasoned", read_date, ask_seasoned, tell_one_value, D_M, NO_PART},
     {"matrix", read_nothing, ask_matrix, tell_cells, D_M | 1 << CELLS, CELLS},
 };
 

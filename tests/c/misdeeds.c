@@ -152,3 +152,20 @@ WRAPPED(bilashonge_refusal, bilashonge_matrix, DESCRIPTION, IMAGE,
         touch((uintptr_t)last + 1);
     return refusal;
 }
+
+WRAPPED(bilashonge_answer, bilashonge_seasoned, DESCRIPTION, IMAGE, uint32_t year, uint32_t month,
+        uint32_t day)
+{
+    static uint64_t calls;
+    struct bilashonge_answer answer = __real_bilashonge_seasoned(description, description_length, image,
+                                                                 image_length, year, month, day);
+    if (does(19))
+        touch((uintptr_t)image + image_length);
+    if (does(20) && description_length != 0)
+        write_to((uintptr_t)description, description[0]);
+    if (does(21) && answer.refusal.number != 0)
+        answer.yes = 1;
+    if (does(22) && answer.refusal.number == 0) /* yes and no in turn */
+        answer.yes = calls++ % 2;
+    return answer;
+}

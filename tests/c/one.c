@@ -2,7 +2,7 @@
  * one QUESTION ITEMS: a single call of the C interface, for tests/instructions to count. Fails where it isn't answered, or otherwise than meant.
  *
  * The description has ITEMS items. Table 00, marked writable, holds UINTs of an octet: a dimension in each slot, as far as there are UINTs for it, but the last UINT is none;
- * that is the element asked for and written. For tier_at and matrix the last four items are tables 51 and 54, of a BLOCK each.
+ * that is the element asked for and written. For tier_at, seasoned and matrix the last four items are tables 51 and 54, of a BLOCK each.
  */
 #include "bilashonge.h"
 
@@ -13,8 +13,8 @@
 
 enum { MOST = 512, WRITTEN = 0x5a };
 
-/* Tables 51 and 54, and their octets, the most significant first: season 0 begins on 1 January 2024; each day of it has schedule 1, which switches at 00:00 to tier 0 and at
- * 07:30 to tier 2. */
+/* Tables 51 and 54, and their octets, the most significant first: a record selects season 0 from 1 January 2024 on; each day of it has schedule 1, which switches at 00:00 to
+ * tier 0 and at 07:30 to tier 2. */
 static const uint32_t calendar[] = {0x10330001, 0x30090000, 0x10360001, 0x300c0000};
 static const uint8_t calendar_octets[] = {
     0x00, 0x00, 0x01, 0x01, 0x00, 0x00, 0x02, 0x00, 0x00,                   /* Table 51 */
@@ -33,7 +33,7 @@ int main(int arguments, char **argument)
 {
     const char *question = arguments == 3 ? argument[1] : "";
     size_t items = arguments == 3 ? strtoul(argument[2], NULL, 10) : 0;
-    bool dated = strcmp(question, "tier_at") == 0 || strcmp(question, "matrix") == 0;
+    bool dated = strcmp(question, "tier_at") == 0 || strcmp(question, "seasoned") == 0 || strcmp(question, "matrix") == 0;
     if (items < 8 || items > MOST)
         return 2;
 
@@ -79,6 +79,10 @@ int main(int arguments, char **argument)
         struct bilashonge_tier reply = bilashonge_tier_at(description, length, image, used, 2024, 3, 5, 7, 30, BILASHONGE_SUMMATIONS);
         refusal = reply.refusal;
         meant = reply.none == 0 && reply.tier == 2;
+    } else if (strcmp(question, "seasoned") == 0) {
+        struct bilashonge_answer reply = bilashonge_seasoned(description, length, image, used, 2024, 3, 5);
+        refusal = reply.refusal;
+        meant = reply.yes == 1;
     } else if (strcmp(question, "matrix") == 0) {
         uint8_t cells[BILASHONGE_MATRIX_ROWS][BILASHONGE_MATRIX_COLUMNS];
         memset(cells, WRITTEN, sizeof cells);

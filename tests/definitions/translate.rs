@@ -73,6 +73,10 @@ fn question(words: &[&str]) -> Option<(String, usize, bool, bool)> {
             (format!("tier {} {}", moment, asked), 5, false, false)
         }
         "matrix" => ("matrix".to_string(), 3, true, false),
+        "seasoned" => {
+            let date = format!("(record {{ year = {}; month = {}; day = {} }})", words[3], words[4], words[5]);
+            (format!("seasoned {}", date), 4, false, false)
+        }
         _ => return None,
     })
 }
@@ -105,7 +109,7 @@ use Prim.Native.Nat.{ℕ}
 use Rattle.meaning.proofs.Computing.{computing}
 use Rattle.meaning.specs.declared.Quantity.{Quantity}
 use Rattle.meaning.specs.Refusals.{numbersOf}
-use Rattle.meaning.specs.Questions.{check, layout, tablePlace, tablePart, elementPlace, elementPart, elementNumber, writeRange, writeOctets, writeNumber, tier, matrix, replyTo, octetsTo, imageAfter}
+use Rattle.meaning.specs.Questions.{check, layout, tablePlace, tablePart, elementPlace, elementPart, elementNumber, writeRange, writeOctets, writeNumber, tier, matrix, seasoned, replyTo, octetsTo, imageAfter}
 ";
 
 fn main() -> io::Result<()> {

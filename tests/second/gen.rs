@@ -4,8 +4,8 @@
 //!     gen SEED N KIND
 //!
 //! KIND is check, places (layout, table, where), access (tablepart, octets,
-//! number and the writes), calendar (tier, matrix; gen_calendar.rs), lines
-//! (malformed and odd lines) or all.
+//! number and the writes), calendar (tier, seasoned, matrix;
+//! gen_calendar.rs), lines (malformed and odd lines) or all.
 //!
 //! Build with plain rustc; it shares the second program's reading of
 //! descriptions and layouts, only so as to choose cases near the edges. What
@@ -1115,7 +1115,34 @@ fn as_standard(rng: &mut Rng) -> [u32; 29] {
     ]
 }
 
-/// A request of tier or matrix, of a calendar of anything.
+/// What is asked of a calendar.
+fn calendar_question(rng: &mut Rng) -> &'static str {
+    match rng.below(20) {
+        0..=10 => "tier",
+        11..=15 => "seasoned",
+        _ => "matrix",
+    }
+}
+
+/// The line that asks a question of the calendar, after description and image
+/// as much of day and time as it takes.
+fn line_of(
+    rng: &mut Rng,
+    question: &str,
+    start: &str,
+    day: Day,
+    hour: u64,
+    minute: u64,
+) -> String {
+    let date = format!("{} {} {}", day.year, day.month, day.day);
+    match question {
+        "tier" => format!("tier {start} {date} {hour} {minute} {}", rng.below(2)),
+        "seasoned" => format!("seasoned {start} {date}"),
+        _ => format!("{question} {start}"),
+    }
+}
+
+/// A request of tier, seasoned or matrix, of a calendar of anything.
 fn calendar_request(rng: &mut Rng) -> String {
     let order = rng.pick(&[0u8, 1, 0, 1, 0xfe, 0xff]);
     let two = |field: u64| -> [u8; 2] {
@@ -1308,9 +1335,6 @@ fn calendar_request(rng: &mut Rng) -> String {
         _ => {}
     }
     let start = format!("{} {}", hex(&octets_of_words(&words)), hex(&image));
-    if rng.chance(20) {
-        return format!("matrix {start}");
-    }
 
     // The day asked: mostly that of the calendar.
     let mut asked = match rng.below(10) {
@@ -1345,11 +1369,8 @@ fn calendar_request(rng: &mut Rng) -> String {
         hour = rng.below(24);
         minute = rng.below(60);
     }
-    let what = rng.below(2);
-    format!(
-        "tier {start} {} {} {} {hour} {minute} {what}",
-        asked.year, asked.month, asked.day
-    )
+    let question = calendar_question(rng);
+    line_of(rng, question, &start, asked, hour, minute)
 }
 
 // ------------------------------------------------------------------ lines
@@ -1375,6 +1396,7 @@ fn odd_line(rng: &mut Rng) -> Vec<u8> {
                 "writeoctets 1000000120100000 00 1 0 0 0 0 0 00",
                 "writenumber 1000000120100000 00 1 0 0 0 0 0 7",
                 "tier 1000000120100000 00 2024 3 5 7 30 0",
+                "seasoned 1000000120100000 00 2024 3 5",
                 "matrix 1000000120100000 00",
             ]);
             question.as_bytes().to_vec()
@@ -1438,7 +1460,7 @@ fn odd_line(rng: &mut Rng) -> Vec<u8> {
                     "65535", "65536", "065535", "4294967295", "4294967296",
                     "18446744073709551615", "18446744073709551616", "018446744073709551615",
                     "99999999999999999999", "000000000000000000000000000000", "abcdef", "ABCDEF",
-                    "abc", "0g", "2047", "2048", "check", "matrix",
+                    "abc", "0g", "2047", "2048", "check", "matrix", "seasoned",
                 ])
                 .as_bytes()
                 .to_vec();
@@ -1449,6 +1471,8 @@ fn odd_line(rng: &mut Rng) -> Vec<u8> {
                 .pick(&[
                     "", " ", "?", "-", "check", "layout", "hello there", "check -", "check - -",
                     "Check -", "checks -", "chec -", "layout - -", "table - - 0 0", "matrix - -",
+                    "seasoned", "seasoned - -", "seasoned - - 2024 3", "seasoned - - 2024 3 5",
+                    "seasoned - - 2024 3 5 7", "seasoned - - 4294967296 3 5", "season - - 2024 3 5",
                 ])
                 .as_bytes()
                 .to_vec();

@@ -1,9 +1,11 @@
-//! Requests of tier and matrix, for gen.rs: calendars that are nearly right.
+//! Requests of tier, seasoned and matrix, for gen.rs: calendars that are nearly
+//! right.
 //!
-//! Every fourth request asks for the next day of a walk over all days from
-//! 1 January 1990 to 31 December 2089, of a calendar in which each weekday's
-//! schedule has a tier of its own. The others are such calendars too, with
-//! faults put in, up to three at once, or calendars of anything.
+//! Every fourth request asks for the tier of the next day of a walk over all
+//! days from 1 January 1990 to 31 December 2089, of a calendar in which each
+//! weekday's schedule has a tier of its own. The others are such calendars too,
+//! with faults put in, often several at once, or calendars of anything; seasoned
+//! is asked mostly of a season record's date and the days next to it.
 
 use super::*;
 
@@ -35,6 +37,13 @@ fn day_numbered(number: u64) -> Day {
     Day { year, month, day: left + 1 }
 }
 
+/// The number of a real day.
+fn number_of(day: Day) -> u64 {
+    let years: u64 = (1990..day.year).map(|year| if year % 4 == 0 { 366 } else { 365 }).sum();
+    let months: u64 = (1..day.month).map(|month| days_in_month(day.year, month)).sum();
+    years + months + day.day - 1
+}
+
 fn field_numbered(number: u64) -> u64 {
     date_field(day_numbered(number.min(DAYS - 1)))
 }
@@ -51,6 +60,26 @@ fn unreal_field(rng: &mut Rng, number: u64) -> u64 {
         _ if rng.chance(50) => no_month & no_day | 6 << 7 | 31 << 11,
         _ => no_year & no_month & no_day | rng.pick(&[1, 22, 23, 89, 90, 99]) | 2 << 7 | 29 << 11,
     }
+}
+
+/// The number of a DATE's day; None where it is no real one.
+fn number_of_field(field: u64) -> Option<u64> {
+    let year = match field & 127 {
+        short @ 0..=89 => 2000 + short,
+        short @ 90..=99 => 1900 + short,
+        _ => return None,
+    };
+    let (month, day) = (field >> 7 & 15, field >> 11 & 31);
+    if (1..=12).contains(&month) && (1..=days_in_month(year, month)).contains(&day) {
+        Some(number_of(Day { year, month, day }))
+    } else {
+        None
+    }
+}
+
+/// Whether an action is a season's, whatever its bits 5 to 7.
+fn is_season(action: u64) -> bool {
+    (3..=18).contains(&(action & 31))
 }
 
 fn switch_field(hour: u64, minute: u64, flags: u64, tier: u64) -> u64 {
@@ -364,48 +393,82 @@ fn described(
     (maker, image)
 }
 
-/// A day or a time that isn't: 16.
-fn unreal(rng: &mut Rng, asked: &mut Asked) {
-    let day = &mut asked.day;
-    match rng.below(12) {
-        0 => day.year = rng.pick(&[1989, 2090, 0, MOST, 24, 99, 2100, 1889]),
-        1 => day.year += rng.pick(&[1 << 8, 1 << 16, 100, 1 << 31]),
-        2 => day.month = rng.pick(&[0, 13, 14, MOST]),
-        3 => day.month += rng.pick(&[1 << 8, 1 << 16, 16, 12]),
-        4 => day.day = rng.pick(&[0, 32, MOST]),
-        5 => day.day += rng.pick(&[1 << 8, 1 << 16, 32]),
-        6 | 7 => {
+/// A day that isn't: 16.
+fn unreal_day(rng: &mut Rng, day: &mut Day) {
+    match rng.below(10) {
+        0 | 1 => day.year = rng.pick(&[1989, 2090, 0, MOST, 24, 99, 2100, 1889]),
+        2 => day.year += rng.pick(&[1 << 8, 1 << 16, 100, 1 << 31]),
+        3 => day.month = rng.pick(&[0, 13, 14, MOST]),
+        4 => day.month += rng.pick(&[1 << 8, 1 << 16, 16, 12]),
+        5 => day.day = rng.pick(&[0, 32, MOST]),
+        6 => day.day += rng.pick(&[1 << 8, 1 << 16, 32]),
+        7 | 8 => {
             // 29 February, mostly of a year that isn't a leap year.
             day.year = rng.pick(&[day.year, 2023, 2025, 1990, 2089, 2001, 1999, 2000, 2024]);
             day.month = 2;
             day.day = rng.pick(&[29, 29, 30]);
         }
-        8 => {
+        _ => {
             day.month = rng.pick(&[4, 6, 9, 11]);
             day.day = 31;
         }
-        9 | 10 => {
+    }
+}
+
+/// A day or a time that isn't: 16.
+fn unreal(rng: &mut Rng, asked: &mut Asked) {
+    match rng.below(12) {
+        0 | 1 => {
             (asked.hour, asked.minute) = rng.pick(&[
                 (24, 0), (24, 0), (24, 1), (25, 0), (MOST, 0), (12, 60), (12, 60), (12, 61),
                 (12, 63), (0, MOST), (23, 60),
             ]);
         }
-        _ => {
+        2 => {
             asked.hour += rng.pick(&[0, 1 << 8, 1 << 16, 32]);
             asked.minute += rng.pick(&[1 << 8, 1 << 16, 64]);
         }
+        _ => unreal_day(rng, &mut asked.day),
     }
 }
 
-/// A season that isn't chosen: 17.
-fn no_season(rng: &mut Rng, calendar: &mut Calendar, number: u64) {
-    let how = rng.below(3);
+/// The day to ask seasoned of: a season record's, or one next to it, which may
+/// be 31 December 1989 or 1 January 2090; or the day that the calendar is for.
+fn day_beside_a_record(rng: &mut Rng, calendar: &Calendar, asked: &Asked) -> Day {
+    let numbers: Vec<u64> = calendar
+        .dates
+        .iter()
+        .filter(|(_, action)| is_season(*action))
+        .filter_map(|(field, _)| number_of_field(*field))
+        .collect();
+    if numbers.is_empty() || rng.chance(40) {
+        return asked.day;
+    }
+    match (rng.pick(&numbers), rng.below(3)) {
+        (0, 0) => Day { year: 1989, month: 12, day: 31 },
+        (number, step) => day_numbered(number + step - 1),
+    }
+}
+
+/// A day before every season record: season 0 (document 02, E1). There is no
+/// record at all, as in a new meter, or the season records are dated later, have
+/// no real date, or are records of another action.
+fn before_every_record(rng: &mut Rng, calendar: &mut Calendar, number: u64) {
+    let how = rng.below(6);
+    if how == 0 {
+        calendar.dates.clear();
+        let width = calendar.rows.len() / calendar.seasons as usize;
+        calendar.seasons = rng.pick(&[1, 1, 0, calendar.seasons]);
+        calendar.rows.truncate(calendar.seasons as usize * width);
+    }
     for (field, action) in &mut calendar.dates {
-        if (3..=18).contains(&(*action & 31)) {
+        if is_season(*action) {
             match how {
-                0 if number + 1 < DAYS => *field = field_numbered(number + 1),
-                1 => *field = unreal_field(rng, number),
-                _ => *action = rng.pick(&[0, 2, 31]),
+                1..=3 if number + 1 < DAYS => {
+                    *field = field_numbered(number + 1 + rng.pick(&[0, 0, 1, 30, 4000]));
+                }
+                4 => *field = unreal_field(rng, number),
+                _ => *action = rng.pick(&[0, 1, 2, 31]),
             }
         }
     }
@@ -413,12 +476,21 @@ fn no_season(rng: &mut Rng, calendar: &mut Calendar, number: u64) {
 
 /// A season without a row, or a special schedule without a column: 19.
 fn no_place(rng: &mut Rng, calendar: &mut Calendar, number: u64) {
-    match rng.below(3) {
+    match rng.below(4) {
         0 => {
             calendar.seasons = 0;
             calendar.rows.clear();
         }
-        1 if calendar.special < 12 => {
+        // No season record's season has a row.
+        1 => {
+            for (_, action) in &mut calendar.dates {
+                if is_season(*action) {
+                    let beyond = [calendar.seasons, calendar.seasons.max(14), 15, 15];
+                    *action = *action & 0xe0 | 3 + rng.pick(&beyond);
+                }
+            }
+        }
+        2 if calendar.special < 12 => {
             let beyond = rng.pick(&[calendar.special, calendar.special, 11]);
             calendar.dates.push((field_numbered(number), 19 + beyond));
         }
@@ -426,6 +498,21 @@ fn no_place(rng: &mut Rng, calendar: &mut Calendar, number: u64) {
             let beyond = rng.pick(&[calendar.seasons, calendar.seasons, 15]);
             calendar.dates.push((field_numbered(number), 3 + beyond));
         }
+    }
+}
+
+/// Records that choose nothing, before the others or after them, until there are
+/// as many as one octet counts.
+fn fill_up(rng: &mut Rng, calendar: &mut Calendar, number: u64) {
+    let first = rng.chance(50);
+    while calendar.dates.len() + calendar.recurring.len() < 255 {
+        let record = if rng.chance(10) {
+            (unreal_field(rng, number), 3)
+        } else {
+            (field_numbered(rng.below(DAYS)), rng.pick(&[31, 0, 1, 2]))
+        };
+        let place = if first { 0 } else { calendar.dates.len() };
+        calendar.dates.insert(place, record);
     }
 }
 
@@ -455,6 +542,7 @@ pub fn request(rng: &mut Rng, k: u64) -> String {
     if !walked && rng.chance(35) {
         return calendar_request(rng);
     }
+    let question = if walked { "tier" } else { calendar_question(rng) };
     let number = if walked {
         k / 4 % DAYS
     } else if rng.chance(80) {
@@ -472,26 +560,47 @@ pub fn request(rng: &mut Rng, k: u64) -> String {
     let mut calendar = calendar_for(rng, &asked);
 
     // Faults, by the number that they are likely refused with; 1 stands for
-    // those of the description.
+    // those of the description, and 0 for a day before every season record,
+    // which is none.
     let mut faults = Vec::new();
     if !walked {
         for _ in 0..rng.pick(&[0, 0, 0, 0, 1, 1, 1, 2, 2, 3]) {
-            faults.push(if rng.below(180) == 0 {
+            faults.push(if rng.below(140) == 0 {
                 8
             } else {
-                rng.pick(&[1, 1, 1, 1, 9, 10, 16, 16, 17, 17, 18, 18, 19, 19, 20, 20])
+                rng.pick(&[1, 1, 1, 1, 9, 10, 16, 16, 0, 0, 18, 18, 19, 19, 20, 20])
             });
+        }
+        // What document 02's E1 is about comes more often. To seasoned neither
+        // 18 nor 19 is a fault.
+        let more: &[(u64, u64)] = match question {
+            "seasoned" => &[(0, 35), (16, 12), (18, 10), (19, 10)],
+            "tier" => &[(0, 12), (16, 4), (18, 4)],
+            _ => &[],
+        };
+        for (fault, percent) in more {
+            if rng.chance(*percent) {
+                faults.push(*fault);
+            }
         }
     }
     let has = |fault: u64| faults.contains(&fault);
-    if has(16) {
-        unreal(rng, &mut asked);
-    }
-    if has(17) {
-        no_season(rng, &mut calendar, number);
+    if has(0) {
+        before_every_record(rng, &mut calendar, number);
     }
     if has(19) {
         no_place(rng, &mut calendar, number);
+    }
+    if rng.chance(if question == "seasoned" { 5 } else { 1 }) {
+        fill_up(rng, &mut calendar, number);
+    }
+    if question == "seasoned" {
+        asked.day = day_beside_a_record(rng, &calendar, &asked);
+    }
+    match question {
+        "seasoned" if has(16) => unreal_day(rng, &mut asked.day),
+        _ if has(16) => unreal(rng, &mut asked),
+        _ => {}
     }
     calendar.armed = has(18);
     let (mut t51, mut t54) = tables_of(rng, &calendar);
@@ -521,10 +630,24 @@ pub fn request(rng: &mut Rng, k: u64) -> String {
     let description =
         if has(1) { damage(rng, maker) } else { octets_of_words(&maker.words) };
     let start = format!("{} {}", hex(&description), hex(&image));
-    if !walked && rng.chance(20) {
-        return format!("matrix {start}");
-    }
     let Asked { day, hour, minute, .. } = asked;
-    let what = rng.below(2);
-    format!("tier {start} {} {} {} {hour} {minute} {what}", day.year, day.month, day.day)
+    line_of(rng, question, &start, day, hour, minute)
+}
+
+#[cfg(test)]
+mod tests {
+    use super::*;
+
+    #[test]
+    fn days_and_their_numbers() {
+        for number in 0..DAYS {
+            assert_eq!(number_of(day_numbered(number)), number);
+            assert_eq!(number_of_field(field_numbered(number)), Some(number));
+        }
+        for seed in 0..20_000 {
+            let mut rng = Rng(seed);
+            let number = rng.below(DAYS);
+            assert_eq!(number_of_field(unreal_field(&mut rng, number)), None, "seed {seed}");
+        }
+    }
 }

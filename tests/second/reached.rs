@@ -7,10 +7,10 @@
 //! and the rarest beside what is wanted of it; with all, every count.
 //! Of 150,000 requests and more, fails where a case came too seldom.
 //!
-//! Slips are cases too: readings of document 01 that are easy to get wrong, of each how
-//! many requests a program that slips there would answer otherwise. For them
-//! the rules of the calendar stand here once more, in short; without a slip
-//! they must give the second program's reply.
+//! Slips are cases too: readings of documents 01 and 02 that are easy to get
+//! wrong, of each how many requests a program that slips there would answer
+//! otherwise. For them the rules of the calendar stand here once more, in short;
+//! without a slip they must give the second program's reply.
 
 #![allow(dead_code)]
 
@@ -69,11 +69,25 @@ enum Slip {
     FlagsExchanged,
     ArmedIgnored,
     ArmedBeforeDate,
-    SeasonBeforeArmed,
-    PlaceBeforeSeason,
+    PlaceBeforeArmed,
+    Refused17,
+    Earliest,
+    RowOfNoSeasons,
+    SpecialInSeasonsOnly,
+    AnyDate,
+    LastRecordOnly,
+    SpecialsCounted,
+    OthersCounted,
+    Season0Left,
+    Season15Left,
+    RowNeeded,
+    SeasonedGives18,
+    SeasonedGives19,
+    SeasonedGives17,
 }
 
-const SLIPS: [(Slip, &str); 37] = [
+/// Of tier.
+const SLIPS: [(Slip, &str); 40] = [
     (Slip::CountLeastFirst, "number of switches least significant octet first"),
     (Slip::CountMostFirst, "number of switches most significant octet first"),
     (Slip::DatesLeastFirst, "DATEs least significant octet first"),
@@ -109,12 +123,41 @@ const SLIPS: [(Slip, &str); 37] = [
     (Slip::FlagsExchanged, "switch flags exchanged"),
     (Slip::ArmedIgnored, "SEASON_CHNG_ARMED not read"),
     (Slip::ArmedBeforeDate, "18 before 16"),
-    (Slip::SeasonBeforeArmed, "17 before 18"),
-    (Slip::PlaceBeforeSeason, "19 before 17"),
+    (Slip::PlaceBeforeArmed, "19 before 18"),
+    (Slip::Refused17, "17 before every season record"),
+    (Slip::Earliest, "the earliest season before every season record"),
+    (Slip::RowOfNoSeasons, "none yet today in season 0 without a row"),
+    (Slip::SpecialInSeasonsOnly, "no special schedule before every season record"),
 ];
 
-/// A request whose tables are there, and what it asks: year, month, day, hour,
-/// minute, what.
+/// Of seasoned.
+const SEASONED_SLIPS: [(Slip, &str); 22] = [
+    (Slip::CountLeastFirst, "seasoned: number of switches least significant octet first"),
+    (Slip::CountMostFirst, "seasoned: number of switches most significant octet first"),
+    (Slip::DatesLeastFirst, "seasoned: DATEs least significant octet first"),
+    (Slip::DatesMostFirst, "seasoned: DATEs most significant octet first"),
+    (Slip::Action31Ends, "seasoned: action 31 ends the array"),
+    (Slip::ActionOfEightBits, "seasoned: action of eight bits"),
+    (Slip::Years90As2090, "seasoned: years 90 to 99 are 2090 on"),
+    (Slip::Years100As2000, "seasoned: years 100 to 127 are 2000 on"),
+    (Slip::DatesNotReal, "seasoned: months and days of none counted"),
+    (Slip::No29February2000, "seasoned: 2000 no leap year"),
+    (Slip::DateBeforeTheDay, "seasoned: records before the day only"),
+    (Slip::AnyDate, "seasoned: records of any date"),
+    (Slip::LastRecordOnly, "seasoned: the last season record only"),
+    (Slip::RecurringApplied, "seasoned: recurring records counted"),
+    (Slip::SpecialsCounted, "seasoned: special schedules counted"),
+    (Slip::OthersCounted, "seasoned: actions 0, 1, 2 and 31 counted"),
+    (Slip::Season0Left, "seasoned: season 0 not counted"),
+    (Slip::Season15Left, "seasoned: season 15 not counted"),
+    (Slip::RowNeeded, "seasoned: seasons without a row not counted"),
+    (Slip::SeasonedGives18, "seasoned: 18"),
+    (Slip::SeasonedGives19, "seasoned: 19"),
+    (Slip::SeasonedGives17, "seasoned: 17 instead of no"),
+];
+
+/// A request whose tables are there. What it asks beside them is year, month,
+/// day and, of tier, hour, minute, what.
 struct Tables<'a> {
     most_first: bool,
     t51: &'a [u8],
@@ -237,39 +280,25 @@ fn date_of(field: u64, slip: Slip) -> Option<Day> {
     }
 }
 
-/// The reply to tier but for item and octet: number, none, tier.
-fn tier(tables: &Tables, asked: &[u64], slip: Slip) -> (u64, u64, u64) {
-    let refused = |number| (number, 0, 0);
-    let calendar = match read(tables, slip) {
-        Some(calendar) => calendar,
-        None => return refused(20),
-    };
-    let today = (asked[0], asked[1], asked[2]);
-    let now = (asked[3], asked[4]);
-    let real = is_real(today, slip) && now.0 <= 23 && now.1 <= 59;
-    let armed = calendar.armed && slip != Slip::ArmedIgnored;
-    if !real && !(armed && slip == Slip::ArmedBeforeDate) {
-        return refused(16);
-    }
-    if armed && slip != Slip::SeasonBeforeArmed {
-        return refused(18);
-    }
-
-    let (mut season, mut special): (Option<(Day, usize)>, Option<usize>) = (None, None);
-    let mut dates: Vec<&Record> = calendar.dates.iter().collect();
+/// The records of dates, as far as a slip reads them: date and action.
+fn dated(calendar: &Calendar, slip: Slip) -> Vec<(Day, usize)> {
+    let mut records: Vec<&Record> = calendar.dates.iter().collect();
     if slip == Slip::RecurringApplied {
-        dates.extend(&calendar.recurring);
+        records.extend(&calendar.recurring);
     }
-    for record in dates {
-        let bits = if slip == Slip::ActionOfEightBits { 255 } else { 31 };
-        let action = usize::from(record.octet & bits);
-        if slip == Slip::Action31Ends && action == 31 {
-            break;
-        }
-        let date = match date_of(record.field, slip) {
-            Some(date) => date,
-            None => continue,
-        };
+    let bits = if slip == Slip::ActionOfEightBits { 255 } else { 31 };
+    records
+        .iter()
+        .map(|record| (record.field, usize::from(record.octet & bits)))
+        .take_while(|(_, action)| slip != Slip::Action31Ends || *action != 31)
+        .filter_map(|(field, action)| Some((date_of(field, slip)?, action)))
+        .collect()
+}
+
+/// The season that is chosen on a day, if one is, and the special schedule.
+fn chosen(calendar: &Calendar, today: Day, slip: Slip) -> (Option<usize>, Option<usize>) {
+    let (mut season, mut special): (Option<(Day, usize)>, Option<usize>) = (None, None);
+    for (date, action) in dated(calendar, slip) {
         let begun = date < today || date == today && slip != Slip::DateBeforeTheDay;
         match action {
             3..=18 if begun => {
@@ -294,21 +323,64 @@ fn tier(tables: &Tables, asked: &[u64], slip: Slip) -> (u64, u64, u64) {
             _ => {}
         }
     }
-    if slip == Slip::SpecialWithoutColumn && special >= Some(calendar.specials) {
-        special = None;
+    (season.map(|(_, season)| season), special)
+}
+
+/// The season of the earliest season record, of equal dates the first.
+fn earliest(calendar: &Calendar, slip: Slip) -> Option<usize> {
+    let seasons = dated(calendar, slip).into_iter().filter(|(_, action)| is_season(*action));
+    seasons.min_by_key(|(date, _)| *date).map(|(_, action)| action - 3)
+}
+
+fn is_season(action: usize) -> bool {
+    (3..=18).contains(&action)
+}
+
+/// The day after a real day.
+fn after_day((year, month, day): Day) -> Day {
+    match (month, day) {
+        (12, 31) => (year + 1, 1, 1),
+        _ if day == days_in_month(year, month, Slip::Nowhere) => (year, month + 1, 1),
+        _ => (year, month, day + 1),
     }
-    if slip == Slip::PlaceBeforeSeason && special >= Some(calendar.specials) {
-        return refused(19);
-    }
-    let season = match season {
-        Some((_, season)) => season,
-        None => return refused(17),
+}
+
+/// The reply to tier but for item and octet: number, none, tier.
+fn tier(tables: &Tables, asked: &[u64], slip: Slip) -> (u64, u64, u64) {
+    let refused = |number| (number, 0, 0);
+    let calendar = match read(tables, slip) {
+        Some(calendar) => calendar,
+        None => return refused(20),
     };
-    if armed {
+    let today = (asked[0], asked[1], asked[2]);
+    let now = (asked[3], asked[4]);
+    let real = is_real(today, slip) && now.0 <= 23 && now.1 <= 59;
+    let armed = calendar.armed && slip != Slip::ArmedIgnored;
+    if !real && !(armed && slip == Slip::ArmedBeforeDate) {
+        return refused(16);
+    }
+    if armed && slip != Slip::PlaceBeforeArmed {
         return refused(18);
     }
+
+    let (chosen, mut special) = chosen(&calendar, today, slip);
+    if slip == Slip::SpecialWithoutColumn && special >= Some(calendar.specials)
+        || slip == Slip::SpecialInSeasonsOnly && chosen.is_none()
+    {
+        special = None;
+    }
+    let season = match (chosen, slip) {
+        (Some(season), _) => season,
+        (None, Slip::Refused17) => return refused(17),
+        (None, Slip::RowOfNoSeasons) if calendar.seasons == 0 => return (0, 1, 0),
+        (None, Slip::Earliest) => earliest(&calendar, slip).unwrap_or(0),
+        (None, _) => 0,
+    };
     if season >= calendar.seasons || special >= Some(calendar.specials) {
         return refused(19);
+    }
+    if armed {
+        return refused(18);
     }
 
     let shared = if calendar.weekdays { 7 } else { 3 };
@@ -358,6 +430,45 @@ fn tier(tables: &Tables, asked: &[u64], slip: Slip) -> (u64, u64, u64) {
     match chosen {
         Some((_, tier)) => (0, 0, tier),
         None => (0, 1, 0),
+    }
+}
+
+/// The reply to seasoned but for item and octet: number, yes.
+fn seasoned(tables: &Tables, asked: &[u64], slip: Slip) -> (u64, u64) {
+    let refused = |number| (number, 0);
+    let day = (asked[0], asked[1], asked[2]);
+    let calendar = match read(tables, slip) {
+        Some(calendar) => calendar,
+        None => return refused(20),
+    };
+    if !is_real(day, slip) {
+        return refused(16);
+    }
+    if calendar.armed && slip == Slip::SeasonedGives18 {
+        return refused(18);
+    }
+    let counts = |action: usize| match action {
+        3 if slip == Slip::Season0Left => false,
+        18 if slip == Slip::Season15Left => false,
+        3..=18 => action - 3 < calendar.seasons || slip != Slip::RowNeeded,
+        19..=30 => slip == Slip::SpecialsCounted,
+        _ => slip == Slip::OthersCounted,
+    };
+    let stands = |date: Day| match slip {
+        Slip::DateBeforeTheDay => date < day,
+        Slip::AnyDate => true,
+        _ => date <= day,
+    };
+    let counted = dated(&calendar, slip).into_iter().filter(|(_, action)| counts(*action));
+    let yes = match slip {
+        Slip::LastRecordOnly => counted.last().map_or(false, |(date, _)| stands(date)),
+        _ => counted.into_iter().any(|(date, _)| stands(date)),
+    };
+    let rowless = chosen(&calendar, day, slip).0.unwrap_or(0) >= calendar.seasons;
+    match slip {
+        Slip::SeasonedGives19 if rowless => refused(19),
+        Slip::SeasonedGives17 if !yes => refused(17),
+        _ => (0, u64::from(yes)),
     }
 }
 
@@ -450,6 +561,8 @@ struct Counts {
     tables: Cases,
     calendars: Cases,
     records: Cases,
+    early: Cases,
+    seasoned: Cases,
     slips: Cases,
 }
 
@@ -460,9 +573,18 @@ impl Counts {
         let values: Vec<u64> = reply.split(' ').take(5).map(number_of).collect();
         let (question, number) = (words[0], values[0]);
         let asked: Vec<u64> = words[3..].iter().map(|word| number_of(word)).collect();
-        self.replied(question, &values);
-        if question == "tier" {
-            self.asked(&asked, number);
+        let given: &[u64] = match question {
+            "tier" => &[16, 18, 19, 20],
+            "seasoned" => &[16, 20],
+            "matrix" => &[20],
+            _ => return Err(String::from("no question of the calendar")),
+        };
+        if number > 10 && !given.contains(&number) {
+            return Err(format!("a refusal that isn't given, {reply}"));
+        }
+        self.replied(question, &values, given);
+        if question != "matrix" {
+            self.asked(question, &asked, number);
         }
         let (d, image) = (octets(words[1]), octets(words[2]));
         let laid = match lay_out(&d, &image) {
@@ -495,16 +617,35 @@ impl Counts {
                 let otherwise = tier(&tables, &asked, slip) != told;
                 self.slips.count(name, 100, otherwise);
             }
+            if number != 16 {
+                self.early(&asked, &calendar, told);
+            }
+        }
+        if question == "seasoned" {
+            let told = (values[0], values[3]);
+            if seasoned(&tables, &asked, Slip::Nowhere) != told {
+                return Err(format!("not the second program's reply, {reply}"));
+            }
+            for (slip, name) in SEASONED_SLIPS {
+                let otherwise = seasoned(&tables, &asked, slip) != told;
+                self.slips.count(name, 100, otherwise);
+            }
+            if number == 0 {
+                self.seasoned(&asked, &tables, &calendar, told.1 == 1);
+            }
         }
         Ok(())
     }
 
-    fn replied(&mut self, question: &str, values: &[u64]) {
-        for refusal in (1..=10).chain(16..=20) {
-            if question == "tier" || refusal <= 10 || refusal == 20 {
-                let least = if question == "tier" { 150 } else { 40 };
-                self.replies.count(&format!("{question} {refusal}"), least, values[0] == refusal);
-            }
+    fn replied(&mut self, question: &str, values: &[u64], given: &[u64]) {
+        for refusal in (1..=10).chain(given.iter().copied()) {
+            let least = match (question, refusal) {
+                ("tier", _) => 150,
+                ("seasoned", 9..=20) => 500,
+                ("seasoned", 1..=7) => 100,
+                _ => 40,
+            };
+            self.replies.count(&format!("{question} {refusal}"), least, values[0] == refusal);
         }
         if question == "tier" {
             for tier in 0..8 {
@@ -512,40 +653,148 @@ impl Counts {
                 self.replies.count(&format!("tier {tier} granted"), 3000, told);
             }
             self.replies.count("none yet today", 3000, values[0] == 0 && values[3] == 1);
+        } else if question == "seasoned" {
+            for (yes, name) in [(0, "seasoned no"), (1, "seasoned yes")] {
+                self.replies.count(name, 3000, values[0] == 0 && values[3] == yes);
+            }
         } else {
             self.replies.count("matrix granted", 3000, values[0] == 0);
         }
     }
 
-    fn asked(&mut self, asked: &[u64], number: u64) {
+    fn asked(&mut self, question: &str, asked: &[u64], number: u64) {
         let day = (asked[0], asked[1], asked[2]);
-        let (hour, minute) = (asked[3], asked[4]);
         let real = is_real(day, Slip::Nowhere);
-        if real && hour <= 23 && minute <= 59 {
-            self.days.insert(day);
-            if number == 0 {
-                self.answered.insert(day);
-            }
-        }
         let not_real = !real && number == 16;
         let most = u64::from(u32::MAX);
-        self.asked.count("29 February", 30, not_real && (day.1, day.2) == (2, 29));
-        self.asked.count("31 April", 30, not_real && (day.1, day.2) == (4, 31));
+        // Seasoned is asked less often.
+        let few = if question == "tier" { 30 } else { 20 };
+        let mut count = |name: &str, least: u64, came: bool| {
+            self.asked.count(&format!("{question}, {name}"), least, came);
+        };
+        count("29 February", few, not_real && (day.1, day.2) == (2, 29));
+        count("31 April", few, not_real && (day.1, day.2) == (4, 31));
         for month in [0, 13, most] {
-            self.asked.count(&format!("month {month}"), 30, not_real && day.1 == month);
+            count(&format!("month {month}"), few, not_real && day.1 == month);
         }
         for date in [0, 32, most] {
-            self.asked.count(&format!("day {date}"), 30, not_real && day.2 == date);
+            count(&format!("day {date}"), few, not_real && day.2 == date);
         }
         for year in [0, 1989, 2090, most] {
-            self.asked.count(&format!("year {year}"), 30, not_real && day.0 == year);
+            count(&format!("year {year}"), few, not_real && day.0 == year);
         }
-        let no_time = real && number == 16;
-        self.asked.count("24:00", 30, no_time && (hour, minute) == (24, 0));
-        self.asked.count("12:60", 30, no_time && (hour, minute) == (12, 60));
-        self.asked.count("16 also, refused by 20", 100, number == 20 && !real);
-        self.asked.count("16 also, refused by 10", 100, number == 10 && !real);
-        self.asked.count("16 also, refused by 9", 100, number == 9 && !real);
+        count("16 also, refused by 20", 100, number == 20 && !real);
+        count("16 also, refused by 10", 100, number == 10 && !real);
+        count("16 also, refused by 9", 100, number == 9 && !real);
+        if question == "tier" {
+            let (hour, minute) = (asked[3], asked[4]);
+            let no_time = real && number == 16;
+            count("24:00", 30, no_time && (hour, minute) == (24, 0));
+            count("12:60", 30, no_time && (hour, minute) == (12, 60));
+            if real && hour <= 23 && minute <= 59 {
+                self.days.insert(day);
+                if number == 0 {
+                    self.answered.insert(day);
+                }
+            }
+        }
+    }
+
+    /// Tiers of days before every season record.
+    fn early(&mut self, asked: &[u64], calendar: &Calendar, told: (u64, u64, u64)) {
+        let today = (asked[0], asked[1], asked[2]);
+        let (season, special) = chosen(calendar, today, Slip::Nowhere);
+        if season.is_some() {
+            return;
+        }
+        let e = &mut self.early;
+        let (number, none) = (told.0, told.1);
+        let later = dated(calendar, Slip::Nowhere).iter().any(|(_, action)| is_season(*action));
+        let new = calendar.dates.is_empty() && calendar.seasons == 1;
+        let place = special < Some(calendar.specials);
+        for tier in 0..8 {
+            e.count(&format!("tier {tier}"), 200, (number, none, told.2) == (0, 0, tier));
+        }
+        e.count("none yet today", 200, (number, none) == (0, 1));
+        e.count("season records later, answered", 500, later && number == 0);
+        e.count("no record at all, answered", 500, calendar.dates.is_empty() && number == 0);
+        e.count("a new meter, a tier", 200, new && (number, none) == (0, 0));
+        e.count("a new meter, none yet today", 50, new && (number, none) == (0, 1));
+        e.count("a new meter, armed", 30, new && number == 18);
+        e.count("a special schedule, answered", 200, special.is_some() && number == 0);
+        e.count("a special schedule without a column", 60, !place && number == 19);
+        e.count("S 0", 200, calendar.seasons == 0 && number == 19);
+        e.count("S 0, no record at all", 100, {
+            calendar.seasons == 0 && calendar.dates.is_empty() && number == 19
+        });
+        e.count("S 0, armed", 20, calendar.seasons == 0 && number == 18);
+        e.count("armed", 200, number == 18);
+    }
+
+    /// What seasoned is answered, yes or no, and of which calendar.
+    fn seasoned(&mut self, asked: &[u64], tables: &Tables, calendar: &Calendar, yes: bool) {
+        let day = (asked[0], asked[1], asked[2]);
+        let dates = dated(calendar, Slip::Nowhere);
+        let has = |which: &dyn Fn(Day, usize) -> bool| dates.iter().any(|(d, a)| which(*d, *a));
+        let season = |at: Day| has(&|date, action| is_season(action) && date == at);
+        let at_or_before = |actions: std::ops::RangeInclusive<usize>| {
+            has(&|date, action| actions.contains(&action) && date <= day)
+        };
+        let s = &mut self.seasoned;
+        s.count("the day before a season record, no", 500, season(after_day(day)) && !yes);
+        s.count("the day before one, after another, yes", 500, season(after_day(day)) && yes);
+        s.count("the day of a season record, yes", 1000, season(day) && yes);
+        s.count("the day of the earliest, yes", 1000, {
+            season(day) && yes && !has(&|date, action| is_season(action) && date < day)
+        });
+        s.count("the day after a season record, yes", 1000, {
+            yes && has(&|date, action| is_season(action) && after_day(date) == day)
+        });
+        s.count("on or after a special schedule, no", 200, at_or_before(19..=30) && !yes);
+        s.count("on or after action 31, no", 200, at_or_before(31..=31) && !yes);
+        s.count("on or after actions 0 to 2, no", 200, at_or_before(0..=2) && !yes);
+        s.count("after action 31, yes", 200, at_or_before(31..=31) && yes);
+        s.count("season records without a real date only, no", 200, {
+            let bare = calendar.dates.iter().any(|record| is_season(usize::from(record.octet & 31)));
+            bare && !has(&|_, action| is_season(action)) && !yes
+        });
+        s.count("recurring season records, no", 200, {
+            let is_one = |record: &Record| is_season(usize::from(record.octet & 31));
+            calendar.recurring.iter().any(is_one) && !yes
+        });
+        s.count("action bits 5 to 7 of every season record, yes", 200, {
+            let is_one = |record: &&Record| is_season(usize::from(record.octet & 31));
+            yes && calendar.dates.iter().filter(is_one).all(|record| record.octet > 31)
+        });
+        for action in [3, 4, 17, 18] {
+            s.count(&format!("action {action} alone, yes"), 25, {
+                yes && !has(&|date, other| is_season(other) && other != action && date <= day)
+            });
+        }
+        s.count("N 0", 300, calendar.dates.is_empty() && !yes);
+        s.count("a new meter", 200, calendar.dates.is_empty() && calendar.seasons == 1 && !yes);
+        s.count("N 0, S 0", 30, calendar.dates.is_empty() && calendar.seasons == 0 && !yes);
+        let rowless = chosen(calendar, day, Slip::Nowhere).0 >= Some(calendar.seasons);
+        s.count("a season without a row", 500, rowless && yes);
+        s.count("no record's season has a row", 300, {
+            let rows = 3..3 + calendar.seasons;
+            yes && !has(&|_, action| is_season(action) && rows.contains(&action))
+        });
+        for (yes, name) in [(yes, "yes"), (!yes, "no")] {
+            s.count(&format!("S 0, {name}"), 100, calendar.seasons == 0 && yes);
+            s.count(&format!("armed, {name}"), 200, calendar.armed && yes);
+            s.count(&format!("armed, S 0, {name}"), 20, {
+                calendar.armed && calendar.seasons == 0 && yes
+            });
+            s.count(&format!("anchor date, {name}"), 500, calendar.anchor && yes);
+            s.count(&format!("N 255, {name}"), 40, calendar.dates.len() == 255 && yes);
+            s.count(&format!("DATA_ORDER 0, {name}"), 500, !tables.most_first && yes);
+            s.count(&format!("DATA_ORDER 1, {name}"), 500, tables.most_first && yes);
+        }
+        s.count("1 January 1990, yes", 50, day == (1990, 1, 1) && yes);
+        s.count("1 January 1990, no", 20, day == (1990, 1, 1) && !yes);
+        s.count("31 December 2089, yes", 40, day == (2089, 12, 31) && yes);
+        s.count("31 December 2089, no", 20, day == (2089, 12, 31) && !yes);
     }
 
     fn sized(&mut self, tables: &Tables, number: u64) {
@@ -597,6 +846,8 @@ impl Counts {
             calendar.seasons == 15 && calendar.specials == 15 && calendar.weekdays
         });
         c.count("T 0", 500, calendar.switches.is_empty());
+        c.count("N 0", 500, calendar.dates.is_empty());
+        c.count("N 255", 100, calendar.dates.len() == 255);
         c.count("T over 255", 200, calendar.switches.len() > 255);
         c.count("T 1000 and more", 100, calendar.switches.len() >= 1000);
         c.count("recurring records", 5000, !calendar.recurring.is_empty());
@@ -627,8 +878,16 @@ impl Counts {
         for (action, count) in self.actions.iter().enumerate() {
             self.records.add(&format!("action {action}"), 1000, *count);
         }
-        let groups =
-            [&self.replies, &self.asked, &self.tables, &self.calendars, &self.records, &self.slips];
+        let groups = [
+            &self.replies,
+            &self.asked,
+            &self.tables,
+            &self.calendars,
+            &self.records,
+            &self.early,
+            &self.seasoned,
+            &self.slips,
+        ];
         let mut reached = true;
         for cases in groups {
             reached = cases.report(all) && reached;
@@ -649,6 +908,8 @@ fn main() {
         tables: Cases::new("tables"),
         calendars: Cases::new("calendars"),
         records: Cases::new("records"),
+        early: Cases::new("days before every season record"),
+        seasoned: Cases::new("seasoned"),
         slips: Cases::new("slips that would show"),
     };
     for line in io::stdin().lock().lines() {

@@ -1,19 +1,20 @@
 -- What is chosen is what specs/Choices.antt says. Assumes nothing.
 use Prim.Native.Nat.{ℕ, _-_}
-use mathlib.Core.Path.{_≡_, refl, sym, _∙_}
-use mathlib.Core.Bool.{Bool, true}
-use mathlib.Core.List.{List}
+use mathlib.Core.Path.{_≡_, refl, sym, _∙_, subst}
+use mathlib.Core.Logic.{⊎-elim}
+use mathlib.Core.Bool.{Bool, true, false, _||_, false≢true, or-true}
+use mathlib.Core.List.{List, [], _∷_, List·Memᴰ·head, List·Memᴰ·tail, List·Memᴰ·not-nil, List·Memᴰ·cases-cons}
 use native.Mathlib.Omega.{arith}
 use borrow.Author.Tests.{leb-true, eqb-true, le-leb, eq-eqb}
-use Rattle.meaning.specs.Basics.{bits}
+use Rattle.meaning.specs.Basics.{bits, _≤?_}
 use Rattle.meaning.specs.declared.Chosen.{Chosen}
 use Rattle.meaning.specs.declared.Chosen.the-variants.{Nothing, Entry}
 use Rattle.meaning.specs.declared.Quantity.{Quantity}
 use Rattle.meaning.specs.declared.Triple.{Triple}
 use Rattle.meaning.specs.Passed.{Exactly}
-use Rattle.meaning.specs.Calendar.{entryIf, latest, recordDay, action, seasonEntry, specialEntry, seasonOn, specialOn, counts, switchMinute, switchEntry}
+use Rattle.meaning.specs.Calendar.{entryIf, orLater, latest, recordDay, action, selectsSeason, seasonEntry, specialEntry, seasonOn, seasonStands, specialOn, counts, switchMinute, switchEntry}
 use Rattle.almanac.specs.Latest.{_among_}
-use Rattle.almanac.specs.Choices.{LatestOf, SelectsSeason, SeasonSays, SelectsSpecial, SpecialSays, Switches, SwitchSays}
+use Rattle.almanac.specs.Choices.{LatestOf, SelectsSeason, SeasonStands, SeasonSays, SelectsSpecial, SpecialSays, Switches, SwitchSays}
 use Rattle.almanac.proofs.Tests.{all-four}
 use Rattle.meaning.proofs.Either.{tested}
 use Rattle.almanac.proofs.Latest.{latest-says, entry-some}
@@ -84,16 +85,55 @@ module _ {f : Triple → Chosen} {Holds : Triple → Type 0} {when brings : Trip
       (λ e r m h. entry-some (sym (b .something r h) ∙ latest-says f rs .nothing .0 e r m), λ h. latest-says f rs .nothing .1 (λ r m. b .nothing r (h r m)))
 
 -- THE SEASON
+select-says : (day : ℕ) (r : Triple) → Exactly (selectsSeason day r ≡ true) (SelectsSeason day r)
+unfolding selectsSeason
+select-says day r = (
+  λ e.
+      let (a, b, c, d) = all-four _ _ _ _ e in
+      record { real = a; notAfter = leb-true _ _ b; from = leb-true _ _ c; to = leb-true _ _ d },
+  λ s. rw (s .real, le-leb _ _ (s .notAfter), le-leb _ _ (s .from), le-leb _ _ (s .to)),
+)
+
 season-brings : (day : ℕ) → Brings (seasonEntry day) (SelectsSeason day) recordDay (λ r. action r - 3)
 unfolding seasonEntry
 season-brings day =
-    by-test _ recordDay (λ r. action r - 3)
-    (λ r. (
-      λ e.
-          let (a, b, c, d) = all-four _ _ _ _ e in
-          record { real = a; notAfter = leb-true _ _ b; from = leb-true _ _ c; to = leb-true _ _ d },
-      λ s. rw (s .real, le-leb _ _ (s .notAfter), le-leb _ _ (s .from), le-leb _ _ (s .to)),
-    ))
+    by-test _ recordDay (λ r. action r - 3) (select-says day)
+
+-- one stands exactly where something is chosen
+abbrev pub isEntry : Chosen → Bool
+isEntry Nothing = false
+isEntry (Entry w x) = true
+
+either-entry : (a b : Chosen) → isEntry (orLater a b) ≡ isEntry a || isEntry b
+unfolding orLater
+either-entry Nothing b = refl
+either-entry (Entry w x) Nothing = refl
+either-entry (Entry w x) (Entry v y) = tested (λ c. isEntry c ≡ true) (w ≤? v) _ _ (λ e. refl) (λ e. refl)
+
+entry-if : (b : Bool) (w x : ℕ) → isEntry (entryIf b w x) ≡ b
+entry-if true w x = refl
+entry-if false w x = refl
+
+pub stands-chosen : (day : ℕ) (dates : List Triple) → isEntry (seasonOn day dates) ≡ seasonStands day dates
+unfolding seasonOn latest seasonEntry seasonStands
+stands-chosen day [] = refl
+stands-chosen day (r ∷ rs) = either-entry (seasonEntry day r) (seasonOn day rs) ∙ rw (entry-if (selectsSeason day r) (recordDay r) (action r - 3), stands-chosen day rs)
+
+some-stands : (day : ℕ) (dates : List Triple) → seasonStands day dates ≡ true → SeasonStands day dates
+unfolding seasonStands
+some-stands day [] e = absurd (false≢true e)
+some-stands day (r ∷ rs) e = go (selectsSeason day r) refl e (some-stands day rs)
+  where
+    go : (b : Bool) → selectsSeason day r ≡ b → (b || seasonStands day rs) ≡ true → (seasonStands day rs ≡ true → SeasonStands day rs) → SeasonStands day (r ∷ rs)
+    go true h f rest = record { standing = r; there = List·Memᴰ·head refl; selects = select-says day r .0 h }
+    go false h f rest = let s = rest f in record { standing = s .standing; there = List·Memᴰ·tail (s .there); selects = s .selects }
+
+stands-some : (day : ℕ) (dates : List Triple) (r : Triple) → r among dates → SelectsSeason day r → seasonStands day dates ≡ true
+unfolding seasonStands
+stands-some day [] r m s = absurd (List·Memᴰ·not-nil m)
+stands-some day (t ∷ rs) r m s =
+    ⊎-elim (λ q. let h : selectsSeason day t ≡ true = subst (λ (u : Triple). selectsSeason day u ≡ true) q (select-says day r .1 s) in rw h)
+    (λ q. rw (stands-some day rs r q s) (or-true (selectsSeason day t))) (List·Memᴰ·cases-cons m)
 
 pub season-says : (day : ℕ) (dates : List Triple) → SeasonSays day dates
 unfolding seasonOn
@@ -106,6 +146,7 @@ season-says day dates =
           (λ c. record { chosen = c .chosen; latest = c .latest; time = c .date; value = omega (arith, c .season) });
       none = none-chosen (season-brings day) dates;
       range = λ w s e. let c = says w s .0 e in let h = c .latest .counts in (omega (arith, c .time), omega (arith, c .value));
+      stands = (some-stands day dates, λ s. stands-some day dates (s .standing) (s .there) (s .selects));
     }
 
 -- THE SPECIAL SCHEDULE

@@ -6,8 +6,9 @@ use mathlib.Core.Bool.{Bool, true, false, cond}
 use native.Mathlib.Nat.{eq-or-lt-of-le, le-of-suc-le-suc}
 use native.Mathlib.Omega.{arith}
 use borrow.Author.Tests.{lt-ltb, le-ltb}
+use Rattle.meaning.specs.declared.Date.{Date}
 use Rattle.meaning.specs.Calendar.{leap, monthLength, realDate, yearDays, monthDays, dayNumber, weekdayOf}
-use Rattle.almanac.specs.Days.{Real, Date, numberOf, next, lastDate, NextDay, Before, Numbered, Days}
+use Rattle.almanac.specs.Days.{Real, numberOf, next, lastDate, NextDay, Before, Numbered, Days}
 use Rattle.almanac.proofs.Tests.{lt-or-ge}
 use Rattle.almanac.proofs.Days.{month-least, real, is-real, months-more, years-more}
 

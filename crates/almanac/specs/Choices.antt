@@ -9,7 +9,7 @@ use Rattle.meaning.specs.declared.Chosen.the-variants.{Nothing, Entry}
 use Rattle.meaning.specs.declared.Quantity.{Quantity}
 use Rattle.meaning.specs.declared.Triple.{Triple}
 use Rattle.meaning.specs.Passed.{Exactly}
-use Rattle.meaning.specs.Calendar.{latest, realTime, recordReal, recordDay, action, seasonOn, specialOn, counts, switchMinute, switchEntry}
+use Rattle.meaning.specs.Calendar.{latest, realTime, recordReal, recordDay, action, seasonOn, seasonStands, specialOn, counts, switchMinute, switchEntry}
 use Rattle.almanac.specs.Latest.{_among_}
 
 -- the latest of the records that count, by day or minute; of equals, the later record
@@ -36,10 +36,17 @@ pub record SeasonChosen (day : ℕ) (dates : List Triple) (w s : ℕ) : Type 0 w
   pub date : recordDay chosen ≡ w
   pub season : action chosen ≡ s + 3
 
+-- a season record with a real date stands at or before the day
+pub record SeasonStands (day : ℕ) (dates : List Triple) : Type 0 where
+  pub standing : Triple
+  pub there : standing among dates
+  pub selects : SelectsSeason day standing
+
 pub record SeasonSays (day : ℕ) (dates : List Triple) : Type 0 where
   pub chosen : (w s : ℕ) → Exactly (seasonOn day dates ≡ Entry w s) (SeasonChosen day dates w s)
   pub none : Exactly (seasonOn day dates ≡ Nothing) ((r : Triple) → r among dates → SelectsSeason day r → ⊥)
   pub range : (w s : ℕ) → seasonOn day dates ≡ Entry w s → (w ≤ day) × (s ≤ 15)
+  pub stands : Exactly (seasonStands day dates ≡ true) (SeasonStands day dates)
 
 -- THE SPECIAL SCHEDULE
 -- a record that selects a special schedule for that day: that very date, an action from 19 to 30

@@ -5,6 +5,7 @@ use mathlib.Core.Path.{_≡_}
 use mathlib.Core.Logic.{_⊎_}
 use mathlib.Core.Bool.{true}
 use Rattle.meaning.specs.Basics.{if_then_else_, _<?_}
+use Rattle.meaning.specs.declared.Date.{Date}
 use Rattle.meaning.specs.Calendar.{monthLength, realDate, dayNumber, weekdayOf}
 
 -- what makes a date real
@@ -15,11 +16,6 @@ pub record Real (year month day : ℕ) : Type 0 where
   pub lastMonth : month ≤ 12
   pub first : 1 ≤ day
   pub last : day ≤ monthLength year month
-
-pub record Date : Type 0 where
-  pub year : ℕ
-  pub month : ℕ
-  pub day : ℕ
 
 abbrev pub IsReal : Date → Type 0
 IsReal t = realDate (t .year) (t .month) (t .day) ≡ true

@@ -4,6 +4,7 @@
 //
 // Nothing is kept. Memory is lent to be read, but for an image that is to be written and the cells of
 // the matrix: what those hold afterwards is stated too, for answers and refusals.
+use meaning::Date;
 use meaning::ElementName;
 use meaning::Moment;
 use meaning::Refusal;
@@ -17,7 +18,7 @@ ghost use Rattle.meaning.specs.Calendar.{matrixReply, matrixVerdict, cellsAfter
 ghost use Rattle.meaning.specs.Questions as ask;
 ghost use Rattle.meaning.specs.Questions.{toldTo, imageAfter};
 ghost use Rattle.replies.specs.Asked.{quantityOf};
-ghost use Rattle.bilashonge.specs.Interface.{inTotal, inPlace, inNumber, inTier, elementNamed, momentOf};
+ghost use Rattle.bilashonge.specs.Interface.{inTotal, inPlace, inNumber, inTier, inAnswer, elementNamed, momentOf, dateOf};
 
 // The total of octets used, 0 on refusal.
 #[repr(C)]
@@ -47,6 +48,13 @@ pub struct Tier {
     pub refusal: Refusal,
     pub none: u64,
     pub tier: u64,
+}
+
+// 1 for yes and 0 for no, 0 on refusal.
+#[repr(C)]
+pub struct Answer {
+    pub refusal: Refusal,
+    pub yes: u64,
 }
 
 // Subscript k of those lent, 0 past the last.
@@ -244,6 +252,30 @@ pub extern "C" fn bilashonge_tier_at(
         refusal,
         none: told.first,
         tier: told.second,
+    }
+}
+
+// Whether any season record with a real date stands at or before a date.
+#[no_mangle]
+pub extern "C" fn bilashonge_seasoned(
+    description: &[u8],
+    image: &[u8],
+    year: u32,
+    month: u32,
+    day: u32,
+) -> Answer
+    ensures { λ r. ⌜ r ≡ inAnswer (toldTo (ask.seasoned (dateOf year month day)) (now (description .entry)) (now (image .entry))) ⌝ }
+{
+    let date = Date {
+        year: year,
+        month: month,
+        day: day,
+    };
+    let told = replies::told(calendar::seasoned(description, image, date));
+    let refusal = told.refusal;
+    Answer {
+        refusal,
+        yes: told.first,
     }
 }
 

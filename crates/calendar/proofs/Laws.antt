@@ -1,6 +1,6 @@
 -- What the calendar comes to, case by case. Assumes nothing.
 use Prim.Native.Nat.{ℕ, _+_, _-_, _*_, _%_, _<_, _≤_}
-use mathlib.Core.Path.{_≡_, refl, sym, _∙_, ap}
+use mathlib.Core.Path.{_≡_, refl, sym, _∙_, ap, subst}
 use mathlib.Core.Bool.{Bool, true, false, cond, _||_}
 use mathlib.Core.List.{List}
 use mathlib.Core.Option.{Option, some, none}
@@ -9,6 +9,7 @@ use lib.ListN.{length, take, drop}
 use native.Mathlib.Omega.{arith}
 use native.Mathlib.Nat.{mul-le-mul}
 use borrow.Author.Tests.{leb-true, leb-false}
+use Rattle.offsets.specs.declared.ImageOffset.{ImageOffset}
 use Rattle.meaning.specs.Basics.{_=?_, _≤?_, part}
 use Rattle.meaning.specs.Layout.{Seat, dataOrder, tableNamed}
 use Rattle.meaning.specs.Refusals.{seatPlace, tablePlaceIn, tablePlaceReply}
@@ -18,10 +19,11 @@ use Rattle.meaning.specs.declared.Controls.{Controls}
 use Rattle.meaning.specs.declared.Moment.{Moment}
 use Rattle.meaning.specs.declared.Place.{Place}
 use Rattle.meaning.specs.declared.Quantity.{Quantity}
-use Rattle.meaning.specs.Calendar.{realTime, weekdayOf, datesAt, switchesAt, matrixAt, dayColumns, rowWidth, table54Size, latest, datesOf, dayColumn, columnOn, missingSpecial, switchesOf, tierFrom, tierBySchedule, Found, found, missing, sized, seatsFound, calendarIn, calendar}
+use Rattle.meaning.specs.Calendar.{realTime, weekdayOf, datesAt, switchesAt, matrixAt, dayColumns, rowWidth, table54Size, latest, datesOf, seasonOn, seasonStands, dayColumn, columnOn, missingSpecial, switchesOf, tierFrom, tierBySchedule, Found, found, missing, sized, seatsFound, calendarIn, calendar}
 use Rattle.meaning.proofs.Rules.{either-false}
 use Rattle.almanac.proofs.Tests.{both-true, cond-most}
 use Rattle.meaning.proofs.Either.{tested}
+use Rattle.almanac.proofs.Choices.{isEntry, stands-chosen}
 use Rattle.almanac.proofs.Matrix.{row-inside, days-most}
 use Rattle.records.specs.declared.Wanted.{Wanted}
 use Rattle.records.specs.Records.{broughtTo, latestIn}
@@ -30,7 +32,7 @@ use Rattle.laying.proofs.First.{table-00}
 use Rattle.laying.proofs.Opened.{Came, opens, refuses, came, opened-image}
 use Rattle.calendar.specs.declared.Calendar.{Calendar}
 use Rattle.calendar.specs.declared.Sections.{Sections}
-use Rattle.calendar.specs.Sections.{Small, sectionsOf, Sized, stood, HasCell}
+use Rattle.calendar.specs.Sections.{Small, sectionsOf, Sized, Stands, stood, HasCell}
 
 -- WHERE THE PARTS OF TABLE 54 STAND
 dates-most : (c : Controls) → datesAt c ≤ 2
@@ -74,6 +76,11 @@ by-places d img a b ea eb e f = rw (← e, ← f, ea, eb) (calendar-told d img (
 pub asked : {A : Type 0} (g : Found → A) (d img : List ℕ) (k : Calendar) → stood img k ≡ calendar d img → {x : Calendar} → k ≡ x
     → g (stood img x) ≡ g (calendar d img)
 asked g d img k s e = ap g (ap (stood img) (sym e) ∙ s)
+
+-- Table 54, as the part of the image where it was found, is of its size
+pub part-sized : (img : List ℕ) (k : Calendar) {c : Controls} {p : ImageOffset} {l : ℕ} {table : List ℕ} → Stands img k → k ≡ Calendar.At c p l → table ≡ part img (p .0) l
+    → Sized c table
+part-sized img k s e t = rw t (subst (Stands img) e s)
 
 -- THE COLUMN ON A DAY
 module _ (c : Controls) (day : ℕ) where
@@ -120,13 +127,19 @@ module _ (c : Controls) (t : List ℕ) (z : Sized c t) (s : Sections) (se : s �
       let n : s .matrix - s .switches ≡ 3 * c .switches = rw se (omega arith) in
       e ∙ rw (n, se) (latest-part o t (switchesAt c) (c .switches) w (omega (arith, z .long)))
 
+-- A SEASON RECORD THAT STANDS
+pub stands-is : (o : ℕ) (c : Controls) (t : List ℕ) (day : ℕ) (x : Chosen) → x ≡ latest (broughtTo (Wanted.Season day)) (datesOf o c t) → {y : Chosen} → x ≡ y
+    → isEntry y ≡ seasonStands day (datesOf o c t)
+unfolding seasonOn broughtTo
+stands-is o c t day x e h = ap isEntry (sym h ∙ e) ∙ stands-chosen day (datesOf o c t)
+
 -- THE TIER
 pub tier-is : (o : ℕ) (c : Controls) (t : List ℕ) (q : Quantity) (n m : ℕ) (x : Chosen)
     → x ≡ latest (broughtTo (Wanted.Switch (c .separate) q n m)) (switchesOf o c t) → {y : Chosen} → x ≡ y → tierFrom y ≡ tierBySchedule o c t q n m
 unfolding tierBySchedule broughtTo
 tier-is o c t q n m x e h = ap tierFrom (sym h ∙ e)
 
--- 17, 19: where neither row nor column is missing, there is a cell
+-- 19: where neither row nor column is missing, there is a cell
 pub has-place : (c : Controls) (t : List ℕ) (day s : ℕ) (x : Chosen) (a b : Bool) → Sized c t → a ≡ missingSpecial c x → b ≡ (c .seasons ≤? s || a) → b ≡ false
     → (column : ℕ) → column ≡ columnOn c day x → HasCell c t s column
 has-place c t day s x a b z ae be h column ce =

@@ -1,14 +1,15 @@
-// The calendar: which tier holds at a date and time, and the schedule matrix. The public calls stand
-// at the end.
+// The calendar: which tier holds at a date and time, whether a season record stands by a date, and
+// the schedule matrix. The public calls stand at the end.
 //
 // Any description, image, date and time get an answer. Refusals 1 to 9 come first, then 10, 20, 16,
-// 18, 17, 19. Tables 51 and 54 are read as octets, however the description divides them, and their
+// 18, 19. Tables 51 and 54 are read as octets, however the description divides them, and their
 // two-octet fields in the image's DATA_ORDER. Nothing is kept: each call lays the image out anew.
 use basics::either;
 use basics::wide;
 use dates::Day;
 use meaning::Chosen;
 use meaning::Controls;
+use meaning::Date;
 use meaning::Moment;
 use meaning::Place;
 use meaning::Quantity;
@@ -21,7 +22,8 @@ ghost use mathlib.Core.Path.{_≡_};
 ghost use lib.ListN.{length};
 ghost use Rattle.meaning.specs.Basics.{part};
 ghost use Rattle.meaning.specs.Layout.{dataOrder};
-ghost use Rattle.meaning.specs.Calendar.{controlsOf, datesAt, dayColumns, sized, calendar, dayColumn, columnOn, missingSpecial, cellAt, tierBySchedule, tierOn, tierDay, tierIn, found, tierReply, matrixOf, matrixReply, matrixVerdict, cellsAfter};
+ghost use Rattle.meaning.specs.Calendar.{controlsOf, datesAt, dayColumns, sized, calendar, dayColumn, columnOn, missingSpecial, cellAt, tierBySchedule, tierOn, tierDay, tierIn, found, tierReply, latest, datesOf, inSeason, seasonStands, seasonedIn, seasonedReply, matrixOf, matrixReply, matrixVerdict, cellsAfter};
+ghost use Rattle.records.specs.Records.{broughtTo};
 ghost use Rattle.calendar.specs.Sections.{Small, sectionsOf, Sized, Stands, stood, HasCell, HasRow, rowOf};
 
 // The columns of days: Sunday to Saturday; or Saturday, Sunday, weekday.
@@ -219,7 +221,7 @@ fn tier_at(
     }
 }
 
-// 17 and 19, by the special schedule and the season on the day.
+// 19, by the special schedule and the season on the day.
 fn tier_on(
     order: u32,
     controls: Controls,
@@ -228,22 +230,40 @@ fn tier_on(
     minute: u32,
     quantity: Quantity,
     special: Chosen,
-    season: Chosen,
+    season: usize,
 ) -> Reply
     requires { ⌜ Sized controls (now table) ⌝ }
     ensures { λ r. ⌜ r ≡ tierOn order controls (now (table .entry)) day minute quantity special season ⌝ }
 {
-    match season {
-        Chosen::Nothing => Reply::Refused(Refusal::NO_SEASON),
-        Chosen::Entry { when: _, brings } => {
-            let row = brings as usize;
-            if either(controls.seasons <= row, missing_special(controls, special)) {
-                return Reply::Refused(Refusal::NO_ROW_OR_COLUMN);
-            }
-            let column = column_on(controls, day, special);
-            let schedule = cell_at(controls, table, row, column);
-            tier_at(order, controls, table, quantity, schedule, minute)
-        }
+    if either(
+        controls.seasons <= season,
+        missing_special(controls, special),
+    ) {
+        return Reply::Refused(Refusal::NO_ROW_OR_COLUMN);
+    }
+    let column = column_on(controls, day, special);
+    let schedule = cell_at(controls, table, season, column);
+    tier_at(order, controls, table, quantity, schedule, minute)
+}
+
+// What the non-recurring dates bring.
+fn chosen_by(order: u32, controls: Controls, table: &[u8], wanted: Wanted) -> Chosen
+    requires { ⌜ Sized controls (now table) ⌝ }
+    ensures { λ r. ⌜ r ≡ latest (broughtTo wanted) (datesOf order controls (now (table .entry))) ⌝ }
+{
+    let sections = sections_of(controls);
+    let from = sections.dates;
+    let end = from + 3 * controls.dates;
+    records::latest(order, &table[from..end], wanted)
+}
+
+// The season that is chosen; season 0 on a day before every season record.
+fn in_season(chosen: Chosen) -> usize
+    ensures { λ r. ⌜ r ≡ inSeason chosen ⌝ }
+{
+    match chosen {
+        Chosen::Nothing => 0,
+        Chosen::Entry { when: _, brings } => brings as usize,
     }
 }
 
@@ -258,12 +278,8 @@ fn tier_day(
     requires { ⌜ Sized controls (now table) ⌝ }
     ensures { λ r. ⌜ r ≡ tierDay order controls (now (table .entry)) day minute quantity ⌝ }
 {
-    let sections = sections_of(controls);
-    let from = sections.dates;
-    let end = from + 3 * controls.dates;
-    let dates = &table[from..end];
-    let special = records::latest(order, dates, Wanted::Special { today: day });
-    let season = records::latest(order, dates, Wanted::Season { today: day });
+    let special = chosen_by(order, controls, table, Wanted::Special { today: day });
+    let season = chosen_by(order, controls, table, Wanted::Season { today: day });
     tier_on(
         order,
         controls,
@@ -272,7 +288,7 @@ fn tier_day(
         minute,
         quantity,
         special,
-        season,
+        in_season(season),
     )
 }
 
@@ -299,6 +315,36 @@ fn tier_in(
             }
             let minute = 60 * moment.hour + moment.minute;
             tier_day(order, controls, table, number, minute, quantity)
+        }
+    }
+}
+
+// THE SEASON RECORDS
+// Whether one stands at or before a day: then it, or a later one, is chosen.
+fn season_stands(order: u32, controls: Controls, table: &[u8], day: u32) -> bool
+    requires { ⌜ Sized controls (now table) ⌝ }
+    ensures { λ r. ⌜ r ≡ seasonStands day (datesOf order controls (now (table .entry))) ⌝ }
+{
+    let season = chosen_by(order, controls, table, Wanted::Season { today: day });
+    match season {
+        Chosen::Nothing => false,
+        Chosen::Entry { when: _, brings: _ } => true,
+    }
+}
+
+// 16 alone.
+fn seasoned_in(order: u32, controls: Controls, table: &[u8], date: Date) -> Reply
+    requires { ⌜ Sized controls (now table) ⌝ }
+    ensures { λ r. ⌜ r ≡ seasonedIn date (found order controls (now (table .entry))) ⌝ }
+{
+    let day = dates::day_of(date.year, date.month, date.day);
+    match day {
+        Day::NotReal => Reply::Refused(Refusal::NOT_A_DATE),
+        Day::Number(number) => {
+            if season_stands(order, controls, table, number) {
+                return Reply::Yes;
+            }
+            Reply::No
         }
     }
 }
@@ -354,6 +400,26 @@ pub fn tier(description: &[u8], image: &[u8], moment: Moment, quantity: Quantity
             octets::part(image, start, length),
             moment,
             quantity,
+        ),
+    }
+}
+
+// Whether any season record with a real date stands at or before a date.
+pub fn seasoned(description: &[u8], image: &[u8], date: Date) -> Reply
+    ensures { λ r. ⌜ r ≡ seasonedReply (now (description .entry)) (now (image .entry)) date ⌝ }
+{
+    let calendar = calendar_at(description, image);
+    match calendar {
+        Calendar::Refused(r) => Reply::Refused(r),
+        Calendar::At {
+            controls,
+            start,
+            length,
+        } => seasoned_in(
+            octets::data_order(image),
+            controls,
+            octets::part(image, start, length),
+            date,
         ),
     }
 }

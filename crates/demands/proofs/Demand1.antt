@@ -13,13 +13,13 @@ use Rattle.meaning.specs.Refusals.{toldBy, placePart, tablePartReply, elementPa
 use Rattle.meaning.specs.Calendar.{Found, found, missing, matrixIn, matrixReply, matrixVerdictIn, matrixVerdict, cellsAfter}
 use Rattle.meaning.specs.Questions as ask
 use Rattle.meaning.specs.Questions.{Question, refusalIn}
-use Rattle.demands.specs.Demand1.{ten, eleven, elevenNumber, twelve, thirteen, fourteen, fifteen, twenty, seventeenAndNineteen, sixteenToNineteen}
+use Rattle.demands.specs.Demand1.{ten, eleven, elevenNumber, twelve, thirteen, fourteen, fifteen, twenty, nineteen, sixteenToNineteen, sixteen}
 use Rattle.demands.specs.Demand1.{ofCalendar, ofMoment, refusalsOf, Numbered, Asked, NoOctets, Demand1}
 use Rattle.demands.specs.Replies.{ours, outcomeBy}
 use Rattle.laying.specs.Every.{Every}
 use Rattle.laying.proofs.Every.{every-append}
 use Rattle.demands.proofs.Demand2.{demand-2}
-use Rattle.demands.proofs.Known.{KnownIn, known-last, known-more, first-known, sound-known, layout-knows, after, one-known, four-known}
+use Rattle.demands.proofs.Known.{KnownIn, known-last, known-more, first-known, sound-known, layout-knows, after, one-known, three-known, four-known}
 use Rattle.demands.proofs.OnlyFirst.{verdict-refused}
 use Rattle.demands.proofs.FirstGiven.{first-given}
 use Rattle.demands.proofs.Rules.{check-in-words}
@@ -35,6 +35,8 @@ reply-numbered (Reply.At p n) h = refl
 reply-numbered (Reply.Number x) h = refl
 reply-numbered (Reply.Tier t) h = refl
 reply-numbered Reply.NoneYet h = refl
+reply-numbered Reply.Yes h = refl
+reply-numbered Reply.No h = refl
 
 -- EACH QUESTION: its refusals are document 01's, and where it is refused no octet changes
 record Kept (d img : List ℕ) (q : Question) : Type 0 where
@@ -43,10 +45,10 @@ record Kept (d img : List ℕ) (q : Question) : Type 0 where
 
 -- the tests behind 1 to 9
 unfoldable tests : Unit {0}
-unfolding ten eleven elevenNumber twelve thirteen fourteen fifteen twenty ofCalendar ofMoment sixteenToNineteen seventeenAndNineteen
+unfolding ten eleven elevenNumber twelve thirteen fourteen fifteen twenty ofCalendar ofMoment sixteenToNineteen sixteen nineteen
 tests = tt
 
--- one test, or four, behind 1 to 9; and the image as it was
+-- some tests behind 1 to 9; and the image as it was
 kept : (d img : List ℕ) (q : Question) → Kept d img q
 unfolding outcomeBy refusalsOf tests
 kept d img ask.check = record { known = known-more _ _ (sound-known d) known-last; unchanged = λ r e. refl }
@@ -73,10 +75,12 @@ kept d img (ask.writeNumber q x) =
     }
 kept d img (ask.tier w q) =
     record {
-      known = after d img _ (every-append KnownIn _ _ (four-known _ _ _ _ _ _ _ _ refl refl refl refl) (four-known _ _ _ _ _ _ _ _ refl refl refl refl));
+      known = after d img _ (every-append KnownIn _ _ (four-known _ _ _ _ _ _ _ _ refl refl refl refl) (three-known _ _ _ _ _ _ refl refl refl));
       unchanged = λ r e. refl;
     }
 kept d img ask.matrix = record { known = after d img _ (four-known _ _ _ _ _ _ _ _ refl refl refl refl); unchanged = λ r e. refl }
+kept d img (ask.seasoned t) =
+    record { known = after d img _ (every-append KnownIn _ _ (four-known _ _ _ _ _ _ _ _ refl refl refl refl) (one-known _ _ refl)); unchanged = λ r e. refl }
 
 -- THE REPLIES THAT ARE OCTETS
 part-none : (img : List ℕ) (x : Place) (r : Refusal) → x ≡ Place.Refused r → placePart img x ≡ []

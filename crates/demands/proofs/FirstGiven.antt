@@ -13,7 +13,9 @@ use Rattle.offsets.specs.declared.TableOffset.{TableOffset}
 use Rattle.meaning.specs.Basics.{if_then_else_, _=?_, _<?_, _≤?_}
 use Rattle.meaning.specs.declared.Chosen.{Chosen}
 use Rattle.meaning.specs.declared.Controls.{Controls}
+use Rattle.meaning.specs.declared.Date.{Date}
 use Rattle.meaning.specs.declared.ElementName.{ElementName}
+use Rattle.meaning.specs.declared.Reply.{Reply}
 use Rattle.meaning.specs.declared.Moment.{Moment}
 use Rattle.meaning.specs.declared.Quantity.{Quantity}
 use Rattle.meaning.specs.declared.Place.{Place}
@@ -26,15 +28,16 @@ use Rattle.meaning.specs.Refusals.{elementIn, placedPlace, elementPlaceIn, elem
 use Rattle.meaning.specs.Refusals.{writable, anyDimension, allowed, rangeOf, rangeIn, rangePlace, writeRangeReply, fitting, allowedAt, octetsPlaceIn}
 use Rattle.meaning.specs.Refusals.{writeOctetsReply, numberPlaceIn, writeNumberReply, tableAround}
 use Rattle.meaning.specs.Calendar.{Found, found, missing, realDate, realTime, controlsOf, table54Size, missingSpecial}
-use Rattle.meaning.specs.Calendar.{tierFrom, sized, seatOctets, seatsFound, calendarIn, calendar, tierOn, tierDay, tierIn, tierReply}
+use Rattle.meaning.specs.Calendar.{tierFrom, sized, seatOctets, seatsFound, calendarIn, calendar, tierOn, tierDay, tierIn, tierReply, seasonStands, seasonedIn, seasonedReply}
 use Rattle.meaning.specs.Calendar.{matrixVerdictIn, matrixVerdict}
-use Rattle.meaning.specs.Calendar.{tierBySchedule}
+use Rattle.meaning.specs.Calendar.{tierBySchedule, datesOf}
+use Rattle.meaning.proofs.Either.{tested}
 use Rattle.meaning.specs.Questions as ask
 use Rattle.meaning.specs.Questions.{Question, refusalIn}
 use Rattle.meaning.specs.Numbers.{imageShort, noTable, noElement, outsideTable, notWritable, holdsDimension, wrongSize, notADate, seasonChangeArmed, noRowOrColumn, notACalendar}
 use Rattle.laying.proofs.Opened.{Opens, opening, opened-image, total-laid, table-laid, where-laid}
 use Rattle.demands.specs.Demand1.{given, firstOf, eight, nineFrom, ten, eleven, elevenNumber, twelve, thirteen, tableItem, fourteen, fifteen}
-use Rattle.demands.specs.Demand1.{noneChosen, chosen, twenty, seventeenAndNineteen, sixteenToNineteen, ofCalendar, ofMoment, refusalsOf}
+use Rattle.demands.specs.Demand1.{twenty, nineteen, sixteenToNineteen, sixteen, ofCalendar, ofMoment, refusalsOf}
 use Rattle.demands.specs.Replies.{ours, outcomeBy}
 use Rattle.demands.specs.Walk.{octetBefore, runsPast, FirstPast}
 use Rattle.demands.proofs.Laid.{laid-facts, short-first}
@@ -173,31 +176,48 @@ unfolding refusalIn tierFrom
 tier-told Chosen.Nothing = refl
 tier-told (Chosen.Entry w b) = refl
 
--- 17 and 19
-season-first : (o : ℕ) (c : Controls) (t : List ℕ) (day m : ℕ) (q : Quantity) (x s : Chosen)
-    → refusalIn (tierOn o c t day m q x s) ≡ firstOf (seventeenAndNineteen c x s)
-unfolding refusalIn tierOn tierBySchedule seventeenAndNineteen firstOf given noneChosen chosen
-season-first o c t day m q x Chosen.Nothing = refl
-season-first o c t day m q x (Chosen.Entry w s) = test-first refusalIn (c .seasons ≤? s || missingSpecial c x) noRowOrColumn _ _ [] refl (tier-told _)
+-- 19
+season-first : (o : ℕ) (c : Controls) (t : List ℕ) (day m : ℕ) (q : Quantity) (x : Chosen) (s : ℕ) → refusalIn (tierOn o c t day m q x s) ≡ firstOf (nineteen c x s ∷ [])
+unfolding refusalIn tierOn tierBySchedule nineteen firstOf
+season-first o c t day m q x s = test-first refusalIn (c .seasons ≤? s || missingSpecial c x) noRowOrColumn _ _ [] refl (tier-told _)
 
--- 16, 18, then those
+-- 16, 18, then that
 moment-first : (o : ℕ) (c : Controls) (t : List ℕ) (w : Moment) (q : Quantity) → refusalIn (tierIn w q (found o c t)) ≡ firstOf (sixteenToNineteen o c t w)
 unfolding refusalIn tierIn tierDay sixteenToNineteen
 moment-first o c t w q =
     test-first refusalIn (not (realDate (w .year) (w .month) (w .day) && realTime (w .hour) (w .minute))) notADate _ _ _ refl
     (test-first refusalIn (c .armed) seasonChangeArmed _ _ _ refl (season-first o c t _ _ q _ _))
 
--- the calendar's refusal where there is one, else the moment's
+-- of a date without a time
+date-first : (o : ℕ) (c : Controls) (b : List ℕ) (t : Date) → refusalIn (seasonedIn t (found o c b)) ≡ firstOf (sixteen t)
+unfolding refusalIn seasonedIn sixteen
+date-first o c b t = test-first refusalIn (not (realDate (t .year) (t .month) (t .day))) notADate _ _ [] refl (unrefused (seasonStands _ (datesOf o c b)))
+  where
+    unrefused : (x : Bool) → refusalIn (if x then Reply.Yes else Reply.No) ≡ firstOf []
+    unrefused x = tested (λ r. refusalIn r ≡ firstOf []) x _ _ (λ e. none-given) (λ e. none-given)
+
+-- what is asked of a calendar that is found: the calendar's refusal where there is one, else the question's own
+module _ (img : List ℕ) (reply : Found → Reply) (absent : (r : Refusal) → refusalIn (reply (missing r)) ≡ some r) (rest : ℕ → Controls → List ℕ → List (Option Refusal))
+    (own : (o : ℕ) (c : Controls) (t : List ℕ) → refusalIn (reply (found o c t)) ≡ firstOf (rest o c t)) where
+  found-first : (a b c : Option Seat)
+      → refusalIn (reply (seatsFound img a b c)) ≡ firstOf (tenAndTwenty img a b c ++ rest (dataOrder img) (controlsOf (dataOrder img) (octetsOf img b)) (octetsOf img c))
+  unfolding seatsFound sized tenAndTwenty twenty octetsOf placePart seatPlace noSeat firstOf given
+  found-first none b c = absent noTable
+  found-first (some a) none c = absent noTable
+  found-first (some a) (some b) none = absent noTable
+  found-first (some a) (some b) (some c) =
+      let k = controlsOf (dataOrder img) (seatOctets img b) in
+      fails-first (λ f. refusalIn (reply f)) (length (seatOctets img b) =? 9 && length (seatOctets img c) =? table54Size k) notACalendar _ _
+      (rest (dataOrder img) k (seatOctets img c)) (absent notACalendar) (own (dataOrder img) k (seatOctets img c))
+
 tier-first : (img : List ℕ) (w : Moment) (q : Quantity) (a b c : Option Seat)
     → refusalIn (tierIn w q (seatsFound img a b c)) ≡ firstOf (tenAndTwenty img a b c ++ sixteenToNineteen (dataOrder img) (controlsOf (dataOrder img) (octetsOf img b)) (octetsOf img c) w)
-unfolding refusalIn tierIn seatsFound sized tenAndTwenty twenty octetsOf placePart seatPlace noSeat firstOf given
-tier-first img w q none b c = refl
-tier-first img w q (some a) none c = refl
-tier-first img w q (some a) (some b) none = refl
-tier-first img w q (some a) (some b) (some c) =
-    let k = controlsOf (dataOrder img) (seatOctets img b) in
-    fails-first (λ f. refusalIn (tierIn w q f)) (length (seatOctets img b) =? 9 && length (seatOctets img c) =? table54Size k) notACalendar _ _
-    (sixteenToNineteen (dataOrder img) k (seatOctets img c) w) refl (moment-first (dataOrder img) k (seatOctets img c) w q)
+unfolding refusalIn tierIn
+tier-first img w q = found-first img (tierIn w q) (λ r. refl) (λ o c t. sixteenToNineteen o c t w) (λ o c t. moment-first o c t w q)
+
+seasoned-first : (img : List ℕ) (t : Date) (a b c : Option Seat) → refusalIn (seasonedIn t (seatsFound img a b c)) ≡ firstOf (tenAndTwenty img a b c ++ sixteen t)
+unfolding refusalIn seasonedIn
+seasoned-first img t = found-first img (seasonedIn t) (λ r. refl) (λ o c b. sixteen t) (λ o c b. date-first o c b t)
 
 -- 9
 module _ (d img : List ℕ) where
@@ -229,7 +249,7 @@ FirstGiven d img q = refusalIn (outcomeBy ours q d img .reply) ≡ firstOf (refu
 
 -- the questions opened, up to what the image came to
 unfoldable asking : Unit {0}
-unfolding outcomeBy refusalsOf elementPlaceReply elementPlaceIn elementNumberReply tierReply matrixVerdict calendar calendarIn
+unfolding outcomeBy refusalsOf elementPlaceReply elementPlaceIn elementNumberReply tierReply seasonedReply matrixVerdict calendar calendarIn
 asking = tt
 
 unfoldable writing : Unit {0}
@@ -239,7 +259,7 @@ writing = tt
 -- one of 1 to 9 given: every question about an image gets it
 module _ (d img : List ℕ) (r : Refusal) (e : openImage d img ≡ refused r) (f : firstOf (refusalsOf ours ask.layout d img) ≡ some r) where
   refused-first : (q : Question) → FirstGiven d img q
-  unfolding asking writing firstOf refusalIn verdictReply placeReply layoutReply layoutIn tablePlaceReply tablePlaceIn integerPlace placeNumber placeVerdict tierIn matrixVerdictIn
+  unfolding asking writing firstOf refusalIn verdictReply placeReply layoutReply layoutIn tablePlaceReply tablePlaceIn integerPlace placeNumber placeVerdict tierIn seasonedIn matrixVerdictIn
   refused-first ask.check = sound-given (verdictRefusal (checkReply d))
   refused-first ask.layout = rw e (sym f)
   refused-first (ask.tablePlace m k) = rw e
@@ -252,6 +272,7 @@ module _ (d img : List ℕ) (r : Refusal) (e : openImage d img ≡ refused r) (f
   refused-first (ask.writeNumber q x) = rw e
   refused-first (ask.tier w q) = rw e
   refused-first ask.matrix = rw e
+  refused-first (ask.seasoned t) = rw e
 
 -- none of them given: the question's own tests
 module _ {d img : List ℕ} {ts : List Seat} {es : List Placed} {s : Slots} {n : ℕ} (o : Opens d img ts es s n) where
@@ -324,6 +345,10 @@ module _ {d img : List ℕ} {ts : List Seat} {es : List Placed} {s : Slots} {n :
   tier-opened w q =
       rw (behind-layout, calendar-is, part-is 0 51, part-is 0 54, opened-image o) (tier-first img w q (tableNamed 0 0 ts) (tableNamed 0 51 ts) (tableNamed 0 54 ts))
 
+  seasoned-opened : (t : Date) → FirstGiven d img (ask.seasoned t)
+  unfolding outcomeBy refusalsOf seasonedReply calendar calendarIn
+  seasoned-opened t = rw (behind-layout, calendar-is, opened-image o) (seasoned-first img t (tableNamed 0 0 ts) (tableNamed 0 51 ts) (tableNamed 0 54 ts))
+
   matrix-opened : FirstGiven d img ask.matrix
   unfolding outcomeBy refusalsOf matrixVerdict calendar calendarIn
   matrix-opened =
@@ -343,6 +368,7 @@ module _ {d img : List ℕ} {ts : List Seat} {es : List Placed} {s : Slots} {n :
   opened-first (ask.writeNumber q x) = integer-opened q x
   opened-first (ask.tier w q) = tier-opened w q
   opened-first ask.matrix = matrix-opened
+  opened-first (ask.seasoned t) = seasoned-opened t
 
 -- each case of opening the image, with what 1 to 9 then are
 pub first-given : (d img : List ℕ) (q : Question) → FirstGiven d img q

@@ -1,12 +1,11 @@
--- Of demand 1: every refusal that a question may get has one of document 01's numbers, 1 to 20, with the item and the octet that it reports. Assumes nothing.
+-- Of demand 1: every refusal that a question may get has one of document 01's numbers that is still given, with the item and the octet that it reports. Assumes nothing.
 use Prim.Native.Nat.{ℕ, zero, suc, _+_}
 use mathlib.Core.Path.{_≡_, refl, sym, ap, subst}
 use mathlib.Core.Logic.{inl, inr}
-use mathlib.Core.Bool.{Bool, true, false, _&&_, true≢false, and-eq-true-iff}
+use mathlib.Core.Bool.{Bool, true, false, true≢false}
 use mathlib.Core.List.{List, [], _∷_}
 use mathlib.Core.Option.{Option, some, none}
-use lib.Dec.{leb}
-use borrow.Author.Tests.{le-leb, leb-true}
+use borrow.Author.Tests.{le-leb, ne-eqb}
 use native.Mathlib.Omega.{arith}
 use Rattle.meaning.specs.declared.Refusal.{Refusal}
 use Rattle.meaning.specs.declared.Verdict.{Verdict}
@@ -16,7 +15,7 @@ use Rattle.meaning.proofs.Passed.{check-says}
 use Rattle.meaning.specs.Refusals.{verdictReply, layoutReply}
 use Rattle.meaning.specs.Questions as ask
 use Rattle.meaning.specs.Questions.{refusalIn}
-use Rattle.meaning.specs.Numbers.{reportsItem, lastNumber, numbered, imageShort}
+use Rattle.meaning.specs.Numbers.{reportsItem, isGiven, numbered, imageShort}
 use Rattle.meaning.proofs.Either.{tested}
 use Rattle.laying.specs.Every.{Every}
 use Rattle.demands.specs.Demand1.{given, firstOf, eight, nineFrom, refusalsOf, OnPaper}
@@ -26,13 +25,8 @@ use Rattle.demands.proofs.FirstGiven.{first-given}
 
 -- BY ITS NUMBER ON THE PAPER
 -- a number that reports nothing
-abbrev listed : ℕ → Bool
-listed n = leb 1 n && leb n lastNumber
-
-on-paper : (n : ℕ) → listed n ≡ true → OnPaper (numbered n)
-on-paper n h =
-    let both = and-eq-true-iff (leb 1 n) (leb n lastNumber) .0 h in
-    record { least = leb-true _ _ (both .0); most = leb-true _ _ (both .1); atItem = λ e. refl; atOctet = λ e. refl }
+on-paper : (n : ℕ) → isGiven n ≡ true → OnPaper (numbered n)
+on-paper n h = record { listed = h; atItem = λ e. refl; atOctet = λ e. refl }
 
 -- of a list
 unfoldable pub KnownIn : Option Refusal → Type 0
@@ -53,7 +47,7 @@ first-known [] h = tt
 first-known (none ∷ rs) h = first-known rs (h .1)
 first-known (some r ∷ rs) h = h .0
 
-given-known : (b : Bool) (n : ℕ) → listed n ≡ true → KnownIn (given b (numbered n))
+given-known : (b : Bool) (n : ℕ) → isGiven n ≡ true → KnownIn (given b (numbered n))
 unfolding given KnownIn
 given-known true n h = on-paper n h
 given-known false n h = tt
@@ -61,7 +55,11 @@ given-known false n h = tt
 rules-known : (r : Refusal) → OfRules r → OnPaper r
 rules-known r (inl e) = subst OnPaper (sym e) (on-paper 1 refl)
 rules-known r (inr (least, most, e)) =
-    record { least = omega arith; most = omega arith; atItem = λ f. absurd (clash f); atOctet = λ f. ap (λ (x : Refusal). x .octet) e }
+    record {
+      listed = rw (le-leb 1 (r .number) (omega arith), le-leb (r .number) 20 (omega arith), ne-eqb (r .number) 17 (λ e. omega arith));
+      atItem = λ f. absurd (clash f);
+      atOctet = λ f. ap (λ (x : Refusal). x .octet) e;
+    }
   where
     clash : reportsItem (r .number) ≡ false → ⊥
     clash f = true≢false (rw (le-leb 2 _ least, le-leb _ 7 most) at f)
@@ -75,7 +73,7 @@ sound-known d = go (checkReply d) refl
     go (Verdict.Refused r) e = rules-known r (check-says d .nothingElse r e)
 
 short-known : (i p : ℕ) → OnPaper (imageShort i p)
-short-known i p = record { least = omega arith; most = omega arith; atItem = λ e. absurd (true≢false e); atOctet = λ e. absurd (true≢false e) }
+short-known i p = record { listed = refl; atItem = λ e. absurd (true≢false e); atOctet = λ e. absurd (true≢false e) }
 
 nine-known : (d img : List ℕ) (n i : ℕ) → KnownIn (nineFrom d img n i)
 unfolding nineFrom KnownIn
@@ -96,11 +94,14 @@ layout-known d img = subst KnownIn (sym (first-given d img ask.layout)) (first-k
 pub after : (d img : List ℕ) (rest : List (Option Refusal)) → Every KnownIn rest → Every KnownIn (refusalIn (layoutReply d img) ∷ rest)
 after d img rest h = known-more _ _ (layout-known d img) h
 
-pub one-known : (b : Bool) (n : ℕ) → listed n ≡ true → Every KnownIn (given b (numbered n) ∷ [])
+pub one-known : (b : Bool) (n : ℕ) → isGiven n ≡ true → Every KnownIn (given b (numbered n) ∷ [])
 one-known b n h = known-more _ _ (given-known b n h) known-last
 
--- four tests
-pub four-known : (a b c d : Bool) (p q r s : ℕ) → listed p ≡ true → listed q ≡ true → listed r ≡ true → listed s ≡ true
+-- three tests, and four
+pub three-known : (a b c : Bool) (p q r : ℕ) → isGiven p ≡ true → isGiven q ≡ true → isGiven r ≡ true
+    → Every KnownIn (given a (numbered p) ∷ given b (numbered q) ∷ given c (numbered r) ∷ [])
+three-known a b c p q r h i j = known-more _ _ (given-known a p h) (known-more _ _ (given-known b q i) (one-known c r j))
+
+pub four-known : (a b c d : Bool) (p q r s : ℕ) → isGiven p ≡ true → isGiven q ≡ true → isGiven r ≡ true → isGiven s ≡ true
     → Every KnownIn (given a (numbered p) ∷ given b (numbered q) ∷ given c (numbered r) ∷ given d (numbered s) ∷ [])
-four-known a b c d p q r s h i j k =
-    known-more _ _ (given-known a p h) (known-more _ _ (given-known b q i) (known-more _ _ (given-known c r j) (one-known d s k)))
+four-known a b c d p q r s h i j k = known-more _ _ (given-known a p h) (three-known b c d q r s i j k)

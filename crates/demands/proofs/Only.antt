@@ -1,22 +1,25 @@
 -- THE DEMANDS ALONE DECIDE EVERY REPLY: any family that meets them is ours, in every reply and in all that is left in memory lent, for every description, image and question. So no wrong
--- answer meets them, and whoever believes the statements of specs/ has no need to read how a reply is made. Two facts about ours are used beside the demands: a name is read up to its
--- count, and a tier is answered by a tier or "none yet today". Assumes nothing but that both families meet the demands; proofs/Demands.antt has it of ours.
+-- answer meets them, and whoever believes the statements of specs/ has no need to read how a reply is made. Three facts about ours are used beside the demands: a name is read up to its
+-- count, a tier is answered by a tier or "none yet today", and whether a season record stands by yes or no. Assumes nothing but that both families meet the demands; proofs/Demands.antt has it of ours.
 use Prim.Native.Nat.{ℕ}
 use mathlib.Core.Path.{_≡_, refl}
 use mathlib.Core.List.{List}
 use borrow.Author.Tests.{le-leb}
 use Rattle.meaning.specs.declared.ElementName.{ElementName}
 use Rattle.meaning.specs.declared.Controls.{Controls}
+use Rattle.meaning.specs.declared.Date.{Date}
 use Rattle.meaning.specs.declared.Moment.{Moment}
 use Rattle.meaning.specs.declared.Quantity.{Quantity}
+use Rattle.meaning.specs.declared.Reply.{Reply}
 use Rattle.meaning.specs.Refusals.{Opened, opened, refused, openImage, elementIn, elementPlaceIn, elementPlaceReply}
-use Rattle.meaning.specs.Calendar.{Found, found, missing, calendar, tierIn, tierReply}
+use Rattle.meaning.specs.Calendar.{Found, found, missing, calendar, tierIn, tierReply, seasonedIn, seasonedReply}
 use Rattle.demands.specs.Demands.{Demands}
 use Rattle.demands.specs.Replies.{Replies, ours}
 use Rattle.demands.specs.Same.{Same}
-use Rattle.demands.proofs.Calendar.{OneOf, refusal, none, tier, answer}
+use Rattle.demands.proofs.Calendar.{OneOf, refusal, none, tier, answer, Stood, stood}
+use Rattle.demands.proofs.Calendar as reply
 use Rattle.demands.proofs.OnlyCalendar as kinds
-use Rattle.demands.proofs.OnlyCalendar.{TierKind, had-only, matrix-only, cells-only, tier-only}
+use Rattle.demands.proofs.OnlyCalendar.{TierKind, SeasonedKind, had-only, matrix-only, cells-only, tier-only, seasoned-only}
 use Rattle.demands.proofs.OnlyImages.{range-image-only, octets-image-only, number-image-only}
 use Rattle.demands.proofs.OnlyReads.{Counted, check-only, layout-only, table-only, table-part-only, element-only, element-part-only, number-only}
 use Rattle.demands.proofs.OnlyWrites.{range-only, octets-only, number-write-only}
@@ -43,6 +46,19 @@ tier-kind d img w q = go (calendar d img)
     go (missing r) = kinds.refused r refl
     go (found o c t) = kind o c t (answer o c t w q)
 
+seasoned-kind : (d img : List ℕ) (t : Date) → SeasonedKind (seasonedReply d img t)
+unfolding seasonedReply seasonedIn
+seasoned-kind d img t = go (calendar d img)
+  where
+    kind : (o : ℕ) (c : Controls) (b : List ℕ) (x : Reply) → Stood o c b t x → SeasonedKind x
+    kind o c b x (reply.unreal r e n) = kinds.barred r e
+    kind o c b x (reply.stands e dated s) = kinds.stands e
+    kind o c b x (reply.none-yet e dated s) = kinds.before e
+
+    go : (x : Found) → SeasonedKind (seasonedIn t x)
+    go (missing r) = kinds.barred r refl
+    go (found o c b) = kind o c b _ (stood o c b t)
+
 -- ANY FAMILY IS OURS
 pub only : (R : Replies) → Demands R → Demands ours → Same R ours
 only R r o =
@@ -68,4 +84,5 @@ only R r o =
       matrix = λ d img. matrix-only R ours r o d img (layout d img) (part d img);
       matrixVerdict = λ d img. had-only R ours r o d img (layout d img) (part d img);
       matrixCells = λ d img. cells-only R ours r o d img (layout d img) (part d img);
+      seasoned = λ d img t. seasoned-only R ours r o d img (layout d img) (part d img) t (seasoned-kind d img t);
     }

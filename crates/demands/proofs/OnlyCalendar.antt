@@ -1,5 +1,5 @@
--- THE DEMANDS DECIDE THE CALENDAR: two families R and S that meet them and read alike tell the same tier and the same matrix. Assumes of S besides that it answers with a tier or "none
--- yet today", if it isn't refused.
+-- THE DEMANDS DECIDE THE CALENDAR: two families R and S that meet them and read alike tell the same tier, the same matrix, and alike whether a season record stands. Assumes of S besides
+-- that it answers with a tier or "none yet today", with yes or no, if it isn't refused.
 use Prim.Native.Nat.{ℕ, _<_, _≤_}
 use mathlib.Core.Path.{_≡_, refl, sym, _∙_, ap}
 use mathlib.Core.Logic.{_⊎_, inl, inr}
@@ -8,6 +8,7 @@ use lib.ListN.{getD}
 use lib.Seq.{ext-getD}
 use native.Mathlib.Omega.{arith}
 use Rattle.meaning.specs.declared.Controls.{Controls}
+use Rattle.meaning.specs.declared.Date.{Date}
 use Rattle.meaning.specs.declared.Moment.{Moment}
 use Rattle.meaning.specs.declared.Quantity.{Quantity}
 use Rattle.meaning.specs.declared.Refusal.{Refusal}
@@ -20,7 +21,7 @@ use Rattle.meaning.specs.Questions as ask
 use Rattle.meaning.specs.Questions.{refusalIn}
 use Rattle.almanac.specs.Matrix.{cell, Fifteen, Shown}
 use Rattle.almanac.proofs.Tests.{lt-or-ge}
-use Rattle.demands.specs.Calendar.{TierSays, MatrixSays}
+use Rattle.demands.specs.Calendar.{TierSays, SeasonedSays, MatrixSays}
 use Rattle.demands.specs.Demand1.{ofCalendar, ofMoment, refusalsOf}
 use Rattle.demands.specs.Demands.{Demands}
 use Rattle.demands.specs.Replies.{Replies, outcomeBy}
@@ -56,6 +57,19 @@ tier-same o t u had w q x y h k e (refused r f) = reply-refused x r (e ∙ ap re
 tier-same o t u had w q x y h k e (told z f) = h .tier z .1 (k .tier z .0 f) ∙ sym f
 tier-same o t u had w q x y h k e (none f) = h .none .1 (k .none .0 f) ∙ sym f
 
+-- WHETHER A SEASON RECORD STANDS: one of these
+pub data SeasonedKind (x : Reply) : Type 0 where
+  barred : (r : Refusal) → x ≡ Reply.Refused r → SeasonedKind x
+  stands : x ≡ Reply.Yes → SeasonedKind x
+  before : x ≡ Reply.No → SeasonedKind x
+
+seasoned-same : (o : ℕ) (t u : List ℕ) (had : Verdict) (w : Date) (x y : Reply) → SeasonedSays o t u had w x → SeasonedSays o t u had w y
+    → refusalIn x ≡ refusalIn y → SeasonedKind y → x ≡ y
+unfolding refusalIn
+seasoned-same o t u had w x y h k e (barred r f) = reply-refused x r (e ∙ ap refusalIn f) ∙ sym f
+seasoned-same o t u had w x y h k e (stands f) = h .yes .1 (k .yes .0 f) ∙ sym f
+seasoned-same o t u had w x y h k e (before f) = h .no .1 (k .no .0 f) ∙ sym f
+
 module _ (R S : Replies) (r : Demands R) (s : Demands S) (d img : List ℕ) (layout : R .layout d img ≡ S .layout d img)
     (part : (m k : ℕ) → R .tablePart d img m k ≡ S .tablePart d img m k) where
   pub had-only : R .matrixVerdict d img ≡ S .matrixVerdict d img
@@ -89,3 +103,10 @@ module _ (R S : Replies) (r : Demands R) (s : Demands S) (d img : List ℕ) (lay
       tier-same (dataOrder img) (S .tablePart d img 0 51) (S .tablePart d img 0 54) (S .matrixVerdict d img) w q _ _
       (rw (← part 0 51, ← part 0 54, ← had-only) (r .second d img .calendar .tier w q)) (s .second d img .calendar .tier w q)
       (refusal-same R S r s d img (ask.tier w q) (rw (layout, part 0 51, part 0 54)))
+
+  pub seasoned-only : (t : Date) → SeasonedKind (S .seasoned d img t) → R .seasoned d img t ≡ S .seasoned d img t
+  unfolding outcomeBy refusalsOf ofCalendar
+  seasoned-only t =
+      seasoned-same (dataOrder img) (S .tablePart d img 0 51) (S .tablePart d img 0 54) (S .matrixVerdict d img) t _ _
+      (rw (← part 0 51, ← part 0 54, ← had-only) (r .second d img .calendar .seasoned t)) (s .second d img .calendar .seasoned t)
+      (refusal-same R S r s d img (ask.seasoned t) (rw (layout, part 0 51, part 0 54)))

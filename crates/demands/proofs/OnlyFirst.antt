@@ -35,6 +35,8 @@ reply-refused (reply.At p n) r e = clash (cc)
 reply-refused (reply.Number x) r e = clash (cc)
 reply-refused (reply.Tier t) r e = clash (cc)
 reply-refused reply.NoneYet r e = clash (cc)
+reply-refused reply.Yes r e = clash (cc)
+reply-refused reply.No r e = clash (cc)
 
 place-refused : (x : Place) (r : Refusal) → refusalIn (placeReply x) ≡ some r → x ≡ Place.Refused r
 unfolding refusalIn placeReply

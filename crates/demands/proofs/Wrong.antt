@@ -7,20 +7,22 @@ use lib.ListN.{length}
 use native.Mathlib.Omega.{arith}
 use Rattle.meaning.specs.Basics.{part}
 use Rattle.meaning.specs.declared.ElementName.{ElementName}
+use Rattle.meaning.specs.declared.Date.{Date}
+use Rattle.meaning.specs.declared.Moment.{Moment}
 use Rattle.meaning.specs.declared.Quantity.{Quantity}
 use Rattle.meaning.specs.declared.Reply.{Reply}
 use Rattle.meaning.specs.declared.Verdict.{Verdict}
 use Rattle.meaning.specs.Description.{checkReply, fieldsAt, isUint, isDimension}
-use Rattle.meaning.specs.Examples.{D, D-writable, first, second, at, offset, clock, clock-image, moment}
+use Rattle.meaning.specs.Examples.{D, D-writable, first, second, at, offset, clock, clock-image, moment, date}
 use Rattle.meaning.specs.Layout.{numberAt}
 use Rattle.meaning.specs.Refusals.{layoutReply, elementPlaceReply, placeStart, placeLength}
-use Rattle.meaning.specs.Calendar.{tierReply, matrixVerdict}
+use Rattle.meaning.specs.Calendar.{tierReply, seasonedReply, matrixVerdict}
 use Rattle.meaning.proofs.Computing.{computing}
 use Rattle.demands.specs.Demand3.{Passed, AllInside, ElementsStand, lengthIn}
 use Rattle.demands.specs.Replies.{Replies, ours, octetsAt, alone}
 use Rattle.demands.specs.Walk.{numbersIn, exists}
-use Rattle.demands.specs.Wrong.{TotalsOfD, WrongPrograms}
-use Rattle.demands.proofs.Calendar.{tier-says}
+use Rattle.demands.specs.Wrong.{TotalsOfD, CalendarRead, two-seasons, WrongPrograms}
+use Rattle.demands.proofs.Calendar.{tier-says, seasoned-says}
 use Rattle.demands.proofs.Demand3.{demand-3}
 use Rattle.demands.proofs.Names.{cause}
 use Rattle.meaning.proofs.Either.{clash}
@@ -61,6 +63,26 @@ half-past = refl
 clock-had : matrixVerdict (clock 12) clock-image ≡ Verdict.Passed
 unfolding computing
 clock-had = refl
+
+stands-not : seasonedReply (clock 12) clock-image (date 2023 12 31) ≡ Reply.No
+unfolding computing
+stands-not = refl
+
+stands-that-day : seasonedReply (clock 12) clock-image (date 2024 1 1) ≡ Reply.Yes
+unfolding computing
+stands-that-day = refl
+
+two-had : matrixVerdict (clock 15) two-seasons ≡ Verdict.Passed
+unfolding computing
+two-had = refl
+
+day-before : tierReply (clock 15) two-seasons (moment 2023 12 31 0 0) Quantity.Summations ≡ Reply.Tier 0
+unfolding computing
+day-before = refl
+
+that-day : tierReply (clock 15) two-seasons (moment 2024 1 1 0 0) Quantity.Summations ≡ Reply.Tier 2
+unfolding computing
+that-day = refl
 
 -- what isn't written reads as it was
 unwritten : part (part first 2 6) 0 2 ≡ 1 ∷ 2 ∷ [] → ⊥
@@ -110,6 +132,23 @@ D-stands = demand-3 D first .elementsStand 8 first-total
 number-is : exists D (numbersIn D first) (at 7 0) ≡ true
 number-is = is-there ours D first 8 D-stands (at 7 0) 4 2 number-there
 
+-- A CALENDAR READ ALIKE, which can be had, is answered as by us
+module _ (R : Replies) (d img : List ℕ) (had : matrixVerdict d img ≡ Verdict.Passed) (c : CalendarRead R d img) where
+  tier-alike : (w : Moment) (q : Quantity) (x : ℕ) → tierReply d img w q ≡ Reply.Tier x → R .tier d img w q ≡ Reply.Tier x
+  tier-alike w q x e =
+      let told = rw (c .table51, c .table54, c .had, ← had) at (c .tier w q) in
+      told .tier x .1 (tier-says d img w q .tier x .0 e)
+
+  yes-alike : (t : Date) → seasonedReply d img t ≡ Reply.Yes → R .seasoned d img t ≡ Reply.Yes
+  yes-alike t e =
+      let told = rw (c .table51, c .table54, c .had, ← had) at (c .seasoned t) in
+      told .yes .1 (seasoned-says d img t .yes .0 e)
+
+  no-alike : (t : Date) → seasonedReply d img t ≡ Reply.No → R .seasoned d img t ≡ Reply.No
+  no-alike t e =
+      let told = rw (c .table51, c .table54, c .had, ← had) at (c .seasoned t) in
+      told .no .1 (seasoned-says d img t .no .0 e)
+
 module _ (R : Replies) where
   totals : TotalsOfD R → (img : List ℕ) (n : ℕ) → length img ≤ 65535 → layoutReply D img ≡ Reply.Total n → R .layout D img ≡ Reply.Total n
   totals t img n l e = t .exactly img (record { passes = t .passes; allowed = l }) n .1 (laid img n l e)
@@ -146,12 +185,21 @@ module _ (R : Replies) where
             omega (arith, long, ours-long);
         alwaysEleven = λ w stand. let t = stand .there (at 7 0) number-is in let none = w .none D first (at 7 0) in clash (cc (t .1, none));
         alwaysZero = λ w c.
-            let is = tier-says (clock 12) clock-image (moment 2024 3 5 7 30) Quantity.Summations .tier 2 .0 half-past in
-            let told = rw (c .table51, c .table54, c .had, ← clock-had) at (c .tier (moment 2024 3 5 7 30) Quantity.Summations) in
-            let zero = w .zero (clock 12) clock-image (moment 2024 3 5 7 30) Quantity.Summations 2 (told .tier 2 .1 is) in
+            let told = tier-alike R (clock 12) clock-image clock-had c (moment 2024 3 5 7 30) Quantity.Summations 2 half-past in
+            let zero = w .zero (clock 12) clock-image (moment 2024 3 5 7 30) Quantity.Summations 2 told in
             omega arith;
         writesDimensions = λ w place there writes.
             let good = writes .accepted .0 (w .accepted) in
             let start : good .start ≡ 0 = place-start (good .start) 0 (good .size) 2 (sym (good .exists) ∙ place) in
             true≢false (sym dimension ∙ good .free 1 (omega (arith, start)) (omega (arith, start)) (alone 2) (record { start = 1; size = 1; reply = there; from = omega arith; to = omega arith }));
+        takesEarliest = λ w c.
+            let told = tier-alike R (clock 15) two-seasons two-had c (moment 2023 12 31 0 0) Quantity.Summations 0 day-before in
+            let wrong = w .tier Quantity.Summations in
+            let z : _≡_ {A = ℕ} 0 2 = cc (told, wrong) in omega arith;
+        firstRow = λ w c.
+            let told = tier-alike R (clock 15) two-seasons two-had c (moment 2024 1 1 0 0) Quantity.Summations 2 that-day in
+            let wrong = w .tier Quantity.Summations in
+            let z : _≡_ {A = ℕ} 2 0 = cc (told, wrong) in omega arith;
+        fromTheNextDay = λ w c. let told = yes-alike R (clock 12) clock-image clock-had c (date 2024 1 1) stands-that-day in let none = w .none in clash (cc (told, none));
+        neverNo = λ w c. w .yes (clock 12) clock-image (date 2023 12 31) (no-alike R (clock 12) clock-image clock-had c (date 2023 12 31) stands-not);
       }

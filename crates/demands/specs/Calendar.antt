@@ -1,4 +1,5 @@
--- THE CALENDAR over the octets of tables 51 and 54, in the words of document 01's section of that name: which record chooses what, up to the tier, and the matrix cell by cell.
+-- THE CALENDAR over the octets of tables 51 and 54, in the words of document 01's section of that name and of document 02's E1: which record chooses what, up to the tier, whether a season
+-- record stands, and the matrix cell by cell.
 -- What a table's octets say is read by `controlsOf`, `datesOf` and `switchesOf` (crate meaning, specs/Calendar), which record is chosen is said by crate almanac. proofs/Calendar.antt proves
 -- the statements of our replies, for every description and image. Assumes nothing.
 use Prim.Native.Nat.{ℕ, _+_, _*_, _<_}
@@ -7,6 +8,7 @@ use mathlib.Core.Bool.{true, false}
 use mathlib.Core.List.{List}
 use lib.ListN.{getD}
 use Rattle.meaning.specs.declared.Controls.{Controls}
+use Rattle.meaning.specs.declared.Date.{Date}
 use Rattle.meaning.specs.declared.Moment.{Moment}
 use Rattle.meaning.specs.declared.Quantity.{Quantity}
 use Rattle.meaning.specs.declared.Reply.{Reply}
@@ -15,7 +17,7 @@ use Rattle.meaning.specs.declared.Verdict.{Verdict}
 use Rattle.meaning.specs.Calendar.{realDate, realTime, dayNumber, weekdayOf, controlsOf, matrixAt, dayColumns, rowWidth, datesOf, switchesOf, dayColumn}
 use Rattle.meaning.specs.Passed.{Exactly}
 use Rattle.almanac.specs.Latest.{_among_}
-use Rattle.almanac.specs.Choices.{SeasonChosen, SelectsSpecial, SpecialChosen, Switches, SwitchChosen}
+use Rattle.almanac.specs.Choices.{SeasonChosen, SeasonStands, SelectsSpecial, SpecialChosen, Switches, SwitchChosen}
 use Rattle.almanac.specs.Matrix.{Fifteen, Shown}
 
 -- THE SCHEDULE ON A DAY, by what Table 51 says (c), the octets of Table 54 (t) and its dates
@@ -24,11 +26,15 @@ pub record ColumnOn (c : Controls) (day : ℕ) (dates : List Triple) (column : �
   pub special : (w k : ℕ) → SpecialChosen day dates w k → (k < c .specials) × (column ≡ dayColumns c + k)
   pub weekday : ((r : Triple) → r among dates → SelectsSpecial day r → ⊥) → column ≡ dayColumn c (weekdayOf day)
 
--- the schedule number is the matrix entry: in the row of the season chosen by that day, which has one, and that column
+-- the season: that of the record chosen by that day; season 0 where no season record stands at or before it
+pub record SeasonOn (day : ℕ) (dates : List Triple) (season : ℕ) : Type 0 where
+  pub chosen : (w s : ℕ) → SeasonChosen day dates w s → season ≡ s
+  pub before : (SeasonStands day dates → ⊥) → season ≡ 0
+
+-- the schedule number is the matrix entry: in the row of the season, which has one, and that column
 pub record ScheduleOn (c : Controls) (t : List ℕ) (day : ℕ) (dates : List Triple) (n : ℕ) : Type 0 where
-  pub from : ℕ
   pub season : ℕ
-  pub chosen : SeasonChosen day dates from season
+  pub inSeason : SeasonOn day dates season
   pub row : season < c .seasons
   pub column : ℕ
   pub is : ColumnOn c day dates column
@@ -66,6 +72,23 @@ module _ (o : ℕ) (c : Controls) (t : List ℕ) (had : Verdict) (w : Moment) (q
 -- by the octets of the two tables, in that DATA_ORDER; `had` is the reply to whether the matrix can be had
 abbrev pub TierSays : (order : ℕ) → (table51 table54 : List ℕ) → (had : Verdict) → Moment → Quantity → Reply → Type 0
 TierSays o a b had w q reply = TierAnswers o (controlsOf o a) b had w q reply
+
+-- DOES A SEASON RECORD STAND at or before a date, where a calendar can be had and the date is real: yes exactly where one does, no exactly where none does. A season change that is armed
+-- has no part in it, nor whether the season has a row
+pub record Dated (had : Verdict) (t : Date) : Type 0 where
+  pub calendar : had ≡ Verdict.Passed
+  pub date : realDate (t .year) (t .month) (t .day) ≡ true
+
+module _ (o : ℕ) (c : Controls) (b : List ℕ) (had : Verdict) (t : Date) where
+  abbrev Stands : Type 0
+  Stands = SeasonStands (dayNumber (t .year) (t .month) (t .day)) (datesOf o c b)
+
+  pub record SeasonedAnswers (reply : Reply) : Type 0 where
+    pub yes : Exactly (reply ≡ Reply.Yes) (Dated had t × Stands)
+    pub no : Exactly (reply ≡ Reply.No) (Dated had t × (Stands → ⊥))
+
+abbrev pub SeasonedSays : (order : ℕ) → (table51 table54 : List ℕ) → (had : Verdict) → Date → Reply → Type 0
+SeasonedSays o a b had t reply = SeasonedAnswers o (controlsOf o a) b had t reply
 
 -- THE MATRIX, over the same octets: fifteen rows of twenty-two, each cell Table 54's own, unused ones 0. Cells lent to be written hold it afterwards. On refusal see
 -- specs/Demand1

@@ -1,9 +1,9 @@
 -- DEMAND 1: "Any description, any image, any question gets an answer or one of document 01's numbered refusals, at the place stated there. A refused call changes
 -- no octet lent."
--- A question's refusals are a list here, in the order that document 01 states, each with the test by which it is given. The tests are made apart from one another, so the
+-- A question's refusals are a list here, in the order that documents 01 and 02 state, each with the test by which it is given. The tests are made apart from one another, so the
 -- list alone says which is given first. They look at the description (specs/Rules, specs/Walk), and at what the same family of replies R answers to simpler questions: every
 -- question about an image gets 1 to 9 where the layout does. proofs/Demand1.antt proves `Demand1` of our replies, for every description and image.
-use Prim.Native.Nat.{ℕ, zero, suc, _+_, _^_, _≤_, min, max}
+use Prim.Native.Nat.{ℕ, zero, suc, _+_, _^_, min, max}
 use mathlib.Core.Path.{_≡_}
 use mathlib.Core.Bool.{Bool, true, false, not, _&&_, _||_}
 use mathlib.Core.List.{List, [], _∷_, _++_}
@@ -12,6 +12,7 @@ use lib.ListN.{length, replicate}
 use Rattle.meaning.specs.Basics.{if_then_else_, _=?_, _<?_, _≤?_}
 use Rattle.meaning.specs.declared.Chosen.{Chosen}
 use Rattle.meaning.specs.declared.Controls.{Controls}
+use Rattle.meaning.specs.declared.Date.{Date}
 use Rattle.meaning.specs.declared.ElementName.{ElementName}
 use Rattle.meaning.specs.declared.Moment.{Moment}
 use Rattle.meaning.specs.declared.Place.{Place}
@@ -21,11 +22,11 @@ use Rattle.meaning.specs.declared.Verdict.{Verdict}
 use Rattle.meaning.specs.Description.{itemCount, fieldsAt, isUint, isDimension, isTableNamed, tableGiven}
 use Rattle.meaning.specs.Layout.{dataOrder}
 use Rattle.meaning.specs.Refusals.{refusedWith, toldBy, verdictReply, tableAround, writable, placeStart, placeLength}
-use Rattle.meaning.specs.Calendar.{realDate, realTime, dayNumber, controlsOf, table54Size, datesOf, seasonOn, specialOn, missingSpecial}
+use Rattle.meaning.specs.Calendar.{realDate, realTime, dayNumber, controlsOf, table54Size, datesOf, seasonOn, inSeason, specialOn, missingSpecial}
 use Rattle.meaning.specs.Questions as ask
 use Rattle.meaning.specs.Questions.{Question, refusalIn}
-use Rattle.meaning.specs.Numbers.{reportsItem, reportsOctet, lastNumber, nothingRefused, imageTooLong, imageShort, noTable, noElement, outsideTable}
-use Rattle.meaning.specs.Numbers.{notWritable, holdsDimension, wrongSize, notADate, noSeason, seasonChangeArmed, noRowOrColumn, notACalendar}
+use Rattle.meaning.specs.Numbers.{reportsItem, reportsOctet, isGiven, nothingRefused, imageTooLong, imageShort, noTable, noElement, outsideTable}
+use Rattle.meaning.specs.Numbers.{notWritable, holdsDimension, wrongSize, notADate, seasonChangeArmed, noRowOrColumn, notACalendar}
 use Rattle.demands.specs.Replies.{Replies, outcomeBy, alone}
 use Rattle.demands.specs.Rules.{CheckSays}
 use Rattle.demands.specs.Walk.{octetBefore, runsPast, numbersIn, exists}
@@ -103,31 +104,25 @@ twenty o a b = given (not (length a =? 9 && length b =? table54Size (controlsOf 
 unfoldable pub ofCalendar : Replies → (description image : List ℕ) → List (Option Refusal)
 ofCalendar R d img = ten d 0 0 ∷ ten d 0 51 ∷ ten d 0 54 ∷ twenty (dataOrder img) (R .tablePart d img 0 51) (R .tablePart d img 0 54) ∷ []
 
-unfoldable pub noneChosen : Chosen → Bool
-noneChosen Chosen.Nothing = true
-noneChosen (Chosen.Entry w s) = false
+-- 19: season or special schedule without a row or column
+unfoldable pub nineteen : Controls → (special : Chosen) → (season : ℕ) → Option Refusal
+nineteen c x s = given (c .seasons ≤? s || missingSpecial c x) noRowOrColumn
 
-unfoldable pub chosen : Chosen → ℕ
-chosen Chosen.Nothing = 0
-chosen (Chosen.Entry w s) = s
-
--- 17: no season chosen by that date; 19: season or special schedule without a row or column
-unfoldable pub seventeenAndNineteen : Controls → (special season : Chosen) → List (Option Refusal)
-seventeenAndNineteen c x s =
-    given (noneChosen s) noSeason ∷ given (c .seasons ≤? chosen s || missingSpecial c x) noRowOrColumn ∷ []
-
--- 16: not a real date or not a time; 18: SEASON_CHNG_ARMED_FLAG set; then those
+-- 16: not a real date or not a time; 18: SEASON_CHNG_ARMED_FLAG set; then that
 unfoldable pub sixteenToNineteen : (order : ℕ) → Controls → (table54 : List ℕ) → Moment → List (Option Refusal)
 sixteenToNineteen o c t w =
     given (not (realDate (w .year) (w .month) (w .day) && realTime (w .hour) (w .minute))) notADate
     ∷ given (c .armed) seasonChangeArmed
-    ∷ seventeenAndNineteen c
-    (specialOn (dayNumber (w .year) (w .month) (w .day)) (datesOf o c t))
-    (seasonOn (dayNumber (w .year) (w .month) (w .day)) (datesOf o c t))
+    ∷ nineteen c (specialOn (dayNumber (w .year) (w .month) (w .day)) (datesOf o c t)) (inSeason (seasonOn (dayNumber (w .year) (w .month) (w .day)) (datesOf o c t)))
+    ∷ []
 
 -- by the octets of the two tables
 unfoldable pub ofMoment : Replies → (description image : List ℕ) → Moment → List (Option Refusal)
 ofMoment R d img w = sixteenToNineteen (dataOrder img) (controlsOf (dataOrder img) (R .tablePart d img 0 51)) (R .tablePart d img 0 54) w
+
+-- of a date without a time, 16 alone
+unfoldable pub sixteen : Date → List (Option Refusal)
+sixteen t = given (not (realDate (t .year) (t .month) (t .day))) notADate ∷ []
 
 -- ORDER: EACH QUESTION'S REFUSALS
 unfoldable pub refusalsOf : Replies → Question → (description image : List ℕ) → List (Option Refusal)
@@ -161,12 +156,12 @@ refusalsOf R (ask.writeNumber q x) d img =
     ∷ []
 refusalsOf R (ask.tier w q) d img = refusalIn (R .layout d img) ∷ ofCalendar R d img ++ ofMoment R d img w
 refusalsOf R ask.matrix d img = refusalIn (R .layout d img) ∷ ofCalendar R d img
+refusalsOf R (ask.seasoned t) d img = refusalIn (R .layout d img) ∷ ofCalendar R d img ++ sixteen t
 
 -- AN ANSWER OR ONE OF THE NUMBERED REFUSALS: number, item and octet; then the answer's own values, 0 on refusal
 -- the numbers of the table; 2 to 7 report the item, 9 the item and octet, others nothing more
 pub record OnPaper (r : Refusal) : Type 0 where
-  pub least : 1 ≤ r .number
-  pub most : r .number ≤ lastNumber
+  pub listed : isGiven (r .number) ≡ true
   pub atItem : reportsItem (r .number) ≡ false → r .item ≡ 0
   pub atOctet : reportsOctet (r .number) ≡ false → r .octet ≡ 0
 

@@ -11,6 +11,7 @@ use mathlib.Core.List.{List}
 use lib.ListN.{length, getD}
 use Rattle.offsets.specs.declared.TableOffset.{TableOffset}
 use Rattle.meaning.specs.Basics.{part}
+use Rattle.meaning.specs.declared.Date.{Date}
 use Rattle.meaning.specs.declared.ElementName.{ElementName}
 use Rattle.meaning.specs.declared.Moment.{Moment}
 use Rattle.meaning.specs.declared.Quantity.{Quantity}
@@ -24,7 +25,7 @@ use Rattle.meaning.specs.Layout.{dataOrder, numberAt}
 use Rattle.meaning.specs.Refusals.{writable}
 use Rattle.almanac.specs.Choices.{SeasonSays, SpecialSays}
 use Rattle.almanac.specs.Days.{Days}
-use Rattle.demands.specs.Calendar.{TierSays, MatrixSays}
+use Rattle.demands.specs.Calendar.{TierSays, SeasonedSays, MatrixSays}
 use Rattle.demands.specs.Demand3.{Holds, InBody}
 use Rattle.demands.specs.Replies.{Replies, octetsAt}
 
@@ -113,12 +114,14 @@ pub record Reads (R : Replies) (d img : List ℕ) : Type 0 where
   pub number : (q : ElementName) (p n : ℕ) → R .elementPlace d img q ≡ octetsAt p n → isUint (fieldsAt d (q .item)) ≡ true
       → R .elementNumber d img q ≡ Reply.Number (numberAt img p n)
 
--- THE CALENDAR: the tier, by the octets of tables 51 and 54 as the tables' parts give them, and the matrix by the same; days and weekdays, and which record chooses season and special
--- schedule, by which refusals 17 and 19 go (crate almanac, specs/)
+-- THE CALENDAR: the tier, by the octets of tables 51 and 54 as the tables' parts give them, and whether a season record stands and the matrix by the same; days and weekdays, and which
+-- record chooses season and special schedule, by which refusal 19 goes (crate almanac, specs/)
 pub record Calendar (R : Replies) (d img : List ℕ) : Type 0 where
   pub tier : (w : Moment) (q : Quantity)
       → TierSays (dataOrder img) (R .tablePart d img 0 51) (R .tablePart d img 0 54) (R .matrixVerdict d img) w q (R .tier d img w q)
   pub matrix : MatrixSays (dataOrder img) (R .tablePart d img 0 51) (R .tablePart d img 0 54) (R .matrixVerdict d img) (R .matrix d img) (R .matrixCells d img)
+  pub seasoned : (t : Date)
+      → SeasonedSays (dataOrder img) (R .tablePart d img 0 51) (R .tablePart d img 0 54) (R .matrixVerdict d img) t (R .seasoned d img t)
   pub days : Days
   pub season : (day : ℕ) (dates : List Triple) → SeasonSays day dates
   pub special : (day : ℕ) (dates : List Triple) → SpecialSays day dates

@@ -1,8 +1,9 @@
--- A FAMILY OF REPLIES: what some program answers to each question of document 01 and leaves in the memory lent to it, whatever the program. The three demands are stated of any family;
+-- A FAMILY OF REPLIES: what some program answers to each question of documents 01 and 02 and leaves in the memory lent to it, whatever the program. The three demands are stated of any family;
 -- `ours` is the one that the public calls are proved to give (crate meaning, specs/Questions; docs/STATEMENTS.md has each call with its reply). Assumes nothing.
 use Prim.Native.Nat.{ℕ}
 use mathlib.Core.List.{List, [], _∷_, flatten}
 use Rattle.offsets.specs.declared.TableOffset.{TableOffset}
+use Rattle.meaning.specs.declared.Date.{Date}
 use Rattle.meaning.specs.declared.ElementName.{ElementName}
 use Rattle.meaning.specs.declared.Moment.{Moment}
 use Rattle.meaning.specs.declared.Place.{Place}
@@ -12,7 +13,7 @@ use Rattle.meaning.specs.declared.Verdict.{Verdict}
 use Rattle.meaning.specs.Description.{checkReply}
 use Rattle.meaning.specs.Refusals.{verdictReply, placeReply, layoutReply, tablePlaceReply, elementPlaceReply, tablePartReply, elementPartReply, elementNumberReply}
 use Rattle.meaning.specs.Refusals.{writeRangeReply, writeRangeImage, writeOctetsReply, writeOctetsImage, writeNumberReply, writeNumberImage}
-use Rattle.meaning.specs.Calendar.{tierReply, matrixReply, matrixVerdict, cellsAfter}
+use Rattle.meaning.specs.Calendar.{tierReply, seasonedReply, matrixReply, matrixVerdict, cellsAfter}
 use Rattle.meaning.specs.Questions as ask
 use Rattle.meaning.specs.Questions.{Question, Outcome, outcome}
 
@@ -35,6 +36,7 @@ pub record Replies : Type 0 where
   pub matrix : (description image : List ℕ) → List (List ℕ)
   pub matrixVerdict : (description image : List ℕ) → Verdict
   pub matrixCells : (description image : List ℕ) → (lent : List (List ℕ)) → List (List ℕ)
+  pub seasoned : (description image : List ℕ) → Date → Reply
 
 abbrev pub ours : Replies
 ours =
@@ -56,6 +58,7 @@ ours =
       matrix = matrixReply;
       matrixVerdict = matrixVerdict;
       matrixCells = λ d img lent. cellsAfter (matrixVerdict d img) (matrixReply d img) lent;
+      seasoned = seasonedReply;
     }
 
 -- WHAT A QUESTION COMES TO in a family: its reply, the octets that it tells, the image afterwards
@@ -72,6 +75,7 @@ outcomeBy R (ask.writeOctets q new) d img = outcome (verdictReply (R .writeOctet
 outcomeBy R (ask.writeNumber q x) d img = outcome (verdictReply (R .writeNumber d img q x)) [] (R .numberImage d img q x)
 outcomeBy R (ask.tier w q) d img = outcome (R .tier d img w q) [] img
 outcomeBy R ask.matrix d img = outcome (verdictReply (R .matrixVerdict d img)) (flatten (R .matrix d img)) img
+outcomeBy R (ask.seasoned t) d img = outcome (R .seasoned d img t) [] img
 
 -- A PLACE: n octets from octet p on
 abbrev pub octetsAt : (p n : ℕ) → Place

@@ -3,6 +3,7 @@ use Prim.Native.Nat.{ℕ}
 use mathlib.Core.Path.{_≡_}
 use mathlib.Core.List.{List}
 use Rattle.offsets.specs.declared.TableOffset.{TableOffset}
+use Rattle.meaning.specs.declared.Date.{Date}
 use Rattle.meaning.specs.declared.ElementName.{ElementName}
 use Rattle.meaning.specs.declared.Moment.{Moment}
 use Rattle.meaning.specs.declared.Quantity.{Quantity}
@@ -26,3 +27,4 @@ pub record Same (R S : Replies) : Type 0 where
   pub matrix : (d img : List ℕ) → R .matrix d img ≡ S .matrix d img
   pub matrixVerdict : (d img : List ℕ) → R .matrixVerdict d img ≡ S .matrixVerdict d img
   pub matrixCells : (d img : List ℕ) (lent : List (List ℕ)) → R .matrixCells d img lent ≡ S .matrixCells d img lent
+  pub seasoned : (d img : List ℕ) (t : Date) → R .seasoned d img t ≡ S .seasoned d img t

@@ -6,20 +6,28 @@ use mathlib.Core.Path.{_≡_}
 use mathlib.Core.List.{List, [], _∷_}
 use lib.ListN.{length}
 use Rattle.offsets.specs.declared.TableOffset.{TableOffset}
+use Rattle.meaning.specs.declared.Date.{Date}
 use Rattle.meaning.specs.declared.ElementName.{ElementName}
 use Rattle.meaning.specs.declared.Moment.{Moment}
 use Rattle.meaning.specs.declared.Place.{Place}
 use Rattle.meaning.specs.declared.Quantity.{Quantity}
 use Rattle.meaning.specs.declared.Reply.{Reply}
 use Rattle.meaning.specs.declared.Verdict.{Verdict}
-use Rattle.meaning.specs.Examples.{D, D-writable, first, at, offset, clock, clock-image}
+use Rattle.meaning.specs.Examples.{D, D-writable, first, at, offset, clock, clock-image, moment, date}
 use Rattle.meaning.specs.Numbers.{noElement}
 use Rattle.meaning.specs.Layout.{dataOrder}
 use Rattle.meaning.specs.Refusals.{tablePartReply}
-use Rattle.demands.specs.Calendar.{TierSays}
+use Rattle.demands.specs.Calendar.{TierSays, SeasonedSays}
 use Rattle.demands.specs.Demand2.{Reads, RangeWrites, OctetsWrites, NumberWrites}
 use Rattle.demands.specs.Demand3.{PassedExactly, Passed, TotalExactly, ElementsStand}
 use Rattle.demands.specs.Replies.{Replies, octetsAt, alone}
+
+-- a calendar of two seasons: from 1 January 2024 on season 1. Every day of season 0 has schedule 1, tier 0; every day of season 1 schedule 2, tier 2
+abbrev pub two-seasons : List ℕ
+two-seasons =
+    0x00
+    ∷ 0x00 ∷ 0x00 ∷ 0x02 ∷ 0x01 ∷ 0x00 ∷ 0x02 ∷ 0x00 ∷ 0x00 ∷ 0x00
+    ∷ 0x98 ∷ 0x08 ∷ 0x04 ∷ 0x00 ∷ 0x00 ∷ 0x01 ∷ 0x02 ∷ 0x00 ∷ 0x02 ∷ 0x01 ∷ 0x01 ∷ 0x01 ∷ 0x02 ∷ 0x02 ∷ 0x02 ∷ []
 
 module _ (R : Replies) where
   -- D is passed, and then the clause on totals holds over every image
@@ -62,20 +70,37 @@ module _ (R : Replies) where
   pub record AlwaysZero : Type 0 where
     pub zero : (d img : List ℕ) (w : Moment) (q : Quantity) (x : ℕ) → R .tier d img w q ≡ Reply.Tier x → x ≡ 0
 
-  -- the tables' octets are those of the example, and the calendar can be had
-  pub record ClockRead : Type 0 where
-    pub table51 : R .tablePart (clock 12) clock-image 0 51 ≡ tablePartReply (clock 12) clock-image 0 51
-    pub table54 : R .tablePart (clock 12) clock-image 0 54 ≡ tablePartReply (clock 12) clock-image 0 54
-    pub had : R .matrixVerdict (clock 12) clock-image ≡ Verdict.Passed
+  -- the tables' octets are those of a calendar, which can be had
+  pub record CalendarRead (d img : List ℕ) : Type 0 where
+    pub table51 : R .tablePart d img 0 51 ≡ tablePartReply d img 0 51
+    pub table54 : R .tablePart d img 0 54 ≡ tablePartReply d img 0 54
+    pub had : R .matrixVerdict d img ≡ Verdict.Passed
     pub tier : (w : Moment) (q : Quantity)
-        → TierSays (dataOrder clock-image) (R .tablePart (clock 12) clock-image 0 51) (R .tablePart (clock 12) clock-image 0 54) (R .matrixVerdict (clock 12) clock-image) w q
-        (R .tier (clock 12) clock-image w q)
+        → TierSays (dataOrder img) (R .tablePart d img 0 51) (R .tablePart d img 0 54) (R .matrixVerdict d img) w q (R .tier d img w q)
+    pub seasoned : (t : Date)
+        → SeasonedSays (dataOrder img) (R .tablePart d img 0 51) (R .tablePart d img 0 54) (R .matrixVerdict d img) t (R .seasoned d img t)
 
   -- 9. A WRITE THAT ASKS ONLY WHETHER THE TABLE IS WRITABLE, here Table 00 at its dimension of item 2, breaks "no dimension octet is touched"
   pub record WritesDimensions : Type 0 where
     pub accepted : R .writeRange D-writable first 0 0 (offset 1) (0 ∷ []) ≡ Verdict.Passed
 
--- ALL NINE
+  -- 10. THE EARLIEST RECORD'S SEASON on a day before every season record breaks "season 0 where no season record stands at or before the day"
+  pub record TakesEarliest : Type 0 where
+    pub tier : (q : Quantity) → R .tier (clock 15) two-seasons (moment 2023 12 31 0 0) q ≡ Reply.Tier 2
+
+  -- 11. THE FIRST ROW OF THE MATRIX, WHATEVER THE SEASON, breaks "the season is that of the record chosen by that day"
+  pub record FirstRow : Type 0 where
+    pub tier : (q : Quantity) → R .tier (clock 15) two-seasons (moment 2024 1 1 0 0) q ≡ Reply.Tier 0
+
+  -- 12. A RECORD THAT STANDS ONLY FROM THE DAY AFTER ITS DATE breaks "yes exactly where one stands at or before the date"
+  pub record FromTheNextDay : Type 0 where
+    pub none : R .seasoned (clock 12) clock-image (date 2024 1 1) ≡ Reply.No
+
+  -- 13. NEVER A NO breaks "no exactly where none stands"
+  pub record NeverNo : Type 0 where
+    pub yes : (d img : List ℕ) (t : Date) → R .seasoned d img t ≡ Reply.No → ⊥
+
+-- ALL OF THEM
 pub record WrongPrograms (R : Replies) : Type 0 where
   pub saysNo : SaysNo R → PassedExactly R D → ⊥
   pub oneLayout : OneLayout R → TotalsOfD R → ⊥
@@ -89,6 +114,10 @@ pub record WrongPrograms (R : Replies) : Type 0 where
   pub padded : Padded R → ElementsStand R D first 8 → ⊥
   pub stretched : Stretched R → ElementsStand R D first 8 → ⊥
   pub alwaysEleven : AlwaysEleven R → ElementsStand R D first 8 → ⊥
-  pub alwaysZero : AlwaysZero R → ClockRead R → ⊥
+  pub alwaysZero : AlwaysZero R → CalendarRead R (clock 12) clock-image → ⊥
   pub writesDimensions : WritesDimensions R → R .tablePlace D-writable first 0 0 ≡ octetsAt 0 2 → R .elementPlace D-writable first (alone 2) ≡ octetsAt 1 1
       → RangeWrites R D-writable first 0 0 (offset 1) (0 ∷ []) → ⊥
+  pub takesEarliest : TakesEarliest R → CalendarRead R (clock 15) two-seasons → ⊥
+  pub firstRow : FirstRow R → CalendarRead R (clock 15) two-seasons → ⊥
+  pub fromTheNextDay : FromTheNextDay R → CalendarRead R (clock 12) clock-image → ⊥
+  pub neverNo : NeverNo R → CalendarRead R (clock 12) clock-image → ⊥

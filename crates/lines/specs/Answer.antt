@@ -7,6 +7,7 @@ use mathlib.Core.Bool.{Bool, true, false, _&&_}
 use mathlib.Core.List.{List, [], _∷_, _++_, map}
 use lib.ListN.{length, getD, take, replicate}
 use Rattle.meaning.specs.Basics.{if_then_else_, _=?_, _<?_}
+use Rattle.meaning.specs.declared.Date.{Date}
 use Rattle.meaning.specs.declared.ElementName.{ElementName}
 use Rattle.meaning.specs.declared.Moment.{Moment}
 use Rattle.meaning.specs.Refusals.{toldNumbers}
@@ -84,11 +85,18 @@ valueLimits = replicate 7 18446744073709551615
 abbrev pub tierLimits : List ℕ
 tierLimits = replicate 5 4294967295 ++ 1 ∷ []
 
+-- `year month day`
+abbrev pub dateLimits : List ℕ
+dateLimits = replicate 3 4294967295
+
 unfoldable pub elementOf : List ℕ → ElementName
 elementOf n = record { item = getD n 0 0; count = getD n 1 0; subscripts = getD n 2 0 ∷ getD n 3 0 ∷ getD n 4 0 ∷ getD n 5 0 ∷ [] }
 
 unfoldable pub momentOf : List ℕ → Moment
 momentOf n = record { year = getD n 0 0; month = getD n 1 0; day = getD n 2 0; hour = getD n 3 0; minute = getD n 4 0 }
+
+unfoldable pub dateOf : List ℕ → Date
+dateOf n = record { year = getD n 0 0; month = getD n 1 0; day = getD n 2 0 }
 
 -- THE TABLE. A row: the question's name; the form of its lines and of its reply; what it asks, by its numbers and the octets of DATA
 pub record Row : Type 0 where
@@ -135,6 +143,7 @@ rows =
     ∷ row "writenumber" (form true valueLimits false refusal false true) (λ n new. ask.writeNumber (elementOf n) (getD n 6 0))
     ∷ row "tier" (form true tierLimits false (refusal + 2) false false) (λ n new. ask.tier (momentOf n) (quantityOf (getD n 5 0)))
     ∷ row "matrix" (form true [] false refusal true false) (λ n new. ask.matrix)
+    ∷ row "seasoned" (form true dateLimits false (refusal + 1) false false) (λ n new. ask.seasoned (dateOf n))
     ∷ []
 
 -- the row of a name, by its place in the table; how many rows there are where it is none of them

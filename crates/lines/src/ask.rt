@@ -73,6 +73,9 @@ pub fn ask(kind: usize, d: &[u8], m: &mut [u8], numbers: [u64; 7], given: &[u8])
     if kind == rows::MATRIX {
         return replies::verdict_told(calendar::matrix_verdict(d, m));
     }
+    if kind == rows::SEASONED {
+        return replies::told(calendar::seasoned(d, m, read::date(numbers)));
+    }
     nothing_told()
 }
 

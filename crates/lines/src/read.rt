@@ -1,5 +1,6 @@
 // What a line asks: the octets of D, M and DATA, the numbers, and what numbers name.
 use crate::rows::Form;
+use meaning::Date;
 use meaning::ElementName;
 use meaning::Moment;
 use words::Number;
@@ -9,7 +10,7 @@ ghost use mathlib.Core.Path.{_≡_};
 ghost use Prim.Native.Nat.{ℕ, _≤_};
 ghost use lib.ListN.{length, getD, take};
 ghost use Rattle.words.specs.Line.{lineWords, splitOf};
-ghost use Rattle.lines.specs.Answer.{nth, wordIf, elementOf, momentOf, tierLimits};
+ghost use Rattle.lines.specs.Answer.{nth, wordIf, elementOf, momentOf, tierLimits, dateOf, dateLimits};
 ghost use Rattle.lines.specs.Read.{OfSeven, NumbersRead, PartRead, AskedRead};
 
 // Numbers: whether each is one, and what they come to; 0 behind the last.
@@ -160,5 +161,17 @@ pub fn moment(n: [u64; 7]) -> Moment
         day: n[2] as u32,
         hour: n[3] as u32,
         minute: n[4] as u32,
+    }
+}
+
+// A date by its numbers, each within its limit.
+pub fn date(n: [u64; 7]) -> Date
+    requires { ⌜ ((i : ℕ) → getD n i 0 ≤ getD dateLimits i 0) ⌝ }
+    ensures { λ r. ⌜ r ≡ dateOf n ⌝ }
+{
+    Date {
+        year: n[0] as u32,
+        month: n[1] as u32,
+        day: n[2] as u32,
     }
 }

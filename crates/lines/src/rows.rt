@@ -29,7 +29,9 @@ pub const TIER: usize = 10;
 
 pub const MATRIX: usize = 11;
 
-pub const ROWS: usize = 12;
+pub const SEASONED: usize = 12;
+
+pub const ROWS: usize = 13;
 
 // The form of a line: how many words it has; whether M is there, behind the name and D; how many
 // numbers stand behind M, and the most that each may come to; whether DATA stands last. And its
@@ -45,8 +47,8 @@ pub struct Form {
     pub after: bool,
 }
 
-// What the numbers may come to: mfr 1 and num 65,535; the five of a moment 2^32 - 1 and what 1; an
-// offset, the six numbers of an element and a value are not limited.
+// What the numbers may come to: mfr 1 and num 65,535; the five of a moment and the three of a date
+// 2^32 - 1, and what 1; an offset, the six numbers of an element and a value are not limited.
 const NONE: [u64; 7] = [0; 7];
 
 const TABLE_MOST: [u64; 7] = [1, 65535, 0, 0, 0, 0, 0];
@@ -75,13 +77,15 @@ const TIER_MOST: [u64; 7] = [
     0,
 ];
 
+const DATE_MOST: [u64; 7] = [4294967295, 4294967295, 4294967295, 0, 0, 0, 0];
+
 // Which row a name is of; ROWS where it is of none.
 pub fn kind_of(name: &[u8]) -> usize
     ensures { λ r. ⌜ r ≡ kindOf (now (name .entry)) ⌝ }
 {
     words::index_of(
         name,
-        b"check layout table tablepart where octets number writerange writeoctets writenumber tier matrix",
+        b"check layout table tablepart where octets number writerange writeoctets writenumber tier matrix seasoned",
     )
 }
 
@@ -110,6 +114,7 @@ const TABLE_ROWS: [Row; ROWS] = [
     Row(10, true, 7, VALUE_MOST, false, REFUSAL, false, true),
     Row(9, true, 6, TIER_MOST, false, TWO_MORE, false, false),
     Row(3, true, 0, NONE, false, REFUSAL, true, false),
+    Row(6, true, 3, DATE_MOST, false, ONE_MORE, false, false),
 ];
 
 // The form of the lines that ask the question of a row, and its reply.

@@ -26,5 +26,5 @@ starred =
       unset = refl;
       half-past = λ q. refl;
       minute-less = λ q. refl;
-      no-season = λ q. refl;
+      before-first = λ q. refl;
     }

@@ -1,4 +1,4 @@
--- THE CALENDAR: the section of that name in document 01. Dates and weekdays; tables 51 and 54; season, special schedule, schedule and tier; the matrix.
+-- THE CALENDAR: the section of that name in document 01, and E1 of document 02. Dates and weekdays; tables 51 and 54; season, special schedule, schedule and tier; the matrix.
 -- A table is here the list of its octets, however the description divides it. Assumes nothing.
 use Prim.Native.Nat.{ℕ, zero, suc, _+_, _-_, _*_, _%_}
 use mathlib.Core.Bool.{Bool, false, not, _&&_, _||_}
@@ -9,6 +9,7 @@ use Rattle.meaning.specs.Basics.{if_then_else_, _=?_, _<?_, _≤?_, bits
 use Rattle.meaning.specs.declared.Chosen.{Chosen}
 use Rattle.meaning.specs.declared.Chosen.the-variants.{Nothing, Entry}
 use Rattle.meaning.specs.declared.Controls.{Controls}
+use Rattle.meaning.specs.declared.Date.{Date}
 use Rattle.meaning.specs.declared.Moment.{Moment}
 use Rattle.meaning.specs.declared.Quantity.{Quantity}
 use Rattle.meaning.specs.declared.Refusal.{Refusal}
@@ -17,7 +18,7 @@ use Rattle.meaning.specs.declared.Reply.{Reply}
 use Rattle.meaning.specs.declared.Triple.{Triple}
 use Rattle.meaning.specs.Layout.{Seat, dataOrder, tableNamed}
 use Rattle.meaning.specs.Refusals.{Opened, opened, refused, openImage}
-use Rattle.meaning.specs.Numbers.{noTable, notADate, noSeason, seasonChangeArmed, noRowOrColumn, notACalendar}
+use Rattle.meaning.specs.Numbers.{noTable, notADate, seasonChangeArmed, noRowOrColumn, notACalendar}
 
 -- DATES
 -- Gregorian: every fourth year, but of the hundreds only every fourth
@@ -133,9 +134,12 @@ recordDay r = dayNumber (yearOf (bits 6 0 (r .word))) (bits 10 7 (r .word)) (bit
 unfoldable pub action : Triple → ℕ
 action r = bits 4 0 (r .octet)
 
--- 3 to 18 select season 0 to 15; one not after the day. Records without a real date are skipped
+-- a season record with a real date that stands at or before the day. 3 to 18 select season 0 to 15; records without a real date are skipped
+unfoldable pub selectsSeason : (day : ℕ) → Triple → Bool
+selectsSeason day r = recordReal r && recordDay r ≤? day && 3 ≤? action r && action r ≤? 18
+
 unfoldable pub seasonEntry : (day : ℕ) → Triple → Chosen
-seasonEntry day r = entryIf (recordReal r && recordDay r ≤? day && 3 ≤? action r && action r ≤? 18) (recordDay r) (action r - 3)
+seasonEntry day r = entryIf (selectsSeason day r) (recordDay r) (action r - 3)
 
 -- 19 to 30 select special schedule 0 to 11; it holds for its own date only
 unfoldable pub specialEntry : (day : ℕ) → Triple → Chosen
@@ -148,6 +152,16 @@ datesOf o c t = triples o t (datesAt c) (c .dates)
 -- the season on a day: the season action with the latest date not after it; of equal dates, the later record
 unfoldable pub seasonOn : (day : ℕ) → List Triple → Chosen
 seasonOn day dates = latest (seasonEntry day) dates
+
+-- document 02, E1: a day before every season record is in season 0
+unfoldable pub inSeason : Chosen → ℕ
+inSeason Nothing = 0
+inSeason (Entry w s) = s
+
+-- and whether any season record with a real date stands at or before the day
+unfoldable pub seasonStands : (day : ℕ) → List Triple → Bool
+seasonStands day [] = false
+seasonStands day (r ∷ rs) = selectsSeason day r || seasonStands day rs
 
 -- the special schedule on a day: the later record wins
 unfoldable pub specialOn : (day : ℕ) → List Triple → Chosen
@@ -229,17 +243,15 @@ calendarIn img (refused r) = missing r
 unfoldable pub calendar : (description image : List ℕ) → Found
 calendar d img = calendarIn img (openImage d img)
 
--- THE TIER AT A DATE AND TIME: after 1 to 10 and 20 come 16, 18, 17, 19
--- 19: season or special schedule without a row or column
-unfoldable pub tierOn : (order : ℕ) → Controls → (table54 : List ℕ) → (day minute : ℕ) → Quantity → (special season : Chosen) → Reply
-tierOn o c t day m q x Nothing = Reply.Refused noSeason
-tierOn o c t day m q x (Entry w s) =
+-- THE TIER AT A DATE AND TIME: after 1 to 10 and 20 come 16, 18, 19
+-- 19: season or special schedule without a row or column; so too season 0 where there are no seasons
+unfoldable pub tierOn : (order : ℕ) → Controls → (table54 : List ℕ) → (day minute : ℕ) → Quantity → (special : Chosen) → (season : ℕ) → Reply
+tierOn o c t day m q x s =
     if c .seasons ≤? s || missingSpecial c x then Reply.Refused noRowOrColumn
     else tierBySchedule o c t q (cellAt c t s (columnOn c day x)) m
 
--- 17: no season chosen by that date
 unfoldable pub tierDay : (order : ℕ) → Controls → (table54 : List ℕ) → (day minute : ℕ) → Quantity → Reply
-tierDay o c t day m q = tierOn o c t day m q (specialOn day (datesOf o c t)) (seasonOn day (datesOf o c t))
+tierDay o c t day m q = tierOn o c t day m q (specialOn day (datesOf o c t)) (inSeason (seasonOn day (datesOf o c t)))
 
 -- 16: not a real date, or not a time; 18: SEASON_CHNG_ARMED_FLAG set
 unfoldable pub tierIn : Moment → Quantity → Found → Reply
@@ -251,6 +263,17 @@ tierIn w q (found o c t) =
 
 unfoldable pub tierReply : (description image : List ℕ) → Moment → Quantity → Reply
 tierReply d img w q = tierIn w q (calendar d img)
+
+-- DOES ANY SEASON RECORD STAND AT OR BEFORE A DATE (document 02, E1): after 1 to 10 and 20 comes 16 alone
+unfoldable pub seasonedIn : Date → Found → Reply
+seasonedIn t (missing r) = Reply.Refused r
+seasonedIn t (found o c b) =
+    if not (realDate (t .year) (t .month) (t .day)) then Reply.Refused notADate
+    else if seasonStands (dayNumber (t .year) (t .month) (t .day)) (datesOf o c b) then Reply.Yes
+    else Reply.No
+
+unfoldable pub seasonedReply : (description image : List ℕ) → Date → Reply
+seasonedReply d img t = seasonedIn t (calendar d img)
 
 -- THE MATRIX: fifteen rows of twenty-two; cells stand as in Table 54's rows, unused ones are 0
 unfoldable pub matrixCell : Controls → (table54 : List ℕ) → (row column : ℕ) → ℕ

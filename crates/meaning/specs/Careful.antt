@@ -8,8 +8,8 @@ use Rattle.meaning.specs.declared.ElementName.{ElementName}
 use Rattle.meaning.specs.declared.Quantity.{Quantity}
 use Rattle.meaning.specs.Description.{checkReply}
 use Rattle.meaning.specs.Refusals.{numbersOf, verdictReply, placeReply, layoutReply, tablePlaceReply, elementPlaceReply, elementNumberReply, tablePartReply, elementPartReply, writeRangeReply, writeRangeImage, writeOctetsReply, writeOctetsImage, writeNumberReply, writeNumberImage}
-use Rattle.meaning.specs.Calendar.{tierReply, matrixReply, matrixVerdict, weekdayOf, dayNumber}
-use Rattle.meaning.specs.Examples.{items, plain, at, offset, gives, refusal, clock, clock-image, moment}
+use Rattle.meaning.specs.Calendar.{tierReply, seasonedReply, matrixReply, matrixVerdict, weekdayOf, dayNumber}
+use Rattle.meaning.specs.Examples.{items, plain, at, offset, gives, refusal, clock, clock-image, moment, date}
 
 -- THE RULES
 abbrev pub broken : (rule item : ℕ) → List ℕ
@@ -212,9 +212,25 @@ record-image low high action =
     ∷ 0x00 ∷ 0x00 ∷ 0x01 ∷ 0x01 ∷ 0x00 ∷ 0x02 ∷ 0x00 ∷ 0x00 ∷ 0x00
     ∷ low ∷ high ∷ action ∷ 0x00 ∷ 0x00 ∷ 0x01 ∷ 0xC2 ∷ 0x3B ∷ 0x01 ∷ 0x01 ∷ 0x01 ∷ 0x01 ∷ []
 
--- what it says of a day at 07:30
+-- what it says of a day at 07:30, and whether a season record stands by that day
 abbrev pub by-record : (low high action : ℕ) → (year month day : ℕ) → List ℕ
 by-record low high action y m d = numbersOf 5 (tierReply (clock 12) (record-image low high action) (moment y m d 7 30) Quantity.Summations)
+
+abbrev pub stands : (low high action : ℕ) → (year month day : ℕ) → List ℕ
+stands low high action y m d = numbersOf 4 (seasonedReply (clock 12) (record-image low high action) (date y m d))
+
+abbrev pub yes : List ℕ
+yes = gives (1 ∷ [])
+
+abbrev pub no : List ℕ
+no = gives (0 ∷ [])
+
+-- a new meter: the starred calendar without its record, and with so many seasons as there are rows of three schedules
+abbrev pub new-image : (seasons : ℕ) → (rows : List ℕ) → List ℕ
+new-image seasons rows =
+    0x00
+    ∷ 0x00 ∷ 0x00 ∷ seasons ∷ 0x00 ∷ 0x00 ∷ 0x02 ∷ 0x00 ∷ 0x00 ∷ 0x00
+    ∷ 0x00 ∷ 0x00 ∷ 0x01 ∷ 0xC2 ∷ 0x3B ∷ 0x01 ∷ rows
 
 -- the starred calendar with a second record, of 5 March 2024, and what it says of that day
 abbrev pub by-second : (action : ℕ) → List ℕ
@@ -253,7 +269,8 @@ pub record CalendarCareful : Type 0 where
   pub notice : year-tier Quantity.Summations 2024 5 31 12 0 ≡ tier 5
   -- years 90 to 99 are 1990 on
   pub season-1995 : year-tier Quantity.Summations 1995 1 2 12 0 ≡ tier 5
-  pub before-1995 : year-tier Quantity.Summations 1994 12 31 12 0 ≡ no-tier 17
+  -- the day before, a Saturday, is before every season record: season 0, whose Saturdays have schedule 9, where season 1's have schedule 1 and no switch
+  pub before-1995 : year-tier Quantity.Summations 1994 12 31 12 0 ≡ tier 5
   -- 16: not a real date or time; leap years
   pub leap-day : year-tier Quantity.Summations 2024 2 29 12 0 ≡ tier 5
   pub no-leap-day : year-tier Quantity.Summations 2023 2 29 12 0 ≡ no-tier 16
@@ -265,21 +282,35 @@ pub record CalendarCareful : Type 0 where
   pub year-2090 : year-tier Quantity.Summations 2090 1 1 12 0 ≡ no-tier 16
   pub hour-24 : year-tier Quantity.Summations 2024 6 3 24 0 ≡ no-tier 16
   pub minute-60 : year-tier Quantity.Summations 2024 6 3 8 60 ≡ no-tier 16
-  -- 18, before 17
+  -- 18, on a day before every season record too
   pub armed : numbersOf 5 (tierReply (clock 48) (year-image 0x28) (moment 1990 1 1 0 0) Quantity.Summations) ≡ no-tier 18
-  -- years 89, 90, 99 and 100 of a DATE; 29 February 2025
-  pub year-89 : by-record 0xD9 0x08 3 2089 1 1 ≡ tier 2
-  pub before-89 : by-record 0xD9 0x08 3 2088 12 31 ≡ no-tier 17
-  pub year-90 : by-record 0xDA 0x08 3 1990 1 1 ≡ tier 2
-  pub year-99 : by-record 0xE3 0x08 3 1999 1 1 ≡ tier 2
-  pub year-100 : by-record 0xE4 0x08 3 2089 12 31 ≡ no-tier 17
-  pub unreal : by-record 0x19 0xE9 3 2026 1 1 ≡ no-tier 17
-  -- actions: bit 5 is none of it; 2 and 19 select no season; 4 and 18 select seasons 1 and 15, without a row
-  pub action-bit-5 : by-record 0x98 0x08 0x23 2024 3 5 ≡ tier 2
-  pub action-2 : by-record 0x98 0x08 2 2024 3 5 ≡ no-tier 17
+  -- a season record stands by its own day, and not before. Years 89, 90, 99 and 100 of a DATE; 29 February 2025
+  pub year-89 : stands 0xD9 0x08 3 2089 1 1 ≡ yes
+  pub before-89 : stands 0xD9 0x08 3 2088 12 31 ≡ no
+  pub year-90 : stands 0xDA 0x08 3 1990 1 1 ≡ yes
+  pub year-99 : stands 0xE3 0x08 3 1999 1 1 ≡ yes
+  pub before-99 : stands 0xE3 0x08 3 1998 12 31 ≡ no
+  pub year-100 : stands 0xE4 0x08 3 2089 12 31 ≡ no
+  pub unreal : stands 0x19 0xE9 3 2026 1 1 ≡ no
+  -- actions: bit 5 is none of it; 2 and 19 select no season; 4 and 18 select seasons 1 and 15, which stand though they have no row
+  pub action-bit-5 : stands 0x98 0x08 0x23 2024 3 5 ≡ yes
+  pub action-2 : stands 0x98 0x08 2 2024 3 5 ≡ no
   pub action-4 : by-record 0x98 0x08 4 2024 3 5 ≡ no-tier 19
+  pub stands-4 : stands 0x98 0x08 4 2024 3 5 ≡ yes
   pub action-18 : by-record 0x98 0x08 18 2024 3 5 ≡ no-tier 19
-  pub action-19 : by-record 0x98 0x08 19 2024 1 1 ≡ no-tier 17
+  pub stands-18 : stands 0x98 0x08 18 2024 3 5 ≡ yes
+  pub stands-19 : stands 0x98 0x08 19 2024 1 1 ≡ no
+  -- with no row for it there is no tier, but before its day season 0 has one
+  pub before-4 : by-record 0x98 0x08 4 2023 12 31 ≡ tier 2
+  -- a season change that is armed doesn't matter to it, nor a recurring record; a date that isn't real does
+  pub stands-armed : numbersOf 4 (seasonedReply (clock 48) (year-image 0x28) (date 1995 1 1)) ≡ yes
+  pub recurring : numbersOf 4 (seasonedReply (clock 48) (year-image 0x20) (date 1994 12 31)) ≡ no
+  pub stands-unreal : stands 0x98 0x08 3 2023 2 29 ≡ refusal 16 0 0 (0 ∷ [])
+  pub stands-no-calendar : numbersOf 4 (seasonedReply (clock 11) clock-image (date 2023 2 29)) ≡ refusal 20 0 0 (0 ∷ [])
+  -- a new meter: every day is in season 0, whose row it has; without one it is 19. No record stands
+  pub new-meter : numbersOf 5 (tierReply (clock 9) (new-image 1 (0x01 ∷ 0x01 ∷ 0x01 ∷ [])) (moment 1990 1 1 7 30) Quantity.Summations) ≡ tier 2
+  pub no-seasons : numbersOf 5 (tierReply (clock 6) (new-image 0 []) (moment 2024 3 5 7 30) Quantity.Summations) ≡ no-tier 19
+  pub new-stands : numbersOf 4 (seasonedReply (clock 9) (new-image 1 (0x01 ∷ 0x01 ∷ 0x01 ∷ [])) (date 2089 12 31)) ≡ no
   -- special schedules 0 and 11 without a column; 31 is no special schedule
   pub special-0 : by-second 19 ≡ no-tier 19
   pub special-11 : by-second 30 ≡ no-tier 19

@@ -4,6 +4,7 @@ use Prim.Native.Nat.{ℕ, _+_, _*_}
 use mathlib.Core.Path.{_≡_}
 use mathlib.Core.List.{List, [], _∷_}
 use Rattle.offsets.specs.declared.TableOffset.{TableOffset}
+use Rattle.meaning.specs.declared.Date.{Date}
 use Rattle.meaning.specs.declared.ElementName.{ElementName}
 use Rattle.meaning.specs.declared.Moment.{Moment}
 use Rattle.meaning.specs.declared.Quantity.{Quantity}
@@ -70,6 +71,9 @@ clock-image =
 abbrev pub moment : (year month day hour minute : ℕ) → Moment
 moment y mo d h mi = record { year = y; month = mo; day = d; hour = h; minute = mi }
 
+abbrev pub date : (year month day : ℕ) → Date
+date y m d = record { year = y; month = m; day = d }
+
 pub record Starred : Type 0 where
   -- D with 00 82 AA BB 34 12 78 56: total 8; table 5 at 2, 6 long; item 7 subscript 1 is 5678 hex
   pub first-total : numbersOf 4 (layoutReply D first) ≡ gives (8 ∷ [])
@@ -96,7 +100,8 @@ pub record Starred : Type 0 where
   pub past-table : (x : ℕ) → numbersOf 3 (verdictReply (writeRangeReply D first 0 5 (offset 6) (x ∷ []))) ≡ refusal 12 0 0 []
   -- D with item 4 replaced by 61000040 (slot 4, never set): 7 at item 4
   pub unset : numbersOf 3 (verdictReply (checkReply D-unset)) ≡ refusal 7 4 0 []
-  -- Table 54 holding the twelve octets: 5 March 2024 07:30 gives tier 2, 07:29 tier 0; 31 December 2023 gives 17. The first value is 1 for "none yet today"
+  -- Table 54 holding the twelve octets: 5 March 2024 07:30 gives tier 2, 07:29 tier 0; 31 December 2023, before the first season record, tier 0 at 00:00 (document 02, E1).
+  -- The first value is 1 for "none yet today"
   pub half-past : (q : Quantity) → numbersOf 5 (tierReply (clock 12) clock-image (moment 2024 3 5 7 30) q) ≡ gives (0 ∷ 2 ∷ [])
   pub minute-less : (q : Quantity) → numbersOf 5 (tierReply (clock 12) clock-image (moment 2024 3 5 7 29) q) ≡ gives (0 ∷ 0 ∷ [])
-  pub no-season : (q : Quantity) → numbersOf 5 (tierReply (clock 12) clock-image (moment 2023 12 31 7 30) q) ≡ refusal 17 0 0 (0 ∷ 0 ∷ [])
+  pub before-first : (q : Quantity) → numbersOf 5 (tierReply (clock 12) clock-image (moment 2023 12 31 0 0) q) ≡ gives (0 ∷ 0 ∷ [])

@@ -1,7 +1,7 @@
--- THE REFUSALS BY NAME: the table "Refusal numbers" of document 01. A refusal is its number and what it reports (`Refusal`, src/lib.rt): 2 to 7 report the
+-- THE REFUSALS BY NAME: the table "Refusal numbers" of document 01, but for 17, which document 02's E1 takes back. A refusal is its number and what it reports (`Refusal`, src/lib.rt): 2 to 7 report the
 -- item, 9 the item and octet, others nothing more. Assumes nothing.
 use Prim.Native.Nat.{ℕ}
-use mathlib.Core.Bool.{Bool, _&&_, _||_}
+use mathlib.Core.Bool.{Bool, not, _&&_, _||_}
 use Rattle.meaning.specs.Basics.{_=?_, _≤?_}
 use Rattle.meaning.specs.declared.Refusal.{Refusal}
 
@@ -12,9 +12,9 @@ reportsItem n = 2 ≤? n && n ≤? 7 || n =? 9
 abbrev pub reportsOctet : ℕ → Bool
 reportsOctet n = n =? 9
 
--- the last number in document 01
-abbrev pub lastNumber : ℕ
-lastNumber = 20
+-- the numbers that are given: document 01's 1 to 20, but 17 no longer
+abbrev pub isGiven : ℕ → Bool
+isGiven n = 1 ≤? n && n ≤? 20 && not (n =? 17)
 
 -- THE NAMES
 -- a number that reports nothing more; 0, where nothing is refused
@@ -63,10 +63,6 @@ wrongSize = numbered 15
 -- not a real date, or not a time
 abbrev pub notADate : Refusal
 notADate = numbered 16
-
--- no season chosen by that date
-abbrev pub noSeason : Refusal
-noSeason = numbered 17
 
 abbrev pub seasonChangeArmed : Refusal
 seasonChangeArmed = numbered 18

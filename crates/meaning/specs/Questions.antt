@@ -1,4 +1,4 @@
--- THE QUESTIONS: the list of "What the tool holds" in document 01, a case each, with all that is asked and lent beside description and image; and what each
+-- THE QUESTIONS: the list of "What the tool holds" in document 01 and those that document 02 adds, a case each, with all that is asked and lent beside description and image; and what each
 -- comes to: its reply, the octets that it tells, and the image afterwards. The callers that know numbers and octets alone, C and lines of text, state their replies by
 -- these. Assumes nothing.
 use Prim.Native.Nat.{ℕ}
@@ -6,6 +6,7 @@ use mathlib.Core.List.{List, [], flatten}
 use mathlib.Core.Option.{Option, some, none}
 use Rattle.offsets.specs.declared.TableOffset.{TableOffset}
 use Rattle.meaning.specs.declared.ElementName.{ElementName}
+use Rattle.meaning.specs.declared.Date.{Date}
 use Rattle.meaning.specs.declared.Moment.{Moment}
 use Rattle.meaning.specs.declared.Quantity.{Quantity}
 use Rattle.meaning.specs.declared.Refusal.{Refusal}
@@ -14,7 +15,7 @@ use Rattle.meaning.specs.declared.Told.{Told}
 use Rattle.meaning.specs.Description.{checkReply}
 use Rattle.meaning.specs.Refusals.{toldBy, verdictReply, placeReply, layoutReply, tablePlaceReply, elementPlaceReply, tablePartReply, elementPartReply, elementNumberReply}
 use Rattle.meaning.specs.Refusals.{writeRangeReply, writeRangeImage, writeOctetsReply, writeOctetsImage, writeNumberReply, writeNumberImage}
-use Rattle.meaning.specs.Calendar.{tierReply, matrixReply, matrixVerdict}
+use Rattle.meaning.specs.Calendar.{tierReply, seasonedReply, matrixReply, matrixVerdict}
 
 pub data Question : Type 0 where
   -- is this description sound
@@ -35,6 +36,8 @@ pub data Question : Type 0 where
   -- the tier of the calendar; its matrix
   tier : Moment → Quantity → Question
   matrix : Question
+  -- document 02, E1: does any season record with a real date stand at or before this date
+  seasoned : Date → Question
 
 -- WHAT A QUESTION COMES TO: the reply; the octets that it tells, row by row where they are cells, none where it tells none; the image afterwards
 pub record Outcome : Type 0 where
@@ -59,6 +62,7 @@ outcomeOf (writeOctets q new) d img = outcome (verdictReply (writeOctetsReply d 
 outcomeOf (writeNumber q x) d img = outcome (verdictReply (writeNumberReply d img q x)) [] (writeNumberImage d img q x)
 outcomeOf (tier w q) d img = outcome (tierReply d img w q) [] img
 outcomeOf matrix d img = outcome (verdictReply (matrixVerdict d img)) (flatten (matrixReply d img)) img
+outcomeOf (seasoned t) d img = outcome (seasonedReply d img t) [] img
 
 unfoldable pub replyTo : Question → (description image : List ℕ) → Reply
 replyTo q d img = outcomeOf q d img .reply
@@ -81,6 +85,8 @@ refusalIn (Reply.At p n) = none
 refusalIn (Reply.Number x) = none
 refusalIn (Reply.Tier t) = none
 refusalIn Reply.NoneYet = none
+refusalIn Reply.Yes = none
+refusalIn Reply.No = none
 
 unfoldable pub refusalTo : Question → (description image : List ℕ) → Option Refusal
 refusalTo q d img = refusalIn (replyTo q d img)

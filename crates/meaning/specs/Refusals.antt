@@ -36,6 +36,9 @@ toldBy (Reply.Number x) = answered x 0
 -- 1 for "none yet today", and the tier
 toldBy (Reply.Tier t) = answered 0 t
 toldBy Reply.NoneYet = answered 1 0
+-- 1 for yes, 0 for no
+toldBy Reply.Yes = answered 1 0
+toldBy Reply.No = answered 0 0
 
 -- one after another: a refusal's, then the answer's own
 abbrev pub refusalNumbers : Refusal → List ℕ

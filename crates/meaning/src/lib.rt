@@ -44,6 +44,13 @@ pub struct ElementName {
     pub subscripts: [usize; 4],
 }
 
+// A date.
+pub struct Date {
+    pub year: u32,
+    pub month: u32,
+    pub day: u32,
+}
+
 // A date and a time of day.
 pub struct Moment {
     pub year: u32,
@@ -150,15 +157,9 @@ impl Refusal {
         item: 0,
         octet: 0,
     };
-    // Of the calendar.
+    // Of the calendar; 17 is no longer given.
     pub const NOT_A_DATE: Refusal = Refusal {
         number: 16,
-        item: 0,
-        octet: 0,
-    };
-
-    pub const NO_SEASON: Refusal = Refusal {
-        number: 17,
         item: 0,
         octet: 0,
     };
@@ -208,6 +209,9 @@ pub enum Reply {
     // The tier that holds; or that no switch has come yet that day.
     Tier(u32),
     NoneYet,
+    // A question of yes or no.
+    Yes,
+    No,
 }
 
 // A reply in numbers, for callers that know no enum: the refusal, and two numbers of the answer's own, 0 where it has fewer or is refused.

@@ -47,6 +47,8 @@ pub fn told(reply: Reply) -> Told
         Reply::Number(n) => answered(n, 0),
         Reply::Tier(t) => answered(0, t as u64),
         Reply::NoneYet => answered(1, 0),
+        Reply::Yes => answered(1, 0),
+        Reply::No => answered(0, 0),
     }
 }
 

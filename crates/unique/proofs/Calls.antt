@@ -45,6 +45,7 @@ use Rattle.dates.proofs.weekday as dates-weekday
 use Rattle.dates.proofs.is_time as dates-is-time
 use Rattle.records.proofs.latest as records-latest
 use Rattle.calendar.proofs.tier as calendar-tier
+use Rattle.calendar.proofs.seasoned as calendar-seasoned
 use Rattle.calendar.proofs.matrix as calendar-matrix
 use Rattle.calendar.proofs.matrix_verdict as calendar-matrix-verdict
 use Rattle.calendar.proofs.matrix_into as calendar-matrix-into
@@ -72,6 +73,7 @@ use Rattle.bilashonge.proofs.bilashonge_write_range as bilashonge-write-range
 use Rattle.bilashonge.proofs.bilashonge_write_octets as bilashonge-write-octets
 use Rattle.bilashonge.proofs.bilashonge_write_number as bilashonge-write-number
 use Rattle.bilashonge.proofs.bilashonge_tier_at as bilashonge-tier-at
+use Rattle.bilashonge.proofs.bilashonge_seasoned as bilashonge-seasoned
 use Rattle.bilashonge.proofs.bilashonge_matrix as bilashonge-matrix
 
 -- crates/offsets
@@ -207,6 +209,9 @@ one-records-latest κs a x y later other p q = (p ∙ sym q, refl)
 pub one-calendar-tier : OneReply _ calendar-tier.Kinds.ps calendar-tier.Kinds.r calendar-tier.Reads.Learnt
 one-calendar-tier κs a x y later other p q = (p ∙ sym q, refl)
 
+pub one-calendar-seasoned : OneReply _ calendar-seasoned.Kinds.ps calendar-seasoned.Kinds.r calendar-seasoned.Reads.Learnt
+one-calendar-seasoned κs a x y later other p q = (p ∙ sym q, refl)
+
 pub one-calendar-matrix : OneReply _ calendar-matrix.Kinds.ps calendar-matrix.Kinds.r calendar-matrix.Reads.Learnt
 one-calendar-matrix κs a x y later other p q = (p ∙ sym q, refl)
 
@@ -290,6 +295,9 @@ one-bilashonge-write-number κs a x y later other p q = (p .0 ∙ sym (q .0), λ
 
 pub one-bilashonge-tier-at : OneReply _ bilashonge-tier-at.Kinds.ps bilashonge-tier-at.Kinds.r bilashonge-tier-at.Reads.Learnt
 one-bilashonge-tier-at κs a x y later other p q = (p ∙ sym q, refl)
+
+pub one-bilashonge-seasoned : OneReply _ bilashonge-seasoned.Kinds.ps bilashonge-seasoned.Kinds.r bilashonge-seasoned.Reads.Learnt
+one-bilashonge-seasoned κs a x y later other p q = (p ∙ sym q, refl)
 
 pub one-bilashonge-matrix : OneReply _ bilashonge-matrix.Kinds.ps bilashonge-matrix.Kinds.r bilashonge-matrix.Reads.Learnt
 one-bilashonge-matrix κs a x y later other p q = (p .0 ∙ sym (q .0), λ i. (tt, (tt, ((p .1 ∙ sym (q .1)) i, tt))))

@@ -1,4 +1,4 @@
-//! The calendar of Tables 51 and 54 (refusals 16 to 20).
+//! The calendar of Tables 51 and 54 (refusals 16, 18, 19 and 20).
 
 use crate::access::table_in;
 use crate::layout::{lay_out, number_of};
@@ -257,9 +257,9 @@ fn special_of(action: u8) -> Option<usize> {
 }
 
 /// "The season on a day is chosen by the non-recurring season action with the
-/// latest date not after it; of equal dates, the later record." None where
-/// there is "no season chosen by that date".
-fn season_on(calendar: &Calendar, day: Date) -> Option<usize> {
+/// latest date not after it; of equal dates, the later record." None where no
+/// season record chooses one.
+fn season_chosen(calendar: &Calendar, day: Date) -> Option<usize> {
     let mut chosen: Option<(Date, usize)> = None;
     for record in &calendar.dates {
         if let Some(season) = season_of(record.action) {
@@ -275,6 +275,11 @@ fn season_on(calendar: &Calendar, day: Date) -> Option<usize> {
         }
     }
     chosen.map(|(_, season)| season)
+}
+
+/// Document 02, E1: "a day before every season record is in season 0".
+fn season_on(calendar: &Calendar, day: Date) -> usize {
+    season_chosen(calendar, day).unwrap_or(0)
 }
 
 /// "A special schedule holds for its own date only; the later record wins."
@@ -356,8 +361,18 @@ fn tier_at(calendar: &Calendar, schedule: u8, hour: u64, minute: u64, what: What
     chosen.map(|(_, _, tier)| tier)
 }
 
-/// The question "the tier of the calendar". Order: 1 to 9, 10, 20, 16, 18, 17,
-/// 19. "No such switch: the reply is "none yet today", not a refusal."
+/// Refusal 16: "not a real date from 1 January 1990 to 31 December 2089".
+fn need_real(day: Date) -> Result<(), Refusal> {
+    if is_real(day) {
+        Ok(())
+    } else {
+        Err(Refusal::plain(16))
+    }
+}
+
+/// The question "the tier of the calendar". Order: 1 to 9, 10, 20, 16, 18, 19.
+/// (Document 02, E1: "17 is no longer given".) "No such switch: the reply is
+/// "none yet today", not a refusal."
 pub fn tier(
     d: &[u8],
     image: &[u8],
@@ -367,21 +382,18 @@ pub fn tier(
     what: What,
 ) -> Result<Option<u64>, Refusal> {
     let calendar = read_calendar(d, image)?;
-    // Refusal 16: "not a real date from 1 January 1990 to 31 December 2089, or
-    // not a time 00:00 to 23:59".
-    if !is_real(day) || hour > 23 || minute > 59 {
+    need_real(day)?;
+    // Refusal 16: "or not a time 00:00 to 23:59".
+    if hour > 23 || minute > 59 {
         return Err(Refusal::plain(16));
     }
     // Refusal 18: "SEASON_CHNG_ARMED_FLAG set".
     if calendar.season_change_armed {
         return Err(Refusal::plain(18));
     }
-    // Refusal 17: "no season chosen by that date".
-    let season = match season_on(&calendar, day) {
-        Some(season) => season,
-        None => return Err(Refusal::plain(17)),
-    };
     // Refusal 19: "season or special schedule without a row or column".
+    // Document 02, E1: "19 still applies when there are no seasons".
+    let season = season_on(&calendar, day);
     if season >= calendar.seasons {
         return Err(Refusal::plain(19));
     }
@@ -392,6 +404,20 @@ pub fn tier(
     // "The schedule number is the matrix entry."
     let schedule = calendar.rows[season][column];
     Ok(tier_at(&calendar, schedule, u64::from(hour), u64::from(minute), what))
+}
+
+/// The question of document 02, E1: "does any season record with a real date
+/// stand at or before this date". Order: 1 to 9, 10, 20, 16: it "gives 1 to 10,
+/// 20 and 16 alone", so neither an armed season change nor a season without a
+/// row matters to it. (Recurring records and those without a real date aren't
+/// among the dates read.)
+pub fn seasoned(d: &[u8], image: &[u8], day: Date) -> Result<bool, Refusal> {
+    let calendar = read_calendar(d, image)?;
+    need_real(day)?;
+    Ok(calendar
+        .dates
+        .iter()
+        .any(|record| season_of(record.action).is_some() && record.date <= day))
 }
 
 /// "fifteen rows of twenty-two"

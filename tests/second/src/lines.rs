@@ -244,6 +244,14 @@ fn answer_request(line: &[u8]) -> Option<String> {
                 "0 0",
             )
         }
+        // Document 02, E1.
+        b"seasoned" => {
+            let (d, m) = (words.octets()?, words.octets()?);
+            let (year, month, day) = (words.short()?, words.short()?, words.short()?);
+            words.end()?;
+            let found = calendar::seasoned(&d, &m, Date { year, month, day });
+            reply(found.map(|yes| String::from(if yes { "1" } else { "0" })), "0")
+        }
         b"matrix" => {
             let (d, m) = (words.octets()?, words.octets()?);
             words.end()?;

@@ -1,6 +1,6 @@
 //! The second program: the questions about meter tables, asked in lines of
-//! text and answered from document 01 alone. See the README beside this
-//! directory.
+//! text and answered from documents 01 and 02 (its request E1) alone. See the
+//! README beside this directory.
 
 mod access;
 mod calendar;

@@ -1,4 +1,5 @@
-//! The calendar: refusals 16 to 20, and every rule on dates and tiers.
+//! The calendar: refusals 16, 18, 19 and 20, and every rule on dates, seasons
+//! and tiers.
 
 use crate::calendar::{is_real, read_date, weekday, Date};
 use crate::tests_support::*;
@@ -109,6 +110,15 @@ impl Cal {
             }
         }
     }
+
+    /// The same for `seasoned`, which takes no time.
+    fn seasoned(&self, (year, month, day): (u32, u32, u32), reply: &str) {
+        for order in [0u8, 1, 0xfe, 0xff] {
+            let mut cal = self.clone();
+            cal.order = order;
+            holds(&format!("seasoned {} {year} {month} {day}", cal.words()), reply);
+        }
+    }
 }
 
 /// The two tables as blocks (a table of no octets as a table of no items).
@@ -133,6 +143,10 @@ fn with_tables(order: u8, t51: &[u8], t54: &[u8]) -> String {
 }
 
 const NONE_YET: &str = "0 0 0 1 0";
+
+/// The replies of `seasoned`.
+const YES: &str = "0 0 0 1";
+const NO: &str = "0 0 0 0";
 
 fn tier_is(tier: u32) -> String {
     format!("0 0 0 0 {tier}")
@@ -203,6 +217,7 @@ fn refusal_16() {
         (4294967295, 1, 1), (2024, 4294967295, 1), (2024, 1, 4294967295), (2024, 257, 1),
     ] {
         cal.gives((y, m, d, 0, 0), "16 0 0 0 0");
+        cal.seasoned((y, m, d), "16 0 0 0");
     }
     for (h, m) in [(24, 0), (0, 60), (23, 60), (256, 0), (4294967295, 4294967295)] {
         cal.gives((2024, 3, 5, h, m), "16 0 0 0 0");
@@ -210,16 +225,21 @@ fn refusal_16() {
     // The ends that are real.
     cal.gives((2024, 2, 29, 23, 59), &tier_is(1));
     cal.gives((2089, 12, 30, 0, 0), &tier_is(1));
-    // 1 January 1990 is a real date, though no season is chosen by then.
-    cal.gives((1990, 1, 1, 0, 0), "17 0 0 0 0");
+    // 1 January 1990, a Monday, is a real date; no season is chosen by then, so
+    // it is in season 0.
+    cal.gives((1990, 1, 1, 0, 0), &tier_is(1));
+    cal.seasoned((1990, 1, 1), NO);
+    cal.seasoned((2024, 2, 29), YES);
+    cal.seasoned((2089, 12, 31), YES);
 }
 
 #[test]
-fn refusals_17_18_and_their_order() {
+fn refusal_18_and_the_order() {
     let mut cal = Cal::plain();
-    cal.gives((1999, 12, 31, 12, 0), "17 0 0 0 0");
+    // 31 December 1999, a Friday before every season record: season 0.
+    cal.gives((1999, 12, 31, 12, 0), &tier_is(1));
     cal.gives((2000, 1, 3, 12, 0), &tier_is(1));
-    // 16 before 18 before 17 before 19; 20 before them all.
+    // 16 before 18 before 19; 20 before them all.
     cal.flags_1 = ARMED;
     cal.gives((2000, 1, 3, 12, 0), "18 0 0 0 0");
     cal.gives((1999, 12, 31, 12, 0), "18 0 0 0 0");
@@ -228,7 +248,8 @@ fn refusals_17_18_and_their_order() {
     cal.gives((2000, 1, 3, 12, 0), "18 0 0 0 0");
     cal.flags_1 = 0;
     cal.gives((2000, 1, 3, 12, 0), "19 0 0 0 0");
-    cal.gives((1999, 12, 31, 12, 0), "17 0 0 0 0");
+    // Season 0 has no row: "19 still applies when there are no seasons".
+    cal.gives((1999, 12, 31, 12, 0), "19 0 0 0 0");
     cal.flags_1 = ARMED | ANCHOR;
     cal.gives((1999, 12, 31, 24, 0), "20 0 0 0 0");
     // Other flags change nothing here.
@@ -275,11 +296,14 @@ fn refusal_19() {
         cal.dates = vec![(date(2000, 1, 1), 3), (date(2000, 1, 3), action)];
         cal.gives((2000, 1, 3, 12, 0), &tier_is(1));
         cal.dates = vec![(date(2000, 1, 1), action)];
-        cal.gives((2000, 1, 3, 12, 0), "17 0 0 0 0");
+        cal.gives((2000, 1, 3, 12, 0), &tier_is(1));
     }
-    // A special schedule chooses no season.
+    // A special schedule chooses no season; it holds in season 0 too.
     cal.dates = vec![(date(2000, 1, 3), 19)];
-    cal.gives((2000, 1, 3, 12, 0), "17 0 0 0 0");
+    cal.gives((2000, 1, 3, 12, 0), &tier_is(3));
+    cal.gives((2000, 1, 4, 12, 0), &tier_is(1));
+    cal.dates = vec![(date(2000, 1, 3), 21)];
+    cal.gives((2000, 1, 3, 12, 0), "19 0 0 0 0");
     // Only bits 0..4 of the action count.
     for high in [0x20u8, 0x40, 0x80, 0xe0] {
         cal.dates = vec![(date(2000, 1, 1), high | 3), (date(2000, 1, 3), high | 20)];
@@ -292,33 +316,37 @@ fn refusal_19() {
 fn refusal_20() {
     let cal = Cal::plain();
     let (t51, t54) = (cal.table_51(), cal.table_54());
-    let both = |words: &str, no: u32| {
+    let all = |words: &str, no: u32| {
         holds(&format!("tier {words} 2000 1 3 12 0 0"), &format!("{no} 0 0 0 0"));
+        holds(&format!("seasoned {words} 2000 1 3"), &format!("{no} 0 0 0"));
+        // 20 before 16: 30 February.
+        holds(&format!("tier {words} 2000 2 30 12 0 0"), &format!("{no} 0 0 0 0"));
+        holds(&format!("seasoned {words} 2000 2 30"), &format!("{no} 0 0 0"));
         holds(&format!("matrix {words}"), &format!("{no} 0 0 {}", "0".repeat(660)));
     };
     let mut long_51 = t51.clone();
     long_51.push(0);
-    both(&with_tables(0, &long_51, &t54), 20);
-    both(&with_tables(0, &t51[..8], &t54), 20);
-    both(&with_tables(0, &[], &t54), 20);
+    all(&with_tables(0, &long_51, &t54), 20);
+    all(&with_tables(0, &t51[..8], &t54), 20);
+    all(&with_tables(0, &[], &t54), 20);
     let mut long_54 = t54.clone();
     long_54.push(0);
-    both(&with_tables(0, &t51, &long_54), 20);
-    both(&with_tables(0, &t51, &t54[..t54.len() - 1]), 20);
-    both(&with_tables(0, &t51, &[]), 20);
+    all(&with_tables(0, &t51, &long_54), 20);
+    all(&with_tables(0, &t51, &t54[..t54.len() - 1]), 20);
+    all(&with_tables(0, &t51, &[]), 20);
     // Each part of the size counts.
     for (octet, change) in [(0, ANCHOR), (1, WEEKDAYS), (2, 1), (2, 16), (3, 1), (4, 1), (5, 1), (6, 1)] {
         let mut changed = t51.clone();
         changed[octet] ^= change;
-        both(&with_tables(0, &changed, &t54), 20);
+        all(&with_tables(0, &changed, &t54), 20);
     }
     // T is read in DATA_ORDER.
-    both(&with_tables(1, &t51, &t54), 20);
+    all(&with_tables(1, &t51, &t54), 20);
     // The largest T doesn't fit any image.
     let mut changed = t51;
     changed[5] = 0xff;
     changed[6] = 0xff;
-    both(&with_tables(0, &changed, &t54), 20);
+    all(&with_tables(0, &changed, &t54), 20);
 }
 
 #[test]
@@ -338,12 +366,16 @@ fn refusal_10_before_20() {
         m.extend_from_slice(&t54);
         let words = format!("{} {}", desc(&items), hex(&m));
         holds(&format!("tier {words} 2000 1 3 12 0 0"), "10 0 0 0 0");
+        holds(&format!("seasoned {words} 2000 1 3"), "10 0 0 0");
+        holds(&format!("seasoned {words} 2000 2 30"), "10 0 0 0");
         holds(&format!("matrix {words}"), &format!("10 0 0 {}", "0".repeat(660)));
     }
     // 9 before 10.
     let d = desc(&[table(0, 1), uint(1, 1)]);
     holds(&format!("tier {d} - 2000 1 3 12 0 0"), "9 1 0 0 0");
     holds(&format!("tier {d} 00 2000 1 3 12 0 0"), "10 0 0 0 0");
+    holds(&format!("seasoned {d} - 2000 1 3"), "9 1 0 0");
+    holds(&format!("seasoned {d} 00 2000 1 3"), "10 0 0 0");
 }
 
 #[test]
@@ -353,7 +385,7 @@ fn seasons_by_date() {
     cal.switches = vec![(switch(1, 0, 0), 0), (switch(2, 0, 0), 1), (switch(3, 0, 0), 2)];
     // Not sorted: "the latest date not after it".
     cal.dates = vec![(date(2005, 6, 1), 5), (date(1995, 1, 1), 3), (date(2001, 6, 1), 4)];
-    cal.gives((1994, 12, 31, 12, 0), "17 0 0 0 0");
+    cal.gives((1994, 12, 31, 12, 0), &tier_is(1));
     cal.gives((1995, 1, 1, 0, 0), &tier_is(1));
     cal.gives((2001, 5, 31, 23, 59), &tier_is(1));
     cal.gives((2001, 6, 1, 0, 0), &tier_is(2));
@@ -385,8 +417,225 @@ fn recurring_records_and_the_anchor_are_read_past() {
     cal.anchor = Some(0xffff);
     cal.flags_1 = ANCHOR;
     cal.gives((2024, 1, 1, 12, 0), &tier_is(1));
+    // A Monday of no record: season 0, and not the special schedule or the
+    // season of a recurring record.
     cal.dates.clear();
-    cal.gives((2024, 1, 1, 12, 0), "17 0 0 0 0");
+    cal.gives((2024, 1, 1, 12, 0), &tier_is(1));
+    cal.seasoned((2024, 1, 1), NO);
+    cal.seasoned((2089, 12, 31), NO);
+}
+
+/// Document 02, E1: "a day before every season record is in season 0".
+#[test]
+fn season_0_before_every_record() {
+    let mut cal = Cal::plain();
+    cal.rows = (0..3).map(|season| vec![season, season, season]).collect();
+    cal.switches = vec![(switch(1, 0, 0), 0), (switch(2, 0, 0), 1), (switch(3, 6, 0), 2)];
+    // The earliest record is of season 2, another of season 1.
+    cal.dates = vec![(date(2005, 6, 1), 4), (date(1995, 1, 1), 5)];
+    cal.gives((1990, 1, 1, 0, 0), &tier_is(1));
+    cal.gives((1994, 12, 31, 23, 59), &tier_is(1));
+    cal.gives((1995, 1, 1, 5, 59), NONE_YET);
+    cal.gives((1995, 1, 1, 6, 0), &tier_is(3));
+    cal.gives((2005, 5, 31, 6, 0), &tier_is(3));
+    cal.gives((2005, 6, 1, 0, 0), &tier_is(2));
+    // "No such switch" in season 0.
+    cal.switches[0] = (switch(1, 12, 1), 0);
+    cal.gives((1994, 12, 31, 12, 0), NONE_YET);
+    cal.gives((1994, 12, 31, 12, 1), &tier_is(1));
+    // A record without a real date is skipped: the day stays in season 0.
+    cal.dates.push((date(1993, 2, 29), 5));
+    cal.gives((1994, 12, 31, 12, 1), &tier_is(1));
+    // Season 0 has no row where there is none at all.
+    cal.rows.clear();
+    cal.gives((1994, 12, 31, 12, 1), "19 0 0 0 0");
+    cal.gives((1990, 1, 1, 0, 0), "19 0 0 0 0");
+}
+
+/// Document 02, E1: "New meters have no season record."
+#[test]
+fn new_meters() {
+    let mut cal = Cal::plain();
+    cal.dates.clear();
+    cal.switches = vec![(switch(5, 0, 0), 10), (switch(6, 8, 0), 11), (switch(7, 9, 30), 12)];
+    // 1 January 2000 was a Saturday, then Sunday and Monday.
+    cal.gives((2000, 1, 1, 0, 0), &tier_is(5));
+    cal.gives((2000, 1, 2, 7, 59), NONE_YET);
+    cal.gives((2000, 1, 2, 8, 0), &tier_is(6));
+    cal.gives((2000, 1, 3, 9, 30), &tier_is(7));
+    // The first day, a Monday, and the last, a Saturday.
+    cal.gives((1990, 1, 1, 9, 29), NONE_YET);
+    cal.gives((2089, 12, 31, 0, 0), &tier_is(5));
+    for day in [(1990, 1, 1), (2000, 1, 1), (2089, 12, 31)] {
+        cal.seasoned(day, NO);
+    }
+    cal.flags_1 = ARMED;
+    cal.gives((2000, 1, 1, 0, 0), "18 0 0 0 0");
+    cal.seasoned((2000, 1, 1), NO);
+    cal.flags_1 = 0;
+    cal.rows.clear();
+    cal.gives((2000, 1, 1, 0, 0), "19 0 0 0 0");
+    cal.seasoned((2000, 1, 1), NO);
+    // Nothing at all: Table 54 has no octets.
+    cal.switches.clear();
+    assert!(cal.table_54().is_empty());
+    cal.gives((2000, 1, 1, 0, 0), "19 0 0 0 0");
+    cal.seasoned((2000, 1, 1), NO);
+}
+
+/// Document 02, E1: "does any season record with a real date stand at or before
+/// this date".
+#[test]
+fn seasoned_before_on_and_after_a_record() {
+    let mut cal = Cal::plain();
+    cal.seasoned((1999, 12, 31), NO);
+    cal.seasoned((2000, 1, 1), YES);
+    cal.seasoned((2000, 1, 2), YES);
+    // One record of three is enough, wherever it stands among them.
+    let day = (date(2024, 2, 29), 3);
+    let later = [(date(2024, 3, 1), 4), (date(2089, 12, 31), 3)];
+    for place in 0..=2 {
+        cal.dates = later.to_vec();
+        cal.dates.insert(place, day);
+        cal.seasoned((2024, 2, 28), NO);
+        cal.seasoned((2024, 2, 29), YES);
+        cal.seasoned((2024, 3, 1), YES);
+        cal.seasoned((2089, 12, 30), YES);
+    }
+    // A day is before or after by year, then month, then day of the month.
+    cal.dates = vec![(date(2010, 6, 15), 3)];
+    for day in [(2009, 12, 31), (2009, 7, 16), (2010, 5, 31), (2010, 6, 14), (1999, 6, 15)] {
+        cal.seasoned(day, NO);
+    }
+    for day in [(2010, 6, 15), (2010, 6, 16), (2010, 7, 1), (2011, 1, 1), (2011, 5, 14)] {
+        cal.seasoned(day, YES);
+    }
+    // Years 90 to 99 are 1990 on: the first day of all, and the last.
+    cal.dates = vec![(date(1990, 1, 1), 3)];
+    cal.seasoned((1990, 1, 1), YES);
+    cal.dates = vec![(date(1999, 12, 31), 3)];
+    cal.seasoned((1999, 12, 30), NO);
+    cal.seasoned((2000, 1, 1), YES);
+    cal.dates = vec![(date(2089, 12, 31), 3)];
+    cal.seasoned((2089, 12, 30), NO);
+    cal.seasoned((2089, 12, 31), YES);
+}
+
+/// The new question "gives 1 to 10, 20 and 16 alone": no 18, no 19.
+#[test]
+fn seasoned_asks_for_no_row_and_no_armed_flag() {
+    let mut cal = Cal::plain();
+    for flags_1 in [0, ARMED] {
+        cal.flags_1 = flags_1;
+        cal.rows = vec![vec![10, 11, 12]];
+        // Season 0 has a row; season 1 and season 15 have none.
+        for action in [3, 4, 18] {
+            cal.dates = vec![(date(2000, 1, 1), action)];
+            cal.seasoned((1999, 12, 31), NO);
+            cal.seasoned((2000, 1, 1), YES);
+        }
+        cal.rows.clear();
+        cal.seasoned((1999, 12, 31), NO);
+        cal.seasoned((2000, 1, 1), YES);
+        cal.seasoned((2000, 2, 30), "16 0 0 0");
+    }
+    // A special schedule without a column on the day doesn't matter.
+    cal.dates.push((date(2000, 1, 1), 30));
+    cal.seasoned((2000, 1, 1), YES);
+    // Other flags: the anchor date moves the records on.
+    cal.flags_1 = 0xff;
+    cal.flags_2 = 0xff;
+    cal.anchor = Some(date(1995, 1, 1));
+    cal.seasoned((1999, 12, 31), NO);
+    cal.seasoned((2000, 1, 1), YES);
+}
+
+#[test]
+fn seasoned_by_action() {
+    let mut cal = Cal::plain();
+    // "3 to 18 select season 0 to 15, 19 to 30 special schedule 0 to 11"; only
+    // bits 0..4 of the action count.
+    for high in [0x00u8, 0x20, 0x40, 0x80, 0xe0] {
+        for action in 0..32u8 {
+            cal.dates = vec![(date(2000, 1, 1), high | action)];
+            let reply = if (3..=18).contains(&action) { YES } else { NO };
+            cal.seasoned((1999, 12, 31), NO);
+            cal.seasoned((2000, 1, 1), reply);
+            cal.seasoned((2000, 1, 2), reply);
+        }
+    }
+    // None of the others ends the list.
+    for action in [0, 2, 19, 30, 31] {
+        cal.dates = vec![(date(2000, 1, 1), action), (date(2000, 1, 1), 3)];
+        cal.seasoned((2000, 1, 1), YES);
+    }
+}
+
+#[test]
+fn seasoned_skips_what_is_no_season_record() {
+    let mut cal = Cal::plain();
+    // "with a real date": 29 February 2023, 31 June, day 0, months 0 and 13,
+    // years 100 and 127, all zeros and all ones aren't.
+    let unreal = [
+        date(2023, 2, 29), date(2000, 6, 31), date(2000, 1, 0), date(2000, 0, 1),
+        date(2000, 13, 1), 100 | 1 << 7 | 1 << 11, 127 | 1 << 7 | 1 << 11, 0, 0xffff,
+    ];
+    for field in unreal {
+        cal.dates = vec![(field, 3)];
+        cal.seasoned((2089, 12, 31), NO);
+        cal.dates.push((date(2024, 2, 29), 3));
+        cal.seasoned((2024, 2, 28), NO);
+        cal.seasoned((2024, 2, 29), YES);
+    }
+    // A special schedule is no season record.
+    cal.special = 1;
+    cal.rows = vec![vec![10, 11, 12, 13]];
+    cal.dates = vec![(date(1990, 1, 1), 19), (date(2000, 1, 1), 3)];
+    cal.seasoned((1999, 12, 31), NO);
+    cal.seasoned((2000, 1, 1), YES);
+    // Recurring records are read past.
+    cal.recurring = vec![(date(1990, 1, 1), 3), (date(2000, 1, 1), 4)];
+    cal.seasoned((1999, 12, 31), NO);
+    cal.seasoned((2000, 1, 1), YES);
+    cal.dates.clear();
+    cal.seasoned((1990, 1, 1), NO);
+    cal.seasoned((2089, 12, 31), NO);
+    // Nor does the anchor date count.
+    cal.flags_1 = ANCHOR;
+    cal.anchor = Some(date(1990, 1, 1));
+    cal.seasoned((1990, 1, 1), NO);
+    // As many records as there can be, the last one the season's.
+    let mut cal = Cal::plain();
+    cal.dates = vec![(date(1990, 1, 1), 31); 254];
+    cal.dates.push((date(2000, 1, 1), 3));
+    cal.seasoned((1999, 12, 31), NO);
+    cal.seasoned((2000, 1, 1), YES);
+}
+
+/// Order: 1 to 9, 10, 20, 16.
+#[test]
+fn seasoned_refusals_of_description_and_image() {
+    for day in ["2024 3 5", "2024 2 30"] {
+        holds(&format!("seasoned - 00 {day}"), "1 0 0 0");
+        // Kind 0; a BLOCK at the top level; a table that runs on past the end.
+        holds(&format!("seasoned 00000000 00 {day}"), "2 0 0 0");
+        holds(&format!("seasoned {} 00 {day}", desc(&[block(1)])), "3 0 0 0");
+        holds(&format!("seasoned {} 00 {day}", desc(&[table(0, 2), uint(1, 1)])), "4 0 0 0");
+        // A fifth level, at the last but one item.
+        let mut items = vec![table(0, 7), uint(1, 1)];
+        items.extend((1..=5).rev().map(|inside| array((1, 0, 1), inside)));
+        items.push(uint(1, 0));
+        holds(&format!("seasoned {} 00 {day}", desc(&items)), "5 6 0 0");
+        // Slot 1 twice; a slot that isn't set.
+        let twice = desc(&[table(0, 2), uint(1, 1), uint(1, 1)]);
+        holds(&format!("seasoned {twice} 00 {day}"), "6 2 0 0");
+        let unset = desc(&[table(0, 2), uint(1, 1), set((2, 0, 1))]);
+        holds(&format!("seasoned {unset} 00 {day}"), "7 2 0 0");
+        // An image over 65,535 octets, and D's first image cut to 7.
+        holds(&format!("seasoned {D} {} {day}", "00".repeat(65_536)), "8 0 0 0");
+        holds(&format!("seasoned {D} 0082aabb341278 {day}"), "9 6 4 0");
+        holds(&format!("seasoned {D} {FIRST} {day}"), "10 0 0 0");
+    }
 }
 
 #[test]
@@ -512,7 +761,7 @@ fn the_matrix() {
     cal.rows = (0..15).map(|row| (0..22).map(|column| row * 16 + column).collect()).collect();
     let all: Vec<u8> = cal.rows.concat();
     holds(&format!("matrix {}", cal.words()), &format!("0 0 0 {}", hex(&all)));
-    // It needs no date: not 18 (the season change is armed), not 17, not 19.
+    // It needs no date: not 18 (the season change is armed), not 19.
     cal.flags_1 = ARMED;
     cal.dates.clear();
     holds(&format!("matrix {}", cal.words()), &format!("0 0 0 {}", hex(&all)));
@@ -568,6 +817,8 @@ fn however_the_tables_are_divided() {
             holds(&format!("layout {d} {m}"), "0 0 0 22");
             holds(&format!("tier {d} {m} 2000 1 3 12 0 0"), "0 0 0 0 1");
             holds(&format!("tier {d} {m} 2000 1 2 12 0 0"), "0 0 0 1 0");
+            holds(&format!("seasoned {d} {m} 2000 1 1"), YES);
+            holds(&format!("seasoned {d} {m} 1999 12 31"), NO);
         }
     }
 }

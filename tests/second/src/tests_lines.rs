@@ -28,6 +28,9 @@ fn words_and_spaces() {
         "", " ", "  ", "check", "check ", " check -", "check  -", "check - ", "check - -",
         "check\t-", "Check -", "CHECK -", "checks -", "chec -", "-", "?", "check -\r", "check --",
         "check -- -", "layout -", "layout - - -", "matrix -", "matrix - - -",
+        "seasoned", "seasoned - -", "seasoned - - 2024 3", "seasoned - - 2024 3 5 7",
+        "seasoned - - 2024 3 5 7 30 0", "seasoned - - 2024 3 -5", "Seasoned - - 2024 3 5",
+        "season - - 2024 3 5", "seasoned  - - 2024 3 5", "seasoned - - 2024 3 5 ",
     ] {
         holds(line, "?");
     }
@@ -80,6 +83,15 @@ fn numbers_at_the_ends_of_their_types() {
         holds(&format!("tier {D} {FIRST} {}", words.join(" ")), "10 0 0 0 0");
     }
     holds(&format!("tier {D} {FIRST} 2024 3 5 7 30 2"), "?");
+    for place in 0..3 {
+        let mut words = ["2024", "3", "5"];
+        words[place] = "4294967296";
+        holds(&format!("seasoned {D} {FIRST} {}", words.join(" ")), "?");
+        words[place] = "4294967295";
+        holds(&format!("seasoned {D} {FIRST} {}", words.join(" ")), "10 0 0 0");
+        words[place] = "004294967295";
+        holds(&format!("seasoned {D} {FIRST} {}", words.join(" ")), "10 0 0 0");
+    }
 }
 
 #[test]
@@ -90,15 +102,17 @@ fn a_bad_later_word_is_seen_before_the_answer() {
     holds("tier - - 2024 3 5 7 30 2", "?");
     holds("writerange - - 0 0 0 0", "?");
     holds("tier - - 2024 3 5 7 30 1", "1 0 0 0 0");
+    holds("seasoned - - 2024 3 x", "?");
+    holds("seasoned - - 2024 3 5", "1 0 0 0");
 }
 
 #[test]
 fn counts_of_words() {
     // One word less and one more than each question takes.
-    let forms: [(&str, usize); 12] = [
+    let forms: [(&str, usize); 13] = [
         ("check", 1), ("layout", 2), ("table", 4), ("tablepart", 4), ("where", 8), ("octets", 8),
         ("number", 8), ("writerange", 6), ("writeoctets", 9), ("writenumber", 9), ("tier", 8),
-        ("matrix", 2),
+        ("seasoned", 5), ("matrix", 2),
     ];
     for (question, count) in forms {
         for words in 0..12 {

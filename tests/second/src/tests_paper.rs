@@ -106,12 +106,19 @@ fn starred_calendar() -> (String, String) {
 
 #[test]
 fn starred_calendar_tiers() {
-    // "5 March 2024 07:30 gives tier 2, 07:29 tier 0; 31 December 2023 gives
-    // 17."
+    // "5 March 2024 07:30 gives tier 2, 07:29 tier 0".
     let (d, m) = starred_calendar();
     holds(&format!("tier {d} {m} 2024 3 5 7 30 0"), "0 0 0 0 2");
     holds(&format!("tier {d} {m} 2024 3 5 7 29 0"), "0 0 0 0 0");
-    holds(&format!("tier {d} {m} 2023 12 31 7 30 0"), "17 0 0 0 0");
+    // Document 02, E1: "01's last calendar example now gives tier 0 at 00:00":
+    // 31 December 2023 is in season 0, whose row is 1 1 1.
+    holds(&format!("tier {d} {m} 2023 12 31 0 0 0"), "0 0 0 0 0");
+    holds(&format!("tier {d} {m} 2023 12 31 7 29 0"), "0 0 0 0 0");
+    holds(&format!("tier {d} {m} 2023 12 31 7 30 0"), "0 0 0 0 2");
+    // Its one season record is dated 1 January 2024.
+    holds(&format!("seasoned {d} {m} 2023 12 31"), "0 0 0 0");
+    holds(&format!("seasoned {d} {m} 2024 1 1"), "0 0 0 1");
+    holds(&format!("seasoned {d} {m} 2024 3 5"), "0 0 0 1");
     holds(&format!("tier {d} {m} 2024 3 5 7 30 1"), "0 0 0 0 2");
     // The matrix of that calendar: row 0 is 1 1 1, all else 0.
     let cells = format!("010101{}", "00".repeat(327));

@@ -85,21 +85,27 @@ fn section_6_2_1_characters() {
 
 /// Section 6.3.3, the DATE bits, and section 6.3.1's years: 00..89 are
 /// 2000..2089, 90..99 are 1990..1999, the rest unassigned. A calendar whose
-/// only record is that date of season 0 chooses it from that day on.
+/// only record is that date of season 1 chooses it from that day on; before it
+/// season 0 holds, whose schedule has no switch.
 #[test]
 fn section_6_3_3_dates() {
-    let d = desc(&[table(0, 1), uint(1, 1), table(51, 1), block(9), table(54, 1), block(9)]);
-    let t51 = "000001010001000000";
-    for (short, year) in [(0u32, 2000u32), (1, 2001), (89, 2089), (90, 1990), (99, 1999)] {
+    let d = desc(&[table(0, 1), uint(1, 1), table(51, 1), block(9), table(54, 1), block(12)]);
+    let calendar = |short: u32| {
         let field = short | 7 << 7 | 15 << 11;
-        let m = image(&format!("00|{t51}|{:02x}{:02x} 03|02 00 01|01 01 01", field & 255, field >> 8));
+        let record = format!("{:02x}{:02x} 04", field & 255, field >> 8);
+        image(&format!("00|000002010001000000|{record}|02 00 01|02 02 02 01 01 01"))
+    };
+    for (short, year) in [(0u32, 2000u32), (1, 2001), (89, 2089), (90, 1990), (99, 1999)] {
+        let m = calendar(short);
         holds(&format!("tier {d} {m} {year} 7 15 0 0 0"), "0 0 0 0 2");
-        holds(&format!("tier {d} {m} {year} 7 14 0 0 0"), "17 0 0 0 0");
+        holds(&format!("tier {d} {m} {year} 7 14 0 0 0"), "0 0 0 1 0");
+        holds(&format!("seasoned {d} {m} {year} 7 15"), "0 0 0 1");
+        holds(&format!("seasoned {d} {m} {year} 7 14"), "0 0 0 0");
     }
     for short in [100u32, 127] {
-        let field = short | 7 << 7 | 15 << 11;
-        let m = image(&format!("00|{t51}|{:02x}{:02x} 03|02 00 01|01 01 01", field & 255, field >> 8));
-        holds(&format!("tier {d} {m} 2089 12 31 0 0 0"), "17 0 0 0 0");
+        let m = calendar(short);
+        holds(&format!("tier {d} {m} 2089 12 31 0 0 0"), "0 0 0 1 0");
+        holds(&format!("seasoned {d} {m} 2089 12 31"), "0 0 0 0");
     }
 }
 
@@ -443,7 +449,8 @@ fn tou_tables() -> String {
 /// and 1 special schedule (12 hex), 10 and 10 dates, 9 switches, printed size
 /// 131 (83 hex). By document 01's sizes Table 54 has 30 + 30 + 27 + 2 * (3 + 1) =
 /// 95 octets; the printed 131 is "not used here". The set says nothing of Table
-/// 54's contents: here it is made whole with zeros, which are no dates.
+/// 54's contents: here it is made whole with zeros, which are no dates; so every
+/// day is in season 0, whose schedule 0 goes to tier 0 at 00:00.
 #[test]
 fn annex_c_table_51_set_3_blank() {
     let d = tou_tables();
@@ -451,7 +458,8 @@ fn annex_c_table_51_set_3_blank() {
         let m = image(&format!("{t51}|{}", "00".repeat(95)));
         sizes(&d, &m, &[(51, 1, 9), (54, 10, 95)]);
         holds(&format!("number {d} {m} 9 0 0 0 0 0"), "0 0 0 131");
-        holds(&format!("tier {d} {m} 1997 7 4 12 0 0"), "17 0 0 0 0");
+        holds(&format!("tier {d} {m} 1997 7 4 12 0 0"), "0 0 0 0 0");
+        holds(&format!("seasoned {d} {m} 1997 7 4"), "0 0 0 0");
         holds(&format!("matrix {d} {m}"), &format!("0 0 0 {}", "0".repeat(660)));
     }
     // With the printed size of 131 octets instead, Table 54 isn't of the size that
@@ -495,6 +503,9 @@ fn annex_c_table_51_set_3_with_contents() {
         holds(&format!("tier {d} {m} 1997 12 25 11 59 1"), "0 0 0 0 0");
         // 1 January 1990, a Monday: season 0, schedule 3.
         holds(&format!("tier {d} {m} 1990 1 1 0 0 0"), "0 0 0 0 3");
+        // A season record stands at 1 January 1990: on or before every day.
+        holds(&format!("seasoned {d} {m} 1990 1 1"), "0 0 0 1");
+        holds(&format!("seasoned {d} {m} 2089 12 31"), "0 0 0 1");
         holds(&format!("matrix {d} {m}"), &format!("0 0 0 {cells}"));
         // Item 14, the date of record 2: 25 December 1997 is CE61 hex.
         holds(&format!("number {d} {m} 14 1 2 0 0 0"), "0 0 0 52833");
@@ -507,13 +518,14 @@ fn annex_c_table_51_set_3_with_contents() {
 }
 
 /// Annex C, Table 51, sets 1, 2 and 4: all zeros, so Table 54 has no octets and
-/// no season.
+/// no season: season 0 has no row.
 #[test]
 fn annex_c_table_51_other_sets() {
     let d = tou_tables();
     let m = image(&format!("00|{}", "00".repeat(9)));
     sizes(&d, &m, &[(51, 1, 9), (54, 10, 0)]);
-    holds(&format!("tier {d} {m} 1997 7 4 12 0 0"), "17 0 0 0 0");
+    holds(&format!("tier {d} {m} 1997 7 4 12 0 0"), "19 0 0 0 0");
+    holds(&format!("seasoned {d} {m} 1997 7 4"), "0 0 0 0");
     holds(&format!("matrix {d} {m}"), &format!("0 0 0 {}", "0".repeat(660)));
 }
 

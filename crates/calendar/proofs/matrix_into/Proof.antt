@@ -1,8 +1,7 @@
 -- `calendar::matrix_into`: refused, or the cells set to the rows of the calendar found. Assumes nothing.
-use mathlib.Core.Path.{_∙_, subst}
+use mathlib.Core.Path.{_∙_}
 use Rattle.meaning.specs.Calendar.{matrixIn, matrixReply, matrixVerdictIn, matrixVerdict, cellsAfter}
-use Rattle.calendar.specs.Sections.{Stands}
-use Rattle.calendar.proofs.Laws.{asked}
+use Rattle.calendar.proofs.Laws.{asked, part-sized}
 use borrow.Author.Needs.{needs}
 use Rattle.calendar.proofs.matrix_into.Statement.{statement}
 use Rattle.calendar.proofs.matrix_into.Tie as tie
@@ -16,10 +15,7 @@ matrix-into-spec =
     (λ c. search needs)
     (λ c. search needs)
     (λ c κs. search needs)
-    (λ c κs.
-    let start = c .before .before .before .before .before .before .before in
-    let at = c .before .before .calendar2 .given .1 in
-    rw (c .part .ensures .0) (subst (Stands (start .args .image .now)) at (c .before .before .before .before .calendar-at .ensures .1)))
+    (λ c κs. part-sized _ _ (c .before .before .before .before .calendar-at .ensures .1) (c .before .before .calendar2 .given .1) (c .part .ensures .0))
     (λ c.
     let told = asked matrixVerdictIn _ _ _ (c .before .before .before .calendar-at .ensures .0) (c .before .calendar .given .1) in
     (told, rw (← told)))

@@ -1,8 +1,7 @@
 -- `calendar::tier`: refused, or by the calendar found. Assumes nothing.
-use mathlib.Core.Path.{_∙_, subst}
+use mathlib.Core.Path.{_∙_}
 use Rattle.meaning.specs.Calendar.{tierIn, tierReply}
-use Rattle.calendar.specs.Sections.{Stands}
-use Rattle.calendar.proofs.Laws.{asked}
+use Rattle.calendar.proofs.Laws.{asked, part-sized}
 use borrow.Author.Needs.{needs}
 use Rattle.calendar.proofs.tier.Statement.{statement}
 use Rattle.calendar.proofs.tier.Tie as tie
@@ -18,9 +17,7 @@ tier-spec =
     (λ c κs. search needs)
     (λ c κs. search needs)
     (λ c κs.
-    let start = c .before .before .before .before .before .before .before .before in
-    rw (c .part .ensures .0)
-    (subst (Stands (start .args .image .now)) (c .before .before .before .calendar2 .given .1) (c .before .before .before .before .before .calendar-at .ensures .1)))
+    part-sized _ _ (c .before .before .before .before .before .calendar-at .ensures .1) (c .before .before .before .calendar2 .given .1) (c .part .ensures .0))
     (λ c. asked (tierIn _ _) _ _ _ (c .before .before .before .calendar-at .ensures .0) (c .before .calendar .given .1))
     (λ c.
     let calendar-at = c .before .before .before .before .before .before .calendar-at in

@@ -1,4 +1,4 @@
--- `calendar::tier_on`: no season, no row or column, a schedule. Assumes nothing.
+-- `calendar::tier_on`: no row or column, a schedule. Assumes nothing.
 use mathlib.Core.Path.{_∙_}
 use Rattle.meaning.specs.Calendar.{tierOn}
 use Rattle.calendar.proofs.Laws.{has-place}
@@ -11,24 +11,16 @@ unfolding tierOn
 tier-on-spec =
     tie.close
     (tie.spec
-    (λ c. search needs)
-    (λ c. search needs)
-    (λ c. search needs)
     (λ c κs. search needs)
     (λ c κs. search needs)
-    (λ c.
-    rw (c .before .before .before .before .before .season .given .1, ← c .before .before .missing-special .ensures, ← c .before .either .ensures, c .if1 .taken))
+    (λ c. rw (← c .before .before .missing-special .ensures, ← c .before .either .ensures, c .if1 .taken))
     (λ c κs. search needs)
     (λ c κs.
-    let start = c .before .before .before .before .before .before .before .before .before in
+    let start = c .before .before .before .before .before .before in
     has-place _ _ _ _ _ _ _ (start .pre) (c .before .before .before .missing-special .ensures)
     (c .before .before .either .ensures) (c .before .if1 .left) _ (c .column-on .ensures))
     (λ c κs. search needs)
-    (λ c. rw (c .enum-told .given .1))
-    (λ c.
-    let season = c .before .before .before .before .before .before .before .before .season in
-    c .tier-at .ensures ∙ rw (
-      season .given .1,
+    (λ c. c .tier-at .ensures ∙ rw (
       ← c .before .before .before .before .before .missing-special .ensures,
       ← c .before .before .before .before .either .ensures,
       c .before .before .before .if1 .left,

@@ -2,12 +2,11 @@
 use mathlib.Core.Path.{refl}
 use borrow.Author.Needs.{needs, zero≤}
 use Rattle.meaning.specs.Questions.{toldTo, replyTo, octetsTo, imageAfter, outcomeOf}
-use Rattle.lines.specs.Answer.{tierLimits, rows, rowAt, formOf, limits, asked}
+use Rattle.lines.specs.Answer.{tierLimits, dateLimits, rows, rowAt, formOf, limits, asked}
 use Rattle.lines.proofs.AskLaws.{asks, asks-none, past, beyond, fits-at, fits-all}
 use Rattle.lines.proofs.ask.ask.Statement.{statement}
 use Rattle.lines.proofs.ask.ask.Tie as tie
 
--- a row that is none of the twelve
 pub ask-spec : {M : Type 1} → statement M
 unfolding rows rowAt formOf limits asked toldTo replyTo octetsTo imageAfter outcomeOf
 ask-spec =
@@ -78,7 +77,12 @@ ask-spec =
     (λ c κs. search needs)
     (λ c. search needs)
     (λ c. asks 11 (c .before .before .before .if12 .taken) (rw (c .verdict-told5 .ensures, c .before .matrix-verdict .ensures)) refl refl)
+    (λ c κs. search (fits-all 12 dateLimits refl))
+    (λ c κs. search needs)
+    (λ c κs. search needs)
+    (λ c. search needs)
+    (λ c. asks 12 (c .before .before .before .before .if13 .taken) (rw (c .told4 .ensures, c .before .seasoned .ensures, c .before .before .date .ensures)) refl refl)
     (λ c κs. search needs)
     (λ c.
-    let start = c .before .before .before .before .before .before .before .before .before .before .before .before .before .before .before .before in
-    beyond (start .pre .0) (search (past 0, past 1, past 2, past 3, past 4, past 5, past 6, past 7, past 8, past 9, past 10, past 11, zero≤) depth 15)))
+    let start = c .before .before .before .before .before .before .before .before .before .before .before .before .before .before .before .before .before in
+    beyond (start .pre .0) (search (past 0, past 1, past 2, past 3, past 4, past 5, past 6, past 7, past 8, past 9, past 10, past 11, past 12, zero≤) depth 16)))
