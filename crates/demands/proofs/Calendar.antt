@@ -21,6 +21,7 @@ use Rattle.meaning.specs.Calendar.{realDate, realTime, dayNumber, datesOf, seas
 use Rattle.meaning.proofs.Either.{tested, clash}
 use Rattle.meaning.proofs.Rules.{either-false}
 use Rattle.almanac.specs.Choices.{SeasonStands, SwitchSays}
+use Rattle.almanac.specs.Days.{numberOf}
 use Rattle.almanac.proofs.Tests.{both-true}
 use Rattle.almanac.proofs.Choices.{season-says, special-says, stands-chosen, switch-says}
 use Rattle.almanac.proofs.Matrix.{FoundIn, there, absent, calendar-found, matrix-found, matrix-fifteen}
@@ -46,7 +47,7 @@ module _ (c : Controls) (day : ℕ) (dates : List Triple) where
 
 -- THE SEASON on a day
 module _ (day : ℕ) (dates : List Triple) where
-  -- one stands, or none does
+  -- none stands where the test says so
   none-stands : seasonStands day dates ≡ false → SeasonStands day dates → ⊥
   none-stands e s = true≢false (sym (season-says day dates .stands .1 s) ∙ e)
 
@@ -182,17 +183,14 @@ module _ (o : ℕ) (c : Controls) (t : List ℕ) (w : Moment) (q : Quantity) whe
 
 -- WHETHER A SEASON RECORD STANDS in a calendar that is found
 module _ (o : ℕ) (c : Controls) (b : List ℕ) (t : Date) where
-  abbrev dayAsked : ℕ
-  dayAsked = dayNumber (t .year) (t .month) (t .day)
-
   abbrev Stands : Type 0
-  Stands = SeasonStands dayAsked (datesOf o c b)
+  Stands = SeasonStands (numberOf t) (datesOf o c b)
 
   -- the reply is one of these
   pub data Stood (x : Reply) : Type 0 where
     unreal : (r : Refusal) → x ≡ Reply.Refused r → (Dated Verdict.Passed t → ⊥) → Stood x
     stands : x ≡ Reply.Yes → Dated Verdict.Passed t → Stands → Stood x
-    none-yet : x ≡ Reply.No → Dated Verdict.Passed t → (Stands → ⊥) → Stood x
+    stands-none : x ≡ Reply.No → Dated Verdict.Passed t → (Stands → ⊥) → Stood x
 
   -- whichever
   pub stood : Stood (seasonedIn t (found o c b))
@@ -202,14 +200,14 @@ module _ (o : ℕ) (c : Controls) (b : List ℕ) (t : Date) where
       (λ e. unreal _ refl (λ d. true≢false (sym (d .date) ∙ not-true _ e)))
       (λ e.
       let dated : Dated Verdict.Passed t = record { calendar = refl; date = not-false _ e } in
-      tested Stood (seasonStands dayAsked (datesOf o c b)) _ _
-      (λ f. stands refl dated (season-says dayAsked (datesOf o c b) .stands .0 f))
-      (λ f. none-yet refl dated (none-stands dayAsked (datesOf o c b) f)))
+      tested Stood (seasonStands (numberOf t) (datesOf o c b)) _ _
+      (λ f. stands refl dated (season-says (numberOf t) (datesOf o c b) .stands .0 f))
+      (λ f. stands-none refl dated (none-stands (numberOf t) (datesOf o c b) f)))
 
   stood-told : (x : Reply) → Stood x → SeasonedAnswers o c b Verdict.Passed t x
   stood-told x (unreal r e n) = record { yes = (λ f. clash (cc), λ h. absurd (n (h .0))); no = (λ f. clash (cc), λ h. absurd (n (h .0))) }
   stood-told x (stands e d s) = record { yes = (λ f. (d, s), λ h. e); no = (λ f. clash (cc), λ h. absurd (h .1 s)) }
-  stood-told x (none-yet e d s) = record { yes = (λ f. clash (cc), λ h. absurd (s (h .1))); no = (λ f. (d, s), λ h. e) }
+  stood-told x (stands-none e d s) = record { yes = (λ f. clash (cc), λ h. absurd (s (h .1))); no = (λ f. (d, s), λ h. e) }
 
 -- OUR REPLIES: a calendar is found in the octets of the two tables, or every reply is the refusal
 tier-in : {o : ℕ} {a b : List ℕ} {x : Found} → FoundIn o a b x → (w : Moment) (q : Quantity) → TierSays o a b (matrixVerdictIn x) w q (tierIn w q x)

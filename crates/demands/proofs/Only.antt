@@ -16,8 +16,7 @@ use Rattle.meaning.specs.Calendar.{Found, found, missing, calendar, tierIn, tie
 use Rattle.demands.specs.Demands.{Demands}
 use Rattle.demands.specs.Replies.{Replies, ours}
 use Rattle.demands.specs.Same.{Same}
-use Rattle.demands.proofs.Calendar.{OneOf, refusal, none, tier, answer, Stood, stood}
-use Rattle.demands.proofs.Calendar as reply
+use Rattle.demands.proofs.Calendar.{OneOf, refusal, none, tier, answer, Stood, unreal, stands, stands-none, stood}
 use Rattle.demands.proofs.OnlyCalendar as kinds
 use Rattle.demands.proofs.OnlyCalendar.{TierKind, SeasonedKind, had-only, matrix-only, cells-only, tier-only, seasoned-only}
 use Rattle.demands.proofs.OnlyImages.{range-image-only, octets-image-only, number-image-only}
@@ -51,9 +50,9 @@ unfolding seasonedReply seasonedIn
 seasoned-kind d img t = go (calendar d img)
   where
     kind : (o : ℕ) (c : Controls) (b : List ℕ) (x : Reply) → Stood o c b t x → SeasonedKind x
-    kind o c b x (reply.unreal r e n) = kinds.barred r e
-    kind o c b x (reply.stands e dated s) = kinds.stands e
-    kind o c b x (reply.none-yet e dated s) = kinds.before e
+    kind o c b x (unreal r e n) = kinds.barred r e
+    kind o c b x (stands e dated s) = kinds.stands e
+    kind o c b x (stands-none e dated s) = kinds.before e
 
     go : (x : Found) → SeasonedKind (seasonedIn t x)
     go (missing r) = kinds.barred r refl

@@ -16,6 +16,7 @@ use Rattle.meaning.specs.declared.Triple.{Triple}
 use Rattle.meaning.specs.declared.Verdict.{Verdict}
 use Rattle.meaning.specs.Calendar.{realDate, realTime, dayNumber, weekdayOf, controlsOf, matrixAt, dayColumns, rowWidth, datesOf, switchesOf, dayColumn}
 use Rattle.meaning.specs.Passed.{Exactly}
+use Rattle.almanac.specs.Days.{IsReal, numberOf}
 use Rattle.almanac.specs.Latest.{_among_}
 use Rattle.almanac.specs.Choices.{SeasonChosen, SeasonStands, SelectsSpecial, SpecialChosen, Switches, SwitchChosen}
 use Rattle.almanac.specs.Matrix.{Fifteen, Shown}
@@ -77,11 +78,11 @@ TierSays o a b had w q reply = TierAnswers o (controlsOf o a) b had w q reply
 -- has no part in it, nor whether the season has a row
 pub record Dated (had : Verdict) (t : Date) : Type 0 where
   pub calendar : had ≡ Verdict.Passed
-  pub date : realDate (t .year) (t .month) (t .day) ≡ true
+  pub date : IsReal t
 
 module _ (o : ℕ) (c : Controls) (b : List ℕ) (had : Verdict) (t : Date) where
   abbrev Stands : Type 0
-  Stands = SeasonStands (dayNumber (t .year) (t .month) (t .day)) (datesOf o c b)
+  Stands = SeasonStands (numberOf t) (datesOf o c b)
 
   pub record SeasonedAnswers (reply : Reply) : Type 0 where
     pub yes : Exactly (reply ≡ Reply.Yes) (Dated had t × Stands)
