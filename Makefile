@@ -1,13 +1,13 @@
-# The library for C: built, installed, and the sample program over it. `rt` proves every crate that the archive is
+# The library for C: built, installed, and the sample programs over it. `rt` proves every crate that the archive is
 # made of before it writes the archive. What it proved it keeps in target/, so only what changed is proved again.
 #
 #     make                          target/staticlib/libbilashonge.a
 #     make install PREFIX=/where    header, archive and bilashonge.pc; DESTDIR goes before PREFIX, for packagers
-#     make sample                   target/sample/tablet
-#     make clean                    removes both, and keeps what is proved
+#     make sample                   target/sample/tablet, target/sample/bench
+#     make clean                    removes archive and samples, and keeps what is proved
 
 # The one place that holds the version.
-VERSION := 0.2.0
+VERSION := 0.3.0
 PREFIX := /usr/local
 DESTDIR :=
 
@@ -46,7 +46,7 @@ all: $(ARCHIVE)
 # interface stands on several crates at a time; `rt staticlib` would prove one after another.
 $(BUILT): crates.txt $(shell find crates -name '*.rt' -o -name '*.antt')
 	rm -f $@
-	rt check access calendar replies
+	rt check messages calendar replies
 	rt staticlib bilashonge
 
 install: $(ARCHIVE)
@@ -60,6 +60,7 @@ install: $(ARCHIVE)
 sample: $(ARCHIVE)
 	mkdir -p target/sample
 	$(CC) $(CFLAGS) -Iinclude -o target/sample/tablet sample/tablet.c $(ARCHIVE)
+	$(CC) $(CFLAGS) -Iinclude -o target/sample/bench sample/bench.c $(ARCHIVE)
 
 clean:
 	rm -rf target/staticlib target/sample

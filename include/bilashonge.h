@@ -10,13 +10,15 @@
  * EVERY CALL IS ANSWERED OR REFUSED. A reply begins with a struct bilashonge_refusal. Where its
  * number is 0 the question is answered. Else it is one of enum bilashonge_refusal_number, the reply's
  * other numbers are 0, and no octet that was lent has changed. Any octets may be lent as description,
- * image or data: damaged ones are refused, not misread.
+ * image, data or message: damaged ones are refused, not misread. (bilashonge_read_request alone has
+ * no refusal: what is wrong with a request is told by the octet that a meter replies.)
  *
  * POINTERS. An octet pointer comes with its length right behind it. It may be null where that length
  * is 0, and must otherwise point to that many octets. A pointer to subscripts comes with their count,
- * likewise. cells must not be null. Memory that a call may write (image in the three writes, cells in
- * bilashonge_matrix) must not overlap any other memory lent to that call; memory that is only read
- * may overlap. What is written: image in place, its length never changes; cells whole. Nothing else.
+ * likewise. cells must not be null. Memory that a call may write (image in the three writes and in
+ * bilashonge_serve, cells in bilashonge_matrix, room) must not overlap any other memory lent to that
+ * call; memory that is only read may overlap. What is written: image in place, its length never
+ * changes; cells whole; of room the octets of the message, from its first on. Nothing else.
  *
  * ITEMS of a description, by bits 31 to 28, with what stands in the other bits (all else is 0):
  *   1 TABLE  27 manufacturer's, 26..16 number, 15 writable, 14..0 items in its body
@@ -28,6 +30,25 @@
  * A reference is 27..22 slot, 21..17 low bit, 16..12 width less 1: so many bits of the slot's number, bit
  * 0 least significant. Items in a body are counted with all that is nested in them. A UINT that keeps its
  * number in a slot is a dimension: later items are laid out by it, so no write may touch it.
+ *
+ * MESSAGES of ANSI C12.18, an octet a cell, numbers most significant octet first:
+ *
+ *   full read     30 | id .. |
+ *   offset read   3F | id .. | offset .. .. | count .. |
+ *   full write    40 | id .. | count .. | data ... | check |
+ *   offset write  4F | id .. | offset .. .. | count .. | data ... | check |
+ *
+ *   reply to a good read    00 | count .. | data ... | check |
+ *   reply to a good write   00 |
+ *   a request refused       01 | faulty: empty, of a wrong length, or a wrong check octet
+ *                           02 | no such request: the first octet is none of the four
+ *                           03 | the table isn't writable (refusal 13)
+ *                           04 | any other refusal of the tables, 1 to 9 included
+ *
+ * id is a table's number, for a manufacturer's table plus 2,048; over 4,095 it names no table. count
+ * is that of the data octets; check is what makes the sum of data and check a multiple of 256: the
+ * data octets added up, wrapping at 256, then negated. The longest message is an offset write of
+ * 65,535 data octets, 65,544 octets in all.
  *
  * NUMBERS. Octets, items, tables' offsets and subscripts count from 0. Structs hold uint64_t alone,
  * so they have no padding. Structs are returned by value. The library is compiled for x86-64 Linux
@@ -47,9 +68,9 @@ extern "C" {
 
 /*
  * Why a question is refused. Of all that apply, a question gives the first in this order: 1 to 9,
- * then 10 to 15; a question about the calendar 1 to 9, 10, 20, 16, 18, 19. 2 to 7 report the
- * first item that breaks a rule, with the lowest number of those that it breaks. 17 is reserved: it
- * was given for a day before every season record, which is now in season 0.
+ * then 10 to 15; a question about the calendar 1 to 9, 10, 20, 16, 18, 19. A message gives 21 or 43
+ * alone. 2 to 7 report the first item that breaks a rule, with the lowest number of those that it
+ * breaks. 17 is reserved: it was given for a day before every season record, which is now in season 0.
  */
 enum bilashonge_refusal_number {
     BILASHONGE_ANSWERED = 0,             /* not refused */
@@ -72,7 +93,9 @@ enum bilashonge_refusal_number {
     BILASHONGE_RESERVED_17 = 17,         /* no longer given */
     BILASHONGE_SEASON_CHANGE_ARMED = 18, /* SEASON_CHNG_ARMED_FLAG set */
     BILASHONGE_NO_ROW_OR_COLUMN = 19,    /* season or special schedule without a row or column; no seasons at all */
-    BILASHONGE_NOT_A_CALENDAR = 20       /* Table 51 isn't 9 octets, or Table 54 not of the size it says */
+    BILASHONGE_NOT_A_CALENDAR = 20,      /* Table 51 isn't 9 octets, or Table 54 not of the size it says */
+    BILASHONGE_NO_ROOM = 21,             /* message longer than room; a number or a kind that its field can't hold */
+    BILASHONGE_NOT_A_REPLY = 43          /* octets that are no reply of a meter */
 };
 
 /* number: of enum bilashonge_refusal_number. item: of the description, with 2 to 7 and 9. octet: of
@@ -83,7 +106,8 @@ struct bilashonge_refusal {
     uint64_t octet;
 };
 
-/* total: of octets used, from octet 0 to the end of the last table. */
+/* total: of octets used: of an image, from octet 0 to the end of the last table; of a room, by the
+ * message that was put into it. */
 struct bilashonge_total {
     struct bilashonge_refusal refusal;
     uint64_t total;
@@ -113,6 +137,44 @@ struct bilashonge_tier {
 struct bilashonge_answer {
     struct bilashonge_refusal refusal;
     uint64_t yes;
+};
+
+/* The kinds of requests: the first octet of each. */
+enum bilashonge_request_kind {
+    BILASHONGE_FULL_READ = 0x30,
+    BILASHONGE_OFFSET_READ = 0x3F,
+    BILASHONGE_FULL_WRITE = 0x40,
+    BILASHONGE_OFFSET_WRITE = 0x4F
+};
+
+/* The kinds of replies. */
+enum bilashonge_reply_kind {
+    BILASHONGE_REPLY_DATA = 1,
+    BILASHONGE_REPLY_DONE = 2,
+    BILASHONGE_REPLY_REFUSED = 3
+};
+
+/* A request that was read. code: 0, or the octet that a meter refuses it by, 1 or 2, and then all
+ * else is 0. kind: of enum bilashonge_request_kind. offset: 0 in the full forms. count: of octets to
+ * be read or written, 0 in a full read. start: where a write's data start, counted in the request; 0 in
+ * the reads, which have none. */
+struct bilashonge_request {
+    uint64_t code;
+    uint64_t kind;
+    uint64_t id;
+    uint64_t offset;
+    uint64_t count;
+    uint64_t start;
+};
+
+/* A reply that was read. kind: of enum bilashonge_reply_kind. code: the octet that refuses, 1 to 4,
+ * else 0. count: of data octets, and start: where they start, counted in the reply; else 0. */
+struct bilashonge_reply {
+    struct bilashonge_refusal refusal;
+    uint64_t kind;
+    uint64_t code;
+    uint64_t count;
+    uint64_t start;
 };
 
 /* What a tier is asked for. Any number but 0 is taken for demands. */
@@ -150,6 +212,17 @@ struct bilashonge_place bilashonge_table_place(
     const uint8_t *description, size_t description_length,
     const uint8_t *image, size_t image_length,
     uint32_t manufacturer, uint32_t number);
+
+/*
+ * WHERE IS THIS RANGE OF A TABLE? length octets from offset on, offset counted in the table. They are
+ * image + start, length of them; or 1 to 10 and 12. A range of no octets, at an offset up to the
+ * table's length, is answered.
+ */
+struct bilashonge_place bilashonge_range_place(
+    const uint8_t *description, size_t description_length,
+    const uint8_t *image, size_t image_length,
+    uint32_t manufacturer, uint32_t number,
+    size_t offset, size_t length);
 
 /*
  * WHERE IS THIS ELEMENT? Its octets are image + start, length of them; or 1 to 9 and 11. An element
@@ -232,6 +305,55 @@ struct bilashonge_refusal bilashonge_matrix(
     const uint8_t *description, size_t description_length,
     const uint8_t *image, size_t image_length,
     uint8_t cells[BILASHONGE_MATRIX_ROWS][BILASHONGE_MATRIX_COLUMNS]);
+
+/*
+ * ANSWER A REQUEST, as a meter with these tables would: the reply is put into room, from its first
+ * octet on, total octets long. A good write is made in image, as bilashonge_write_range makes it; a
+ * full write's count must be the table's length. A request that is refused is answered by the octet
+ * that says so, and changes image nowhere. The call itself is refused by 21 alone, where the reply is
+ * longer than room: then nothing is written, neither image nor room. A room of one octet holds every
+ * reply to a write, one of four octets more than are read the reply to a read; 65,539 hold any.
+ */
+struct bilashonge_total bilashonge_serve(
+    const uint8_t *description, size_t description_length,
+    uint8_t *image, size_t image_length,
+    const uint8_t *request, size_t request_length,
+    uint8_t *room, size_t room_length);
+
+/*
+ * READ A REQUEST. Its id is told as it came, also where it names no table. Written again, with
+ * request + start and count octets as a write's data and none for a read, it has the same octets.
+ */
+struct bilashonge_request bilashonge_read_request(
+    const uint8_t *request, size_t request_length);
+
+/*
+ * WRITE A REQUEST into room, total octets long; or 21: id or count over 65,535, offset over
+ * 16,777,215, over 65,535 data octets, room too short, or kind none of enum bilashonge_request_kind.
+ * Then room is left as it is. What a form lacks isn't looked at: offset in the full forms, count but
+ * in the offset read (a write's is data_length), data in the reads. Reading what was written gives it
+ * back.
+ */
+struct bilashonge_total bilashonge_write_request(
+    uint64_t kind, uint64_t id, uint64_t offset, uint64_t count,
+    const uint8_t *data, size_t data_length,
+    uint8_t *room, size_t room_length);
+
+/*
+ * READ A REPLY; or 43, where it has none of the three forms, as a single octet of 05 or more.
+ */
+struct bilashonge_reply bilashonge_read_reply(
+    const uint8_t *reply, size_t reply_length);
+
+/*
+ * WRITE A REPLY into room, total octets long; or 21: over 65,535 data octets, a code other than 1 to
+ * 4, room too short, or kind none of enum bilashonge_reply_kind. Then room is left as it is. code is
+ * looked at in a refusal alone, data in a reply to a read alone.
+ */
+struct bilashonge_total bilashonge_write_reply(
+    uint64_t kind, uint64_t code,
+    const uint8_t *data, size_t data_length,
+    uint8_t *room, size_t room_length);
 
 #ifdef __cplusplus
 }

@@ -1,6 +1,7 @@
 /*
  * Calls of the C interface with octets and replies written by hand: what the line language can't ask, and the
- * document 01's starred examples. Prints how many checks there were; fails where one does.
+ * document 01's starred examples. There is more on messages in messages.c. Prints how many checks there were;
+ * fails where one does.
  */
 #include "bilashonge.h"
 
@@ -48,6 +49,14 @@ static const uint8_t D_unset[] = {
 static const uint8_t first_image[] = {0x00, 0x82, 0xaa, 0xbb, 0x34, 0x12, 0x78, 0x56};
 static const uint8_t second_image[] = {0x01, 0x02, 0x34, 0x12, 0x78, 0x56};
 static const uint8_t bare_image[] = {0x00, 0x00};
+
+/* Table 256, writable, with a BLOCK of one octet. Its item's first three octets are a full read of it. */
+static const uint8_t asking_description[] = {
+    0x10, 0x00, 0x00, 0x01, 0x20, 0x10, 0x00, 0x00, 0x11, 0x00, 0x80, 0x01, 0x30, 0x01, 0x00, 0x00,
+};
+static const uint8_t asking_image[] = {0x00, 0x5a};
+static const uint8_t full_read[] = {0x30, 0x01, 0x00};
+static const uint8_t its_reply[] = {0x00, 0x00, 0x01, 0x5a, 0xa6};
 
 /* The starred calendar. Table 51 is a BLOCK of 9 octets and Table 54 one of 12. A record selects season 0
  * from 1 January 2024 on; each day of it has schedule 1, which switches at 00:00 to tier 0 and at 07:30 to
@@ -193,6 +202,31 @@ static bool no_place(struct bilashonge_place place, uint64_t number)
     return refused(place.refusal, number) && place.start == 0 && place.length == 0;
 }
 
+/* Nothing is told of a request but the octet that refuses it. */
+static bool no_request(struct bilashonge_request request, uint64_t code)
+{
+    return request.code == code && request.kind == 0 && request.id == 0 && request.offset == 0
+           && request.count == 0 && request.start == 0;
+}
+
+static bool is_reply(struct bilashonge_reply reply, uint64_t kind, uint64_t code, uint64_t count,
+                     uint64_t start)
+{
+    return answered(reply.refusal) && reply.kind == kind && reply.code == code && reply.count == count
+           && reply.start == start;
+}
+
+static bool no_reply(struct bilashonge_reply reply)
+{
+    return refused(reply.refusal, 43) && reply.kind == 0 && reply.code == 0 && reply.count == 0
+           && reply.start == 0;
+}
+
+static bool no_message(struct bilashonge_total total)
+{
+    return refused(total.refusal, 21) && total.total == 0;
+}
+
 static bool is_number(struct bilashonge_number number, uint64_t value)
 {
     return answered(number.refusal) && number.number == value;
@@ -250,6 +284,19 @@ static void structs(void)
     CHECK(sizeof(struct bilashonge_answer) == 32);
     CHECK(offsetof(struct bilashonge_answer, refusal) == 0);
     CHECK(offsetof(struct bilashonge_answer, yes) == 24);
+    CHECK(sizeof(struct bilashonge_request) == 48);
+    CHECK(offsetof(struct bilashonge_request, code) == 0);
+    CHECK(offsetof(struct bilashonge_request, kind) == 8);
+    CHECK(offsetof(struct bilashonge_request, id) == 16);
+    CHECK(offsetof(struct bilashonge_request, offset) == 24);
+    CHECK(offsetof(struct bilashonge_request, count) == 32);
+    CHECK(offsetof(struct bilashonge_request, start) == 40);
+    CHECK(sizeof(struct bilashonge_reply) == 56);
+    CHECK(offsetof(struct bilashonge_reply, refusal) == 0);
+    CHECK(offsetof(struct bilashonge_reply, kind) == 24);
+    CHECK(offsetof(struct bilashonge_reply, code) == 32);
+    CHECK(offsetof(struct bilashonge_reply, count) == 40);
+    CHECK(offsetof(struct bilashonge_reply, start) == 48);
 }
 
 static void enums(void)
@@ -275,6 +322,15 @@ static void enums(void)
     CHECK(BILASHONGE_SEASON_CHANGE_ARMED == 18);
     CHECK(BILASHONGE_NO_ROW_OR_COLUMN == 19);
     CHECK(BILASHONGE_NOT_A_CALENDAR == 20);
+    CHECK(BILASHONGE_NO_ROOM == 21);
+    CHECK(BILASHONGE_NOT_A_REPLY == 43);
+    CHECK(BILASHONGE_FULL_READ == 48);
+    CHECK(BILASHONGE_OFFSET_READ == 63);
+    CHECK(BILASHONGE_FULL_WRITE == 64);
+    CHECK(BILASHONGE_OFFSET_WRITE == 79);
+    CHECK(BILASHONGE_REPLY_DATA == 1);
+    CHECK(BILASHONGE_REPLY_DONE == 2);
+    CHECK(BILASHONGE_REPLY_REFUSED == 3);
     CHECK(BILASHONGE_SUMMATIONS == 0);
     CHECK(BILASHONGE_DEMANDS == 1);
     CHECK(BILASHONGE_MATRIX_ROWS == 15);
@@ -429,6 +485,8 @@ static void null_description(void)
     CHECK(no_answer(bilashonge_seasoned(NONE, OCTETS(image), 2024, 3, 5), 1));
     CHECK(no_answer(bilashonge_seasoned(NONE, NONE, 2024, 3, 5), 1));
     CHECK(refused(bilashonge_matrix(NONE, OCTETS(image), cells), 1));
+    CHECK(no_place(bilashonge_range_place(NONE, OCTETS(image), 0, 5, 0, 1), 1));
+    CHECK(no_place(bilashonge_range_place(NONE, NONE, 0, 5, 0, 1), 1));
     CHECK(SAME(image, first_image));
     total = bilashonge_layout(NONE, NONE);
     CHECK(refused(total.refusal, 1) && total.total == 0);
@@ -455,6 +513,36 @@ static void null_image(void)
     struct bilashonge_answer answer = bilashonge_seasoned(OCTETS(clock_description), NONE, 2024, 3, 5);
     CHECK(is_refusal(answer.refusal, 9, 1, 0) && answer.yes == 0);
     CHECK(is_refusal(bilashonge_matrix(OCTETS(clock_description), NONE, cells), 9, 1, 0));
+    place = bilashonge_range_place(OCTETS(D), NONE, 0, 5, 0, 0);
+    CHECK(is_refusal(place.refusal, 9, 1, 0) && place.start == 0 && place.length == 0);
+}
+
+/* A message of no octets, a room of none, and null pointers to them. A meter without description or image
+ * answers a good request by 04, an empty one by 01. */
+static void null_messages(void)
+{
+    static const uint8_t one_octet[] = {0x01, 0xcc}, four[] = {0x04, 0xcc}, data[] = {0x01};
+    uint8_t image[sizeof asking_image], room[2] = {0xcc, 0xcc};
+    memcpy(image, asking_image, sizeof image);
+    CHECK(no_message(bilashonge_serve(NONE, NONE, NONE, NONE)));
+    CHECK(no_message(bilashonge_serve(OCTETS(asking_description), OCTETS(image), NONE, NONE)));
+    CHECK(no_message(bilashonge_serve(OCTETS(asking_description), OCTETS(image), OCTETS(full_read), NONE)));
+    CHECK(is_total(bilashonge_serve(NONE, NONE, NONE, OCTETS(room)), 1) && SAME(room, one_octet));
+    CHECK(is_total(bilashonge_serve(NONE, NONE, OCTETS(full_read), OCTETS(room)), 1) && SAME(room, four));
+    CHECK(is_total(bilashonge_serve(OCTETS(asking_description), OCTETS(image), NONE, OCTETS(room)), 1));
+    CHECK(SAME(room, one_octet));
+    CHECK(is_total(bilashonge_serve(NONE, OCTETS(image), OCTETS(full_read), OCTETS(room)), 1));
+    CHECK(SAME(room, four) && SAME(image, asking_image));
+    CHECK(no_request(bilashonge_read_request(NONE), 1));
+    CHECK(no_reply(bilashonge_read_reply(NONE)));
+    CHECK(no_message(bilashonge_write_request(BILASHONGE_FULL_READ, 5, 0, 0, NONE, NONE)));
+    CHECK(no_message(bilashonge_write_request(BILASHONGE_FULL_WRITE, 5, 0, 0, OCTETS(data), NONE)));
+    CHECK(no_message(bilashonge_write_request(0, 0, 0, 0, NONE, NONE)));
+    CHECK(no_message(bilashonge_write_reply(BILASHONGE_REPLY_DONE, 0, NONE, NONE)));
+    CHECK(no_message(bilashonge_write_reply(BILASHONGE_REPLY_DATA, 0, NONE, NONE)));
+    CHECK(no_message(bilashonge_write_reply(0, 0, NONE, NONE)));
+    CHECK(is_total(bilashonge_write_reply(BILASHONGE_REPLY_DONE, 0, NONE, OCTETS(room)), 1));
+    CHECK(room[0] == 0x00 && room[1] == 0xcc);
 }
 
 /* Data of no octets: accepted up to a table's end, too short for a BLOCK, and all that a SET of none has. */
@@ -898,6 +986,7 @@ static void description_in_image(void)
     memcpy(calendar + sizeof clock_image, clock_description, sizeof clock_description);
     CHECK(is_total(bilashonge_layout(within, sizeof D, OCTETS(image)), 8));
     CHECK(is_place(bilashonge_table_place(within, sizeof D, OCTETS(image), 0, 5), 2, 6));
+    CHECK(is_place(bilashonge_range_place(within, sizeof D, OCTETS(image), 0, 5, 1, 4), 3, 4));
     CHECK(is_place(bilashonge_element_place(within, sizeof D, OCTETS(image), 7, SUBSCRIPTS(one)), 6, 2));
     CHECK(is_number(bilashonge_element_number(within, sizeof D, OCTETS(image), 7, SUBSCRIPTS(one)),
                     0x5678));
@@ -918,6 +1007,7 @@ static void description_as_image(void)
 {
     CHECK(is_total(bilashonge_layout(OCTETS(D), OCTETS(D)), 2));
     CHECK(is_place(bilashonge_table_place(OCTETS(D), OCTETS(D), 0, 5), 2, 0));
+    CHECK(is_place(bilashonge_range_place(OCTETS(D), OCTETS(D), 0, 0, 1, 1), 1, 1));
     CHECK(no_answer(bilashonge_seasoned(OCTETS(new_description), OCTETS(new_description), 2024, 3, 5), 20));
 }
 
@@ -936,6 +1026,25 @@ static void other_overlaps(void)
     memcpy(&words[0], first_image, sizeof first_image);
     CHECK(is_number(bilashonge_element_number(OCTETS(D), (const uint8_t *)words, sizeof words, 7,
                                               &words[1], 1), 0x5678));
+}
+
+/* A request that stands in the description, and data that stand there: its octets 12 to 14 are 30 01 00. */
+static void messages_in_description(void)
+{
+    static const uint8_t written[] = {0x40, 0x01, 0x00, 0x00, 0x03, 0x30, 0x01, 0x00, 0xcf};
+    static const uint8_t replied[] = {0x00, 0x00, 0x03, 0x30, 0x01, 0x00, 0xcf};
+    const uint8_t *within = asking_description + 12;
+    uint8_t image[sizeof asking_image], room[sizeof written];
+    memcpy(image, asking_image, sizeof image);
+    CHECK(is_total(bilashonge_serve(OCTETS(asking_description), OCTETS(image), within, 3, OCTETS(room)), 5));
+    CHECK(memcmp(room, its_reply, sizeof its_reply) == 0 && SAME(image, asking_image));
+    struct bilashonge_request request = bilashonge_read_request(within, 3);
+    CHECK(request.code == 0 && request.kind == 48 && request.id == 256 && request.offset == 0);
+    CHECK(request.count == 0 && request.start == 0);
+    CHECK(is_total(bilashonge_write_request(BILASHONGE_FULL_WRITE, 256, 0, 0, within, 3, OCTETS(room)), 9));
+    CHECK(SAME(room, written));
+    CHECK(is_total(bilashonge_write_reply(BILASHONGE_REPLY_DATA, 0, within, 3, OCTETS(room)), 7));
+    CHECK(memcmp(room, replied, sizeof replied) == 0);
 }
 
 /* --------------------------------------------------------------------------------------- nothing is kept */
@@ -965,6 +1074,32 @@ static void two_descriptions_in_turn(void)
                                          1), 3));
         CHECK(is_answer(bilashonge_seasoned(OCTETS(clock_description), OCTETS(clock_image), 2024, 3, 5), 1));
         CHECK(is_answer(bilashonge_seasoned(OCTETS(new_description), OCTETS(new_image), 2024, 3, 5), 0));
+    }
+}
+
+/* What was put into a room is read where it stands, and its data are lent on from there. */
+static void messages_passed_on(void)
+{
+    static const uint8_t octets[] = {0x7e};
+    uint8_t image[sizeof asking_image], request[16], room[16], again[16];
+    memcpy(image, asking_image, sizeof image);
+    for (int turn = 0; turn < 3; turn++) {
+        struct bilashonge_total written =
+            bilashonge_write_request(BILASHONGE_OFFSET_WRITE, 256, 0, 0, OCTETS(octets), OCTETS(request));
+        CHECK(is_total(written, 10));
+        CHECK(is_total(bilashonge_serve(OCTETS(asking_description), OCTETS(image), request, 10, OCTETS(room)),
+                       1));
+        CHECK(is_reply(bilashonge_read_reply(room, 1), BILASHONGE_REPLY_DONE, 0, 0, 0));
+        CHECK(image[0] == 0x00 && image[1] == 0x7e);
+        CHECK(is_total(bilashonge_serve(OCTETS(asking_description), OCTETS(image), OCTETS(full_read),
+                                        OCTETS(room)), 5));
+        CHECK(is_reply(bilashonge_read_reply(room, 5), BILASHONGE_REPLY_DATA, 0, 1, 3));
+        CHECK(is_total(bilashonge_write_reply(BILASHONGE_REPLY_DATA, 0, room + 3, 1, OCTETS(again)), 5));
+        CHECK(memcmp(room, again, 5) == 0 && room[3] == 0x7e && room[4] == 0x82);
+        CHECK(no_reply(bilashonge_read_reply(room, 4)));
+        CHECK(answered(bilashonge_write_range(OCTETS(asking_description), OCTETS(image), 0, 256, 0,
+                                              asking_image + 1, 1)));
+        CHECK(SAME(image, asking_image));
     }
 }
 
@@ -1021,6 +1156,7 @@ int main(void)
     quantities();
     null_description();
     null_image();
+    null_messages();
     null_data();
     null_subscripts();
     cells_untouched();
@@ -1044,8 +1180,10 @@ int main(void)
     description_in_image();
     description_as_image();
     other_overlaps();
+    messages_in_description();
     two_images_in_turn();
     two_descriptions_in_turn();
+    messages_passed_on();
     image_changed_in_place();
     written_and_read();
     printf("%u checks, %u failed\n", checks, failures);

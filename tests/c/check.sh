@@ -1,5 +1,5 @@
 #!/usr/bin/env bash
-# tests/c/check.sh [COUNT]: the library as C sees it. Compiles the header alone; calls every function from C (calls.c, lines.c) and compares with replies written by hand
+# tests/c/check.sh [COUNT]: the library as C sees it. Compiles the header alone; calls every function from C (calls.c, messages.c, lines.c) and compares with replies written by hand
 # and with the second program, on COUNT random requests of each kind (20,000 unless told otherwise). Last, misdeeds done on purpose must be caught.
 # Builds the archive by `make`, unless the environment variable BILASHONGE_ARCHIVE names one. Prints a line for each part.
 set -euo pipefail
@@ -50,9 +50,16 @@ echo "archive: $(awk 'NF >= 3 && $2 == "T"' "$work/names" | wc -l) functions, th
 compile_c "$work/calls" tests/c/calls.c "$archive" -Iinclude "${sanitizers[@]}"
 told=$(run_c "$work/calls")
 echo "calls: $told"
+compile_c "$work/messages" tests/c/messages.c tests/c/lend.c "$archive" -Iinclude "${sanitizers[@]}"
+told=$(run_c "$work/messages")
+echo "messages: $told"
 cat >"$work/plus.cpp" <<'END'
 #include "bilashonge.h"
-int main() { return bilashonge_check(nullptr, 0).number == BILASHONGE_DESCRIPTION_LENGTH ? 0 : 1; }
+int main() {
+    bool unsound = bilashonge_check(nullptr, 0).number == BILASHONGE_DESCRIPTION_LENGTH;
+    bool no_reply = bilashonge_read_reply(nullptr, 0).refusal.number == BILASHONGE_NOT_A_REPLY;
+    return unsound && no_reply && bilashonge_read_request(nullptr, 0).code == 1 ? 0 : 1;
+}
 END
 # Linked as C, since it needs nothing of C++: Debian's cross compiler can't link C++ statically.
 compile_cpp "$work/plus.o" "$work/plus.cpp" -Iinclude -c -std=c++11
@@ -85,14 +92,14 @@ cp tests/second/examples.txt "$work/examples"
 compare examples tests/second/examples.expected
 write_odd_lines "$work"
 for what in odd long octets; do compare_with_second "$what"; done
-for kind in check places access calendar; do
+for kind in check places access calendar messages; do
     "$work/gen" 1 "$count" "$kind" >"$work/$kind"
     compare_with_second "$kind"
 done
 
 # WHAT MUST BE CAUGHT: another number in the header; another reply than expected; and each misdeed of misdeeds.c, by what is told of it
 mkdir "$work/changed"
-sed 's/BILASHONGE_NO_TABLE = 10,/BILASHONGE_NO_TABLE = 21,/' include/bilashonge.h >"$work/changed/bilashonge.h"
+sed 's/BILASHONGE_NO_TABLE = 10,/BILASHONGE_NO_TABLE = 99,/' include/bilashonge.h >"$work/changed/bilashonge.h"
 compile_c "$work/changed/calls" tests/c/calls.c "$archive" -I"$work/changed"
 if told=$(run_c "$work/changed/calls" 2>&1) || ! grep -q 'not so: BILASHONGE_NO_TABLE == 10' <<<"$told"; then
     echo "a header with another number isn't caught: $told"
@@ -105,24 +112,48 @@ if told=$(same_replies examples "$work/examples" "$work/expected" tests/second/e
 fi
 wraps=$(awk 'NF >= 3 && $2 == "T" { printf ",--wrap=%s", $3 }' "$work/names")
 compile_c "$work/misdeeds" "${lines[@]}" tests/c/misdeeds.c "$archive" -Iinclude -pthread -static "-Wl$wraps"
+compile_c "$work/misdeeds-messages" tests/c/messages.c tests/c/lend.c tests/c/misdeeds.c "$archive" -Iinclude -static "-Wl$wraps"
+# What the misdeeds are tried on: the examples, and some messages that fit their rooms and some that don't.
+{ cat "$work/examples" && "$work/gen" 2 1000 messages; } >"$work/tried"
+"$work/second" <"$work/tried" >"$work/expected"
 # NUMBER STATUS TEXT: with that misdeed the program ends with that status and tells that text.
 caught() {
     local status=0
-    MISDEED=$1 run_c "$work/misdeeds" <"$work/examples" >"$work/replies" 2>"$work/errors" || status=$?
+    MISDEED=$1 run_c "$work/misdeeds" <"$work/tried" >"$work/replies" 2>"$work/errors" || status=$?
     if [ "$status" != "$2" ] || ! grep -qF -- "$3" "$work/errors"; then
         echo "misdeed $1: status $status, told: $(head -c 300 "$work/errors"); expected $2: $3"
         exit 1
     fi
 }
 caught 0 0 'octets of stack'
-same_replies 'no misdeed' "$work/examples" tests/second/examples.expected "$work/replies"
-for misdeed in 1 2 3 4 6 11 14 18 19 20; do caught $misdeed 2 "memory touched that wasn't lent, or written that is lent to be read"; done
+same_replies 'no misdeed' "$work/tried" "$work/expected" "$work/replies"
+for misdeed in 1 2 3 4 6 11 14 18 19 20 25 26 27 28 34 41 45 47 54 59 60; do caught $misdeed 2 "memory touched that wasn't lent, or written that is lent to be read"; done
 for misdeed in 5 22; do caught $misdeed 2 'another reply when asked again'; done
-caught 7 2 "a place that isn't inside the image"
-for misdeed in 8 21; do caught $misdeed 2 'refused, but not every value is 0'; done
+for misdeed in 7 23; do caught $misdeed 2 "a place that isn't inside the image"; done
+for misdeed in 8 21 24 39 42 52 55 65; do caught $misdeed 2 'refused, but not every value is 0'; done
 caught 9 2 'image, at the end: an octet beside what was lent has been written'
 caught 10 2 'image, at the start: an octet beside what was lent has been written'
-for misdeed in 12 16; do caught $misdeed 2 'other octets written when asked again'; done
-for misdeed in 13 17; do caught $misdeed 2 'refused, but lent octets have changed'; done
+for misdeed in 12 16 37 50 63; do caught $misdeed 2 'other octets written when asked again'; done
+for misdeed in 13 17 29 36 49 62; do caught $misdeed 2 'refused, but lent octets have changed'; done
 caught 15 2 'a call has taken more stack than it may'
-echo 'must be caught: another number in the header, another reply, and 22 misdeeds: all told'
+for misdeed in 35 48 61; do caught $misdeed 2 'room written past the message'; done
+for misdeed in 38 51 64; do caught $misdeed 2 "a message that isn't inside its room"; done
+for misdeed in 40 53 57 66; do caught $misdeed 2 'a refusal that reports an item or an octet'; done
+for misdeed in 43 56 58; do caught $misdeed 2 "data that aren't inside the message"; done
+# These touch nothing that they may not: the replies tell.
+for misdeed in 30 31 32 33 44 46; do
+    caught $misdeed 0 'octets of stack'
+    if told=$(same_replies "misdeed $misdeed" "$work/tried" "$work/expected" "$work/replies"); then
+        echo "misdeed $misdeed: every reply is as expected"
+        exit 1
+    fi
+done
+# By hand every misdeed of messages is told, by a check that fails or by the memory.
+run_c "$work/misdeeds-messages" >"$work/replies"
+for misdeed in {23..66}; do
+    if MISDEED=$misdeed run_c "$work/misdeeds-messages" >"$work/replies" 2>"$work/errors" || ! grep -qE 'not so|lent' "$work/errors"; then
+        echo "misdeed $misdeed: not told by messages.c: $(head -c 300 "$work/errors")"
+        exit 1
+    fi
+done
+echo 'must be caught: another number in the header, another reply, and 66 misdeeds, 44 of them by hand too: all told'

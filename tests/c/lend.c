@@ -27,7 +27,8 @@ struct loan {
     size_t length;
 };
 
-static const char *const part_names[PARTS] = {"description", "image", "data", "subscripts", "cells"};
+static const char *const part_names[PARTS] = {"description", "image",   "data", "subscripts",
+                                              "cells",       "message", "room"};
 static struct stretch stretches[PARTS][WAYS][SIZES];
 static struct loan loans[PARTS][WAYS];
 uint64_t line_number;

@@ -25,8 +25,9 @@ struct octets {
 /* Makes room for length octets and sets the length. What the octets hold is left open. */
 void set_length(struct octets *octets, size_t length);
 
-/* What a call is lent. */
-enum part { DESCRIPTION, IMAGE, DATA, SUBSCRIPTS, CELLS, PARTS, NO_PART = PARTS };
+/* What a call is lent. A message is one that is read, a request or a reply; a room is for one to be
+ * written. */
+enum part { DESCRIPTION, IMAGE, DATA, SUBSCRIPTS, CELLS, MESSAGE, ROOM, PARTS };
 
 /* How it is lent: up to the end of its stretch, or from its start on. */
 enum way { ENDING, STARTING, WAYS };

@@ -1,7 +1,7 @@
 /*
  * What lines.c is there to catch, done on purpose. Linked with it by --wrap, each function here stands before
  * the library's function of that name, calls it, and does the misdeed whose number the environment variable
- * MISDEED has. check.sh wants each of them told.
+ * MISDEED has. check.sh wants each of them told; those of messages, 23 and on, by messages.c too.
  */
 #include "bilashonge.h"
 
@@ -38,6 +38,8 @@ __attribute__((noinline)) static void take_stack(void)
 #define IMAGE_TO_WRITE uint8_t *image, size_t image_length
 #define ELEMENT size_t item, const size_t *subscripts, size_t subscript_count
 #define DATA const uint8_t *data, size_t data_length
+#define MESSAGE const uint8_t *message, size_t message_length
+#define ROOM uint8_t *room, size_t room_length
 
 /* The library's function, and the one that stands before it. */
 #define WRAPPED(reply, function, ...)                                                                      \
@@ -168,4 +170,120 @@ WRAPPED(bilashonge_answer, bilashonge_seasoned, DESCRIPTION, IMAGE, uint32_t yea
     if (does(22) && answer.refusal.number == 0) /* yes and no in turn */
         answer.yes = calls++ % 2;
     return answer;
+}
+
+WRAPPED(bilashonge_place, bilashonge_range_place, DESCRIPTION, IMAGE, uint32_t manufacturer, uint32_t number,
+        size_t offset, size_t length)
+{
+    struct bilashonge_place place = __real_bilashonge_range_place(
+        description, description_length, image, image_length, manufacturer, number, offset, length);
+    if (does(23) && place.refusal.number == 0)
+        place.length += image_length;
+    if (does(24) && place.refusal.number != 0)
+        place.start = 1;
+    if (does(25))
+        touch((uintptr_t)image + image_length);
+    return place;
+}
+
+/* What a message is written with: the room's own misdeeds, the same for all three that write one. `first`
+ * is what the room's first octet was. */
+static void spoil_room(long misdeed, struct bilashonge_total *total, ROOM, uint8_t first)
+{
+    if (does(misdeed))
+        touch((uintptr_t)room + room_length);
+    if (does(misdeed + 1) && total->refusal.number == 0 && total->total < room_length)
+        room[total->total] ^= 1; /* an octet past the message */
+    if (does(misdeed + 2) && total->refusal.number != 0 && room_length != 0)
+        room[0] ^= 1;
+    if (does(misdeed + 3) && total->refusal.number == 0) /* an octet of it isn't written */
+        room[0] = first;
+    if (does(misdeed + 4) && total->refusal.number == 0)
+        total->total = room_length + 1;
+    if (does(misdeed + 5) && total->refusal.number != 0)
+        total->total = 1;
+    if (does(misdeed + 6) && total->refusal.number != 0)
+        total->refusal.item = 1;
+}
+
+WRAPPED(bilashonge_total, bilashonge_serve, DESCRIPTION, IMAGE_TO_WRITE, MESSAGE, ROOM)
+{
+    static uint8_t enough[65539];
+    uint8_t first = room_length == 0 ? 0 : room[0];
+    struct bilashonge_total total = __real_bilashonge_serve(
+        description, description_length, image, image_length, message, message_length, room, room_length);
+    if (does(26))
+        touch((uintptr_t)message + message_length);
+    if (does(27) && message_length != 0)
+        write_to((uintptr_t)message, message[0]);
+    if (does(28))
+        touch((uintptr_t)description + description_length);
+    if (does(29) && total.refusal.number != 0) /* writes, and only then sees that the reply doesn't fit */
+        __real_bilashonge_serve(description, description_length, image, image_length, message, message_length,
+                                enough, sizeof enough);
+    if (does(30) && total.total > 4) /* the check octet over the count too */
+        room[total.total - 1] -= (uint8_t)(room[1] + room[2]);
+    if (does(31) && total.total > 4) /* a reply without its check octet */
+        room[--total.total] = first;
+    if (does(32) && total.total == 1 && room[0] == 3)
+        room[0] = 4;
+    if (does(33) && total.total == 1 && room[0] == 0) /* says that it is done, and doesn't write all of it */
+        image[image_length - 1] ^= 1;
+    spoil_room(34, &total, room, room_length, first);
+    return total;
+}
+
+WRAPPED(bilashonge_request, bilashonge_read_request, MESSAGE)
+{
+    struct bilashonge_request request = __real_bilashonge_read_request(message, message_length);
+    if (does(41))
+        touch((uintptr_t)message + message_length);
+    if (does(42) && request.code != 0)
+        request.id = 1;
+    if (does(43) && request.start != 0)
+        request.start += message_length;
+    if (does(44) && request.kind == BILASHONGE_OFFSET_READ) /* its octets exchanged */
+        request.count = request.count % 256 * 256 + request.count / 256;
+    return request;
+}
+
+WRAPPED(bilashonge_total, bilashonge_write_request, uint64_t kind, uint64_t id, uint64_t offset,
+        uint64_t count, DATA, ROOM)
+{
+    uint8_t first = room_length == 0 ? 0 : room[0];
+    struct bilashonge_total total =
+        __real_bilashonge_write_request(kind, id, offset, count, data, data_length, room, room_length);
+    if (does(45))
+        touch((uintptr_t)data + data_length);
+    if (does(46) && id == 65536) /* cuts the id to its field */
+        total = __real_bilashonge_write_request(kind, 0, offset, count, data, data_length, room, room_length);
+    spoil_room(47, &total, room, room_length, first);
+    return total;
+}
+
+WRAPPED(bilashonge_reply, bilashonge_read_reply, MESSAGE)
+{
+    struct bilashonge_reply reply = __real_bilashonge_read_reply(message, message_length);
+    if (does(54))
+        touch((uintptr_t)message + message_length);
+    if (does(55) && reply.refusal.number != 0)
+        reply.kind = 1;
+    if (does(56) && reply.kind == BILASHONGE_REPLY_DATA)
+        reply.count += message_length;
+    if (does(57) && reply.refusal.number != 0)
+        reply.refusal.octet = 1;
+    if (does(58) && reply.kind == BILASHONGE_REPLY_DONE) /* data where there are none */
+        reply.start = 1;
+    return reply;
+}
+
+WRAPPED(bilashonge_total, bilashonge_write_reply, uint64_t kind, uint64_t code, DATA, ROOM)
+{
+    uint8_t first = room_length == 0 ? 0 : room[0];
+    struct bilashonge_total total =
+        __real_bilashonge_write_reply(kind, code, data, data_length, room, room_length);
+    if (does(59) && data_length != 0)
+        write_to((uintptr_t)data, data[0]);
+    spoil_room(60, &total, room, room_length, first);
+    return total;
 }

@@ -2,7 +2,8 @@
  * one QUESTION ITEMS: a single call of the C interface, for tests/instructions to count. Fails where it isn't answered, or otherwise than meant.
  *
  * The description has ITEMS items. Table 00, marked writable, holds UINTs of an octet: a dimension in each slot, as far as there are UINTs for it, but the last UINT is none;
- * that is the element asked for and written. For tier_at, seasoned and matrix the last four items are tables 51 and 54, of a BLOCK each.
+ * that is the element asked for and written. For tier_at, seasoned and matrix the last four items are tables 51 and 54, of a BLOCK each. serve answers an offset write of that
+ * element's octet; read_request, write_request, read_reply and write_reply know of no description, so of them ITEMS is how many data octets the message has.
  */
 #include "bilashonge.h"
 
@@ -22,6 +23,20 @@ static const uint8_t calendar_octets[] = {
 };
 
 static uint8_t description[4 * MOST], image[MOST + sizeof calendar_octets];
+
+/* Messages: an offset write of table 0, of so many octets WRITTEN from that offset on; and the reply to a read of as many. */
+enum { HEAD = 8, REPLY_HEAD = 3 };
+static uint8_t request[HEAD + MOST + 1], replied[REPLY_HEAD + MOST + 1], room[HEAD + MOST + 1];
+
+static void set_messages(size_t offset, size_t count)
+{
+    const uint8_t head[HEAD] = {BILASHONGE_OFFSET_WRITE, 0, 0, 0, (uint8_t)(offset >> 8), (uint8_t)offset, (uint8_t)(count >> 8), (uint8_t)count};
+    memcpy(request, head, HEAD);
+    memcpy(replied + 1, head + HEAD - 2, 2);
+    memset(request + HEAD, WRITTEN, count);
+    memset(replied + REPLY_HEAD, WRITTEN, count);
+    request[HEAD + count] = replied[REPLY_HEAD + count] = (uint8_t)(0 - WRITTEN * count);
+}
 
 static void set_item(size_t i, uint32_t word)
 {
@@ -52,6 +67,7 @@ int main(int arguments, char **argument)
     }
     size_t length = 4 * items;
 
+    const struct bilashonge_refusal answered = {BILASHONGE_ANSWERED, 0, 0};
     struct bilashonge_refusal refusal;
     bool meant;
     const uint8_t data[] = {WRITTEN};
@@ -66,6 +82,35 @@ int main(int arguments, char **argument)
         struct bilashonge_place reply = bilashonge_element_place(description, length, image, used, last, NULL, 0);
         refusal = reply.refusal;
         meant = reply.start == last - 1 && reply.length == 1;
+    } else if (strcmp(question, "range_place") == 0) {
+        struct bilashonge_place place = bilashonge_range_place(description, length, image, used, 0, 0, last - 1, 1);
+        refusal = place.refusal;
+        meant = place.start == last - 1 && place.length == 1;
+    } else if (strcmp(question, "serve") == 0) {
+        set_messages(last - 1, 1);
+        struct bilashonge_total total = bilashonge_serve(description, length, image, used, request, HEAD + 2, room, 1);
+        refusal = total.refusal;
+        meant = total.total == 1 && room[0] == 0 && image[last - 1] == WRITTEN;
+    } else if (strcmp(question, "read_request") == 0) {
+        set_messages(0, items);
+        struct bilashonge_request read = bilashonge_read_request(request, HEAD + items + 1);
+        refusal = answered;
+        meant = read.code == 0 && read.kind == BILASHONGE_OFFSET_WRITE && read.count == items && read.start == HEAD;
+    } else if (strcmp(question, "write_request") == 0) {
+        set_messages(0, items);
+        struct bilashonge_total total = bilashonge_write_request(BILASHONGE_OFFSET_WRITE, 0, 0, 0, request + HEAD, items, room, sizeof room);
+        refusal = total.refusal;
+        meant = total.total == HEAD + items + 1 && memcmp(request, room, HEAD + items + 1) == 0;
+    } else if (strcmp(question, "read_reply") == 0) {
+        set_messages(0, items);
+        struct bilashonge_reply read = bilashonge_read_reply(replied, REPLY_HEAD + items + 1);
+        refusal = read.refusal;
+        meant = read.kind == BILASHONGE_REPLY_DATA && read.count == items && read.start == REPLY_HEAD;
+    } else if (strcmp(question, "write_reply") == 0) {
+        set_messages(0, items);
+        struct bilashonge_total total = bilashonge_write_reply(BILASHONGE_REPLY_DATA, 0, replied + REPLY_HEAD, items, room, sizeof room);
+        refusal = total.refusal;
+        meant = total.total == REPLY_HEAD + items + 1 && memcmp(replied, room, REPLY_HEAD + items + 1) == 0;
     } else if (strcmp(question, "write_range") == 0) {
         refusal = bilashonge_write_range(description, length, image, used, 0, 0, last - 1, data, sizeof data);
         meant = image[last - 1] == WRITTEN;

@@ -1,11 +1,17 @@
 // Turns requests of the line language, each with its reply behind a tab, into equations for the prover: the definition of that question, at the request's
 // description, image and arguments, computes to the reply's values. Reads standard input, writes a module to standard output and a count to standard error.
-// Requests are left out that no short computation answers: lines that are too long, and descriptions with an ARRAY whose count has more than three bits, since
-// the meaning of laying out lists every element.
+// Requests are left out that no short computation answers: lines that are too long, descriptions with an ARRAY whose count has more than three bits, since
+// the meaning of laying out lists every element, and messages put into a room of many octets.
 use std::io::{self, BufRead, Write};
 
 // Lines of more characters than this are left out.
 const LONGEST: usize = 1500;
+
+// Rooms of more octets than this are left out.
+const WIDEST: usize = 64;
+
+// What a room holds before a message is put into it: no octet behind the message may change.
+const BEFORE: u8 = 255;
 
 // `1 ∷ 2 ∷ []`, in parentheses
 fn list(values: &[String]) -> String {
@@ -77,20 +83,16 @@ fn question(words: &[&str]) -> Option<(String, usize, bool, bool)> {
             let date = format!("(record {{ year = {}; month = {}; day = {} }})", words[3], words[4], words[5]);
             (format!("seasoned {}", date), 4, false, false)
         }
+        "readrange" => (format!("readRange {} (record {{ 0 = {} }}) {}", table(), words[5], words[6]), 5, true, false),
         _ => return None,
     })
 }
 
-// What the definitions say of a request, and what the reply says it is.
-fn equations(request: &str, reply: &str) -> Vec<String> {
-    let words: Vec<&str> = request.split(' ').collect();
-    let values: Vec<&str> = reply.split(' ').collect();
-    if reply == "?" || request.len() > LONGEST || counts_far(words[1]) {
-        return Vec::new();
-    }
-    let (question, count, octets, after) = match question(&words) {
-        Some(found) => found,
-        None => return Vec::new(),
+// What a question about tables comes to, and what the reply says it is.
+fn table_equations(words: &[&str], values: &[&str]) -> Vec<String> {
+    let (question, count, octets, after) = match question(words) {
+        Some(found) if !counts_far(words[1]) => found,
+        _ => return Vec::new(),
     };
     let on = format!("({}) {} {}", question, hex_list(words[1]), if words[0] == "check" { "[]".to_string() } else { hex_list(words[2]) });
     let mut found = vec![format!("numbersOf {} (replyTo {}) ≡ {}", count, on, word_list(&values[..count]))];
@@ -103,13 +105,83 @@ fn equations(request: &str, reply: &str) -> Vec<String> {
     found
 }
 
+// A message put into a room: its number of octets and the room afterwards, by the two definitions that say these of `what` in a room; the reply has the refusal's
+// number and the message, `-` on refusal.
+fn in_room(replies: &str, leaves: &str, what: &str, room: &str, values: &[&str]) -> Vec<String> {
+    let message = octets(values[1]);
+    let room: usize = match room.parse() {
+        Ok(room) if room <= WIDEST && message.len() <= room => room,
+        _ => return Vec::new(),
+    };
+    let mut later = vec![BEFORE; room];
+    later[..message.len()].copy_from_slice(&message);
+    let before = format!("(replicate {} {})", room, BEFORE);
+    vec![
+        format!("numbersOf 4 ({} {} {}) ≡ ({} ∷ 0 ∷ 0 ∷ {} ∷ [])", replies, what, before, values[0], message.len()),
+        format!("{} {} {} ≡ {}", leaves, what, before, octet_list(&later)),
+    ]
+}
+
+// What a message comes to, and what the reply says it is.
+fn message_equations(words: &[&str], values: &[&str]) -> Vec<String> {
+    match words[0] {
+        "serve" if counts_far(words[1]) => Vec::new(),
+        "serve" => {
+            let what = format!("{} {} {}", hex_list(words[1]), hex_list(words[2]), hex_list(words[4]));
+            let mut found = in_room("serveReply", "serveRoom", &what, words[3], values);
+            if !found.is_empty() {
+                found.push(format!("serveImage {} (replicate {} {}) ≡ {}", what, words[3], BEFORE, hex_list(values[2])));
+            }
+            found
+        }
+        "readrequest" => vec![
+            format!("requestNumbers (requestTold (requestedBy (requestIn {}))) ≡ {}", hex_list(words[1]), word_list(&values[..5])),
+            format!("requestData (requestIn {}) ≡ {}", hex_list(words[1]), hex_list(values[5])),
+        ],
+        "writerequest" => {
+            let what = format!("(requestOf {} {})", words[1..5].join(" "), hex_list(words[6]));
+            in_room("requestSent", "requestRoom", &what, words[5], values)
+        }
+        "readreply" => vec![
+            format!("replyNumbers (replyTold (heardBy (replyIn {}))) ≡ {}", hex_list(words[1]), word_list(&values[..3])),
+            format!("replyData (replyIn {}) ≡ {}", hex_list(words[1]), hex_list(values[3])),
+        ],
+        "writereply" => {
+            let what = format!("(replyOf {} {})", words[1..3].join(" "), hex_list(words[4]));
+            in_room("replySent", "replyRoom", &what, words[3], values)
+        }
+        _ => Vec::new(),
+    }
+}
+
+// What the definitions say of a request, and what the reply says it is.
+fn equations(request: &str, reply: &str) -> Vec<String> {
+    let words: Vec<&str> = request.split(' ').collect();
+    let values: Vec<&str> = reply.split(' ').collect();
+    if reply == "?" || request.len() > LONGEST {
+        return Vec::new();
+    }
+    let found = table_equations(&words, &values);
+    if found.is_empty() { message_equations(&words, &values) } else { found }
+}
+
 const HEAD: &str = "use mathlib.Core.Path.{_≡_, refl}
 use mathlib.Core.List.{List, [], _∷_}
+use lib.ListN.{replicate}
 use Prim.Native.Nat.{ℕ}
 use Rattle.meaning.proofs.Computing.{computing}
 use Rattle.meaning.specs.declared.Quantity.{Quantity}
+use Rattle.meaning.specs.declared.ReplyTold.{ReplyTold}
+use Rattle.meaning.specs.declared.RequestTold.{RequestTold}
 use Rattle.meaning.specs.Refusals.{numbersOf}
-use Rattle.meaning.specs.Questions.{check, layout, tablePlace, tablePart, elementPlace, elementPart, elementNumber, writeRange, writeOctets, writeNumber, tier, matrix, seasoned, replyTo, octetsTo, imageAfter}
+use Rattle.meaning.specs.Questions.{check, layout, tablePlace, tablePart, elementPlace, elementPart, elementNumber, writeRange, writeOctets, writeNumber, tier, matrix, seasoned, readRange, replyTo, octetsTo, imageAfter}
+use Rattle.meaning.specs.Messages.{requestIn, requestedBy, requestData, requestTold, replyIn, heardBy, replyData, replyTold, requestOf, requestSent, requestRoom, replyOf, replySent, replyRoom, serveReply, serveRoom, serveImage}
+
+abbrev requestNumbers : RequestTold → List ℕ
+requestNumbers t = t .code ∷ t .kind ∷ t .id ∷ t .offset ∷ t .count ∷ []
+
+abbrev replyNumbers : ReplyTold → List ℕ
+replyNumbers t = t .refusal .number ∷ t .kind ∷ t .code ∷ []
 ";
 
 fn main() -> io::Result<()> {
@@ -117,9 +189,11 @@ fn main() -> io::Result<()> {
     let mut out = io::BufWriter::new(io::stdout());
     out.write_all(HEAD.as_bytes())?;
     let (mut taken, mut count) = (0, 0);
-    for line in io::stdin().lock().lines() {
+    // a spoiled line may hold any octets; it is of no form
+    for line in io::stdin().lock().split(b'\n') {
         let line = line?;
-        let (request, reply) = line.split_once('\t').unwrap_or((&line, "?"));
+        let line = String::from_utf8_lossy(&line);
+        let (request, reply) = line.rsplit_once('\t').unwrap_or((&line, "?"));
         // the rest is read too, so that whoever writes it isn't stopped
         let found = if taken < most { equations(request, reply) } else { Vec::new() };
         taken += usize::from(!found.is_empty());

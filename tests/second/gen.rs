@@ -5,7 +5,9 @@
 //!
 //! KIND is check, places (layout, table, where), access (tablepart, octets,
 //! number and the writes), calendar (tier, seasoned, matrix;
-//! gen_calendar.rs), lines (malformed and odd lines) or all.
+//! gen_calendar.rs), messages (serve, readrange, and the reading and writing of
+//! requests and replies; gen_messages.rs), lines (malformed and odd lines) or
+//! all.
 //!
 //! Build with plain rustc; it shares the second program's reading of
 //! descriptions and layouts, only so as to choose cases near the edges. What
@@ -21,6 +23,7 @@ mod layout;
 mod refusal;
 
 mod gen_calendar;
+mod gen_messages;
 
 #[cfg(test)]
 #[path = "src/access.rs"]
@@ -1377,8 +1380,7 @@ fn calendar_request(rng: &mut Rng) -> String {
 
 /// An odd line; octets of any value but the line feed.
 fn odd_line(rng: &mut Rng) -> Vec<u8> {
-    let small = "1000000120100000 00";
-    let mut line: Vec<u8> = match rng.below(8) {
+    let line: Vec<u8> = match rng.below(8) {
         0 => check_request(rng).into_bytes(),
         1 => calendar_request(rng).into_bytes(),
         2 => access_request(rng).into_bytes(),
@@ -1402,6 +1404,11 @@ fn odd_line(rng: &mut Rng) -> Vec<u8> {
             question.as_bytes().to_vec()
         }
     };
+    spoiled(rng, line)
+}
+
+/// A line made odd in one way, or left as it is.
+fn spoiled(rng: &mut Rng, mut line: Vec<u8>) -> Vec<u8> {
     let place = rng.index(line.len() + 1);
     let spaces: Vec<usize> = (0..line.len()).filter(|k| line[*k] == b' ').collect();
     match rng.below(26) {
@@ -1484,7 +1491,7 @@ fn odd_line(rng: &mut Rng) -> Vec<u8> {
         24 => {
             // About the longest line: 300,000 octets are read, one more is not.
             if rng.chance(3) {
-                let start = format!("table {small} 0 ");
+                let start = String::from("table 1000000120100000 00 0 ");
                 let length = rng.pick(&[299_999, 300_000, 300_001, 300_002, 400_000]);
                 line = start.into_bytes();
                 line.resize(length, b'0');
@@ -1518,11 +1525,12 @@ fn request(rng: &mut Rng, kind: &str) -> Vec<u8> {
         "places" => places_request(rng).into_bytes(),
         "access" => access_request(rng).into_bytes(),
         "calendar" => calendar_request(rng).into_bytes(),
+        "messages" => gen_messages::request(rng, 0),
         "lines" => odd_line(rng),
         _ => {
             let kind = rng.pick(&[
                 "check", "check", "places", "places", "access", "access", "access", "calendar",
-                "calendar", "lines",
+                "calendar", "messages", "messages", "lines",
             ]);
             request(rng, kind)
         }
@@ -1531,7 +1539,7 @@ fn request(rng: &mut Rng, kind: &str) -> Vec<u8> {
 
 fn main() {
     let arguments: Vec<String> = std::env::args().collect();
-    let kinds = ["check", "places", "access", "calendar", "lines", "all"];
+    let kinds = ["check", "places", "access", "calendar", "messages", "lines", "all"];
     let read = || -> Option<(u64, u64, &str)> {
         let seed = arguments.get(1)?.parse().ok()?;
         let count = arguments.get(2)?.parse().ok()?;
@@ -1545,7 +1553,7 @@ fn main() {
     let (seed, count, kind) = match read() {
         Some(read) => read,
         None => {
-            eprintln!("usage: gen SEED N check|places|access|calendar|lines|all");
+            eprintln!("usage: gen SEED N check|places|access|calendar|messages|lines|all");
             std::process::exit(2);
         }
     };
@@ -1556,6 +1564,7 @@ fn main() {
         let mut rng = Rng(seed.wrapping_mul(0x2545_f491_4f6c_dd1d).wrapping_add(k << 20));
         let mut line = match kind {
             "calendar" => gen_calendar::request(&mut rng, k).into_bytes(),
+            "messages" => gen_messages::request(&mut rng, k),
             _ => request(&mut rng, kind),
         };
         line.push(b'\n');
@@ -1613,8 +1622,10 @@ mod tests {
         for k in 0..400 {
             let once = gen_calendar::request(&mut Rng(k), k);
             assert_eq!(once, gen_calendar::request(&mut Rng(k), k));
+            let once = gen_messages::request(&mut Rng(k << 20), k);
+            assert_eq!(once, gen_messages::request(&mut Rng(k << 20), k));
         }
-        for kind in ["check", "places", "access", "calendar", "lines", "all"] {
+        for kind in ["check", "places", "access", "calendar", "messages", "lines", "all"] {
             for seed in 0..50 {
                 let once = request(&mut Rng(seed), kind);
                 assert_eq!(once, request(&mut Rng(seed), kind));

@@ -1,7 +1,7 @@
 -- What is found lies inside the image, and over a description of whole items; so a write that is accepted fits where it goes. Assumes nothing.
 use Prim.Native.Nat.{ℕ, _+_, _^_, _<_, _≤_, min}
 use mathlib.Core.Path.{_≡_, refl, _∙_, ap, sym, subst}
-use mathlib.Core.Bool.{Bool, true, false, not}
+use mathlib.Core.Bool.{Bool, true, false, not, _&&_}
 use mathlib.Core.List.{List}
 use mathlib.Core.Option.{Option, some, none}
 use lib.ListN.{length}
@@ -15,7 +15,7 @@ use Rattle.meaning.specs.declared.Refusal.{Refusal}
 use Rattle.meaning.specs.declared.Place.{Place}
 use Rattle.meaning.specs.Description.{itemCount, fieldsAt, isUint}
 use Rattle.meaning.specs.Layout.{Placed, Seat, tableNamed, numberAt}
-use Rattle.meaning.specs.Refusals.{openImage, seatPlace, tablePlaceReply, elementPlaceReply, integerPlace, writable, anyDimension, tableAround, allowed, allowedAt, fitting, rangeOf, rangeIn, rangePlace, octetsPlaceIn, numberPlaceIn, placeStart}
+use Rattle.meaning.specs.Refusals.{openImage, seatPlace, tablePlaceReply, rangeAt, readRangeReply, elementPlaceReply, integerPlace, writable, anyDimension, tableAround, allowed, allowedAt, fitting, rangeOf, rangeIn, rangePlace, octetsPlaceIn, numberPlaceIn, placeStart}
 use Rattle.meaning.proofs.Ranges.{fields-range}
 use Rattle.meaning.specs.Numbers.{outsideTable, notWritable, holdsDimension, wrongSize}
 use Rattle.laying.proofs.LaidOut.{total-inside}
@@ -23,7 +23,9 @@ use Rattle.laying.proofs.Found.{element-own, element-ends, table-ends}
 use Rattle.laying.proofs.Opened.{Came, opens, refuses, came, opened-image, table-laid, where-opens, table-opens, integer-exactly}
 use Rattle.octets.specs.Octets.{numberRead}
 use Rattle.octets.proofs.Laws.{read-there}
-use Rattle.access.specs.Access.{FitsAt, Inside}
+use Rattle.meaning.specs.Messages.{otherSize}
+use Rattle.meaning.proofs.Either.{tested}
+use Rattle.access.specs.Access.{placeToWrite, FitsAt, Inside}
 use Rattle.access.proofs.Laws.{elementsIn, octets-told, number-told}
 
 -- AN ELEMENT
@@ -58,6 +60,19 @@ table-inside d img m k (Place.At p n) e =
     let a = table-opens d img m k (p .0) n (sym e) in
     omega (arith, table-ends a, total-inside d img (a .seats) (a .elements) (a .slots) (a .total) (a .opens .laid))
 table-inside d img m k (Place.Refused r) e = tt
+
+-- and a range that it holds
+pub range-inside : (d img : List ℕ) (m k : ℕ) (o : TableOffset) (n : ℕ) (v : Place) → v ≡ readRangeReply d img m k o n → Inside img v
+unfolding readRangeReply rangeAt
+range-inside d img m k o n v e = subst (Inside img) (sym e) (go (tablePlaceReply d img m k) refl)
+  where
+    within : (p l : ℕ) → p + l ≤ length img → (b : Bool) → (l <? o .0 + n) ≡ b → Inside img (if b then Place.Refused outsideTable else Place.At (record { 0 = p + o .0 }) n)
+    within p l h true f = tt
+    within p l h false f = omega (arith, ltb-false l (o .0 + n) f)
+
+    go : (w : Place) → w ≡ tablePlaceReply d img m k → Inside img (rangeAt o n w)
+    go (Place.At p l) h = within (p .0) l (table-inside d img m k (Place.At p l) h) (l <? o .0 + n) refl
+    go (Place.Refused r) h = tt
 
 -- A PART stands at the first octet of its place, which the image's end doesn't cut
 pub first-told : (img : List ℕ) (w : Place) (p : ImageOffset) (n : ℕ) → Inside img w → w ≡ Place.At p n → min (p .0) (length img) ≡ placeStart w
@@ -95,6 +110,13 @@ range-fits d img m k o n v e = subst (FitsAt img n) (sym e) (go (came d img))
         rw (opened-image h) (found-fits d img es o n (tableNamed m k ts) (λ u f.
         let a = table-opens d img m k (u .start) (u .size) (table-laid h m k ∙ ap seatPlace f) in
         omega (arith, table-ends a, total-inside d img (a .seats) (a .elements) (a .slots) (a .total) (a .opens .laid))))
+
+-- the same of a whole table
+pub place-fits : (whole : Bool) (d img : List ℕ) (m k : ℕ) (o : TableOffset) (n : ℕ) (v : Place) → v ≡ placeToWrite whole d img m k o n → FitsAt img n v
+unfolding placeToWrite
+place-fits whole d img m k o n v e =
+    subst (FitsAt img n) (sym e)
+    (tested (FitsAt img n) (whole && otherSize n (tablePlaceReply d img m k)) _ _ (λ h. tt) (λ h. range-fits d img m k o n _ refl))
 
 -- an element, where it is
 module _ (d img : List ℕ) (q : ElementName) (es : List Placed) where

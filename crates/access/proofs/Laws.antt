@@ -1,7 +1,7 @@
 -- What the replies come to, case by case. Assumes nothing.
 use Prim.Native.Nat.{ℕ, zero, suc, _+_, _-_, _*_, _^_, _/_, _<_, _≤_, min}
 use mathlib.Core.Path.{_≡_, refl, _∙_, ap, sym, subst}
-use mathlib.Core.Bool.{Bool, true, false, not}
+use mathlib.Core.Bool.{Bool, true, false, not, _&&_, _||_, true≢false}
 use mathlib.Core.Option.{Option, some, none}
 use mathlib.Core.List.{List, []}
 use lib.ListN.{length}
@@ -21,7 +21,7 @@ use Rattle.meaning.specs.declared.Place.{Place}
 use Rattle.meaning.specs.declared.Reply.{Reply}
 use Rattle.meaning.specs.Description.{itemCount, fieldsAt, isTable, isUint, isDimension}
 use Rattle.meaning.specs.Layout.{Placed, Seat, Slots, tableNamed, dataOrder, numberAt}
-use Rattle.meaning.specs.Refusals.{Opened, opened, refused, openImage, seatPlace, elementPlaceIn, elementPlaceReply, integerPlace, placeNumber, elementNumberReply, placeVerdict, imageWith, imageWithNumber, tableAround, writable, anyDimension, allowed, allowedAt, fitting, rangeOf, rangeIn, rangePlace, octetsPlaceIn, numberPlaceIn}
+use Rattle.meaning.specs.Refusals.{Opened, opened, refused, openImage, seatPlace, tablePlaceIn, tablePlaceReply, rangeAt, readRangeReply, elementPlaceIn, elementPlaceReply, integerPlace, placeNumber, elementNumberReply, placeVerdict, imageWith, imageWithNumber, tableAround, writable, anyDimension, allowed, allowedAt, fitting, rangeOf, rangeIn, rangePlace, writeRangeReply, writeRangeImage, octetsPlaceIn, numberPlaceIn}
 use Rattle.meaning.proofs.Octets.{octets-long}
 use Rattle.meaning.specs.Numbers.{noElement, outsideTable, notWritable, holdsDimension}
 use Rattle.octets.specs.Octets.{put}
@@ -38,7 +38,8 @@ use Rattle.places.specs.declared.Ranged.{Ranged}
 use Rattle.places.specs.Opening as ranges
 use Rattle.places.specs.Surveying.{heldIn}
 use Rattle.access.specs.declared.Seen.{Seen}
-use Rattle.access.specs.Access.{SeenAs, allowedBy, fittedBy}
+use Rattle.meaning.specs.Messages.{otherSize, writeTableReply, writeTableImage}
+use Rattle.access.specs.Access.{SeenAs, placeToWrite, allowedBy, fittedBy}
 
 -- AN ITEM'S KIND, by the fields read of it
 module _ (d : List ℕ) (i k : ℕ) (f : Fields) (e : f ≡ fieldsAt d i) where
@@ -179,6 +180,99 @@ module _ (d img : List ℕ) (m k : ℕ) (o : TableOffset) (n : ℕ) (r : Ranged)
 
       pub range-there : b ≡ true → (p : ℕ) → p ≡ s .0 + o .0 → (f : Fields) → f ≡ fieldsAt d i → allowedBy (f .writable =? 1) h (record { 0 = p }) n ≡ rangePlace d img m k o n
       range-there t p g f fe = rw (g, fe) (sym (found ∙ rw (le-ltb l (o .0 + n) (leb-true (o .0 + n) l (sym within ∙ t)))))
+
+-- READING A RANGE: by the place of the table found
+abbrev tableOf : Ranged → Place
+tableOf (Ranged.Refused x) = Place.Refused x
+tableOf (Ranged.In i s l h) = Place.At (record { 0 = s .0 }) l
+
+module _ (d img : List ℕ) (m k : ℕ) (o : TableOffset) (n : ℕ) (r : Ranged) (is : r ≡ ranges.rangeIn m k o n (openImage d img)) where
+  table-told : tablePlaceReply d img m k ≡ tableOf r
+  unfolding tablePlaceReply tablePlaceIn seatPlace ranges.rangeIn ranges.rangeOf
+  table-told = rw is (go (openImage d img))
+    where
+      seated : (t : Option Seat) (es : List Placed) → seatPlace t ≡ tableOf (ranges.rangeOf (o .0) n t es)
+      seated none es = refl
+      seated (some t) es = refl
+
+      go : (x : Opened) → tablePlaceIn m k x ≡ tableOf (ranges.rangeIn m k o n x)
+      go (opened ts es s total) = seated (tableNamed m k ts) es
+      go (refused x) = refl
+
+  pub read-refused : (x : Refusal) → r ≡ Ranged.Refused x → Place.Refused x ≡ readRangeReply d img m k o n
+  unfolding readRangeReply rangeAt
+  read-refused x e = rw (table-told, e)
+
+  module _ (i : ℕ) (s : TableStart) (l : ℕ) (h : Bool) (e : r ≡ Ranged.In i s l h) (b : Bool) (within : b ≡ (o .0 + n ≤? l)) where
+    pub read-past : b ≡ false → Place.Refused outsideTable ≡ readRangeReply d img m k o n
+    unfolding readRangeReply rangeAt
+    read-past f = rw (table-told, e, lt-ltb l (o .0 + n) (leb-false (o .0 + n) l (sym within ∙ f)))
+
+    pub read-there : b ≡ true → (p : ℕ) → p ≡ s .0 + o .0 → Place.At (record { 0 = p }) n ≡ readRangeReply d img m k o n
+    unfolding readRangeReply rangeAt
+    read-there t p g = rw (table-told, e, le-ltb l (o .0 + n) (leb-true (o .0 + n) l (sym within ∙ t)), g)
+
+-- WRITING A RANGE, OR A WHOLE TABLE
+-- what fits a table lies in it
+pub lies-in : (e x b : Bool) → b ≡ (e && x) → b ≡ true → e ≡ true
+lies-in true x b w t = refl
+lies-in false x b w t = absurd (true≢false (sym t ∙ w))
+
+module _ (whole : Bool) (d img : List ℕ) (m k : ℕ) (o : TableOffset) (n : ℕ) (r : Ranged) (is : r ≡ ranges.rangeIn m k o n (openImage d img)) where
+  pub place-refused : (x : Refusal) → r ≡ Ranged.Refused x → Place.Refused x ≡ placeToWrite whole d img m k o n
+  unfolding placeToWrite otherSize
+  place-refused x e = rw (table-told d img m k o n r is, e) (go whole)
+    where
+      go : (w : Bool) → Place.Refused x ≡ (if w && false then Place.Refused outsideTable else rangePlace d img m k o n)
+      go true = range-refused d img m k o n r is x e
+      go false = range-refused d img m k o n r is x e
+
+  module _ (i : ℕ) (s : TableStart) (l : ℕ) (h : Bool) (e : r ≡ Ranged.In i s l h) (b : Bool) (within : b ≡ ((o .0 + n ≤? l) && (not whole || n =? l))) where
+    pub place-past : b ≡ false → Place.Refused outsideTable ≡ placeToWrite whole d img m k o n
+    unfolding placeToWrite otherSize
+    place-past f = rw (table-told d img m k o n r is, e) (go whole (o .0 + n ≤? l) (n =? l) refl (sym within ∙ f))
+      where
+        past : (x : Bool) → (o .0 + n ≤? l) ≡ false → Place.Refused outsideTable ≡ (if x then Place.Refused outsideTable else rangePlace d img m k o n)
+        past true g = refl
+        past false g = range-past d img m k o n r is i s l h e _ refl g
+
+        go : (w x y : Bool) → (o .0 + n ≤? l) ≡ x → (x && (not w || y)) ≡ false → Place.Refused outsideTable ≡ (if w && not y then Place.Refused outsideTable else rangePlace d img m k o n)
+        go w false y g z = past (w && not y) g
+        go true true true g z = absurd (true≢false z)
+        go true true false g z = refl
+        go false true y g z = absurd (true≢false z)
+
+    pub place-there : b ≡ true → (p : ℕ) → p ≡ s .0 + o .0 → (f : Fields) → f ≡ fieldsAt d i → allowedBy (f .writable =? 1) h (record { 0 = p }) n ≡ placeToWrite whole d img m k o n
+    unfolding placeToWrite otherSize
+    place-there t p g f fe =
+        range-there d img m k o n r is i s l h e _ refl (lies-in _ _ b within t) p g f fe
+        ∙ rw (table-told d img m k o n r is, e) (go whole (o .0 + n ≤? l) (n =? l) (sym within ∙ t))
+      where
+        go : (w x y : Bool) → (x && (not w || y)) ≡ true → rangePlace d img m k o n ≡ (if w && not y then Place.Refused outsideTable else rangePlace d img m k o n)
+        go w false y z = absurd (true≢false (sym z))
+        go true true true z = refl
+        go true true false z = absurd (true≢false (sym z))
+        go false true y z = refl
+
+-- a whole table's verdict and image
+module _ (d img : List ℕ) (m k : ℕ) (new : List ℕ) (o : TableOffset) (v : Place) (zeroth : o .0 ≡ 0) (e : v ≡ placeToWrite true d img m k o (length new)) where
+  pub whole-reply : placeVerdict v ≡ writeTableReply d img m k new
+  unfolding placeToWrite writeTableReply writeRangeReply placeVerdict
+  whole-reply = rw e (go (otherSize (length new) (tablePlaceReply d img m k)))
+    where
+      go : (b : Bool) → placeVerdict (if b then Place.Refused outsideTable else rangePlace d img m k o (length new))
+          ≡ (if b then Verdict.Refused outsideTable else placeVerdict (rangePlace d img m k (record { 0 = 0 }) (length new)))
+      go true = refl
+      go false = ap (λ (z : ℕ). placeVerdict (rangePlace d img m k (record { 0 = z }) (length new))) zeroth
+
+  pub whole-image : imageWith img new v ≡ writeTableImage d img m k new
+  unfolding placeToWrite writeTableImage writeRangeImage imageWith
+  whole-image = rw e (go (otherSize (length new) (tablePlaceReply d img m k)))
+    where
+      go : (b : Bool) → imageWith img new (if b then Place.Refused outsideTable else rangePlace d img m k o (length new))
+          ≡ (if b then img else imageWith img new (rangePlace d img m k (record { 0 = 0 }) (length new)))
+      go true = refl
+      go false = ap (λ (z : ℕ). imageWith img new (rangePlace d img m k (record { 0 = z }) (length new))) zeroth
 
 -- an offset in a table inside the image is counted on from the table's start
 pub counted-on : (s f n l long p : ℕ) (b : Bool) → p ≡ min (s + f) 18446744073709551615 → s + l ≤ long → long ≤ 65535 → b ≡ (f + n ≤? l) → b ≡ true → p ≡ s + f

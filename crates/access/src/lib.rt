@@ -4,6 +4,8 @@
 // Any description, image and question get an answer. Refusals 1 to 9 come first, then 10 to 15 in
 // their order. A write's place is found before an octet is written, so a refused write changes none.
 // Nothing is kept: each call lays the image out anew.
+use basics::both;
+use basics::either;
 use basics::ends_within;
 use items::Cursor;
 use meaning::ElementName;
@@ -16,12 +18,14 @@ use offsets::ImageOffset;
 use offsets::TableOffset;
 use places::Ranged;
 ghost use mathlib.Core.Path.{_≡_};
+ghost use mathlib.Core.Bool.{not, _&&_, _||_};
 ghost use Prim.Native.Nat.{_+_, _^_, _<_};
 ghost use lib.ListN.{length};
-ghost use Rattle.meaning.specs.Basics.{if_then_else_, _<?_, _=?_};
+ghost use Rattle.meaning.specs.Basics.{if_then_else_, _<?_, _≤?_, _=?_};
 ghost use Rattle.meaning.specs.Description.{itemCount, isTable, isDimension};
-ghost use Rattle.meaning.specs.Refusals.{openImage, tablePlaceReply, elementPlaceReply, placePart, placeStart, tablePartReply, elementPartReply, integerPlace, elementNumberReply, placeVerdict, imageWith, rangePlace, octetsPlaceIn, numberPlaceIn, imageWithNumber, writeRangeReply, writeRangeImage, writeOctetsReply, writeOctetsImage, writeNumberReply, writeNumberImage};
-ghost use Rattle.access.specs.Access.{SeenAs, allowedBy, fittedBy, FitsAt, Inside};
+ghost use Rattle.meaning.specs.Refusals.{openImage, tablePlaceReply, elementPlaceReply, placePart, placeStart, tablePartReply, elementPartReply, readRangeReply, readRangePart, integerPlace, elementNumberReply, placeVerdict, imageWith, octetsPlaceIn, numberPlaceIn, writeRangeReply, writeRangeImage, writeOctetsReply, writeOctetsImage, writeNumberReply, writeNumberImage};
+ghost use Rattle.meaning.specs.Messages.{writeTableReply, writeTableImage};
+ghost use Rattle.access.specs.Access.{placeToWrite, SeenAs, allowedBy, fittedBy, FitsAt, Inside};
 
 // The kinds of items that are asked for.
 const TABLE: u32 = 1;
@@ -82,17 +86,29 @@ fn allowed(writable: bool, held: bool, start: ImageOffset, octets: usize) -> Pla
     Place::Refused(Refusal::NOT_WRITABLE)
 }
 
-// Where a range of a table is written: 10, 12, then 13 and 14. The table's start turns the offset in
-// it into one in the image.
-fn range_place(
+// Whether octets from an offset on lie in a table of that length; where they are to be the whole of
+// it, whether they are as many.
+fn fits_table(whole: bool, offset: usize, octets: usize, length: usize) -> bool
+    ensures { λ r. ⌜ r ≡ ((offset + octets ≤? length) && (not whole || octets =? length)) ⌝ }
+{
+    both(
+        ends_within(offset, octets, length),
+        either(!whole, octets == length),
+    )
+}
+
+// Where a range of a table is written, or the whole of it: 10, 12, then 13 and 14. The table's start
+// turns the offset in it into one in the image.
+fn write_place(
     description: &[u8],
     image: &[u8],
     manufacturer: u32,
     number: u32,
     offset: TableOffset,
     octets: usize,
+    whole: bool,
 ) -> Place
-    ensures { λ r. ⌜ r ≡ rangePlace (now (description .entry)) (now (image .entry)) manufacturer number offset octets ⌝ }
+    ensures { λ r. ⌜ r ≡ placeToWrite whole (now (description .entry)) (now (image .entry)) manufacturer number offset octets ⌝ }
 {
     let found = places::range_in(description, image, manufacturer, number, offset, octets);
     match found {
@@ -103,7 +119,7 @@ fn range_place(
             length,
             held,
         } => {
-            if ends_within(offset.octets(), octets, length) {
+            if fits_table(whole, offset.octets(), octets, length) {
                 let seen = around(description, item);
                 let table = seen.fields;
                 return allowed(table.writable == 1, held, start.in_image(offset), octets);
@@ -245,6 +261,55 @@ pub fn table_part<'a>(
     )
 }
 
+// Where a range of a table is, from an offset in it on: 10, then 12.
+pub fn range_place(
+    description: &[u8],
+    image: &[u8],
+    manufacturer: u32,
+    number: u32,
+    offset: TableOffset,
+    octets: usize,
+) -> Place
+    ensures { λ r. ⌜ r ≡ readRangeReply (now (description .entry)) (now (image .entry)) manufacturer number offset octets ⌝ }
+{
+    let found = places::range_in(description, image, manufacturer, number, offset, octets);
+    match found {
+        Ranged::Refused(r) => Place::Refused(r),
+        Ranged::In {
+            item: _,
+            start,
+            length,
+            held: _,
+        } => {
+            if ends_within(offset.octets(), octets, length) {
+                return Place::At {
+                    start: start.in_image(offset),
+                    length: octets,
+                };
+            }
+            Place::Refused(Refusal::OUTSIDE_TABLE)
+        }
+    }
+}
+
+// A range of a table, as a part of the image; empty on refusal.
+pub fn range_part<'a>(
+    description: &[u8],
+    image: &'a [u8],
+    manufacturer: u32,
+    number: u32,
+    offset: TableOffset,
+    octets: usize,
+) -> &'a [u8]
+    ensures reply { λ r. ⌜ now r ≡ readRangePart (now (description .entry)) (now (image .entry)) manufacturer number offset octets ⌝ }
+    ensures place { λ r. ⌜ r .ptr ≡ (image .entry .ptr .0, image .entry .ptr .1 + placeStart (readRangeReply (now (description .entry)) (now (image .entry)) manufacturer number offset octets)) ⌝ }
+{
+    part_at(
+        image,
+        range_place(description, image, manufacturer, number, offset, octets),
+    )
+}
+
 // An element's octets, as a part of the image; empty on refusal.
 pub fn element_part<'a>(description: &[u8], image: &'a [u8], name: ElementName) -> &'a [u8]
     ensures reply { λ r. ⌜ now r ≡ elementPartReply (now (description .entry)) (now (image .entry)) name ⌝ }
@@ -276,7 +341,39 @@ pub fn write_range(
     ensures reply { λ r. ⌜ r ≡ writeRangeReply (now (description .entry)) (now (image .entry)) manufacturer number offset (now (new .entry)) ⌝ }
     ensures image { λ _. ⌜ now (image .exit) ≡ writeRangeImage (now (description .entry)) (now (image .entry)) manufacturer number offset (now (new .entry)) ⌝ }
 {
-    let place = range_place(description, image, manufacturer, number, offset, new.len());
+    let place = write_place(
+        description,
+        image,
+        manufacturer,
+        number,
+        offset,
+        new.len(),
+        false,
+    );
+    write_at(image, place, new)
+}
+
+// Writes a whole table: data of another length than the table's are 12.
+pub fn write_table(
+    description: &[u8],
+    image: &mut [u8],
+    manufacturer: u32,
+    number: u32,
+    new: &[u8],
+) -> Verdict
+    ensures reply { λ r. ⌜ r ≡ writeTableReply (now (description .entry)) (now (image .entry)) manufacturer number (now (new .entry)) ⌝ }
+    ensures image { λ _. ⌜ now (image .exit) ≡ writeTableImage (now (description .entry)) (now (image .entry)) manufacturer number (now (new .entry)) ⌝ }
+{
+    let start = TableOffset::new(0);
+    let place = write_place(
+        description,
+        image,
+        manufacturer,
+        number,
+        start,
+        new.len(),
+        true,
+    );
     write_at(image, place, new)
 }
 

@@ -2,12 +2,16 @@
 // below and hands on what its reply tells, in a struct that C knows. A refusal is the struct of the
 // layers themselves.
 //
-// Nothing is kept. Memory is lent to be read, but for an image that is to be written and the cells of
-// the matrix: what those hold afterwards is stated too, for answers and refusals.
+// Nothing is kept. Memory is lent to be read, but for an image that is to be written, the cells of
+// the matrix and the room for a message: what those hold afterwards is stated too, for answers and
+// refusals.
 use meaning::Date;
 use meaning::ElementName;
 use meaning::Moment;
 use meaning::Refusal;
+use meaning::Reply;
+use meaning::ReplyTold;
+use meaning::RequestTold;
 use meaning::Verdict;
 use offsets::TableOffset;
 ghost use mathlib.Core.Path.{_≡_};
@@ -17,10 +21,11 @@ ghost use Rattle.meaning.specs.Refusals.{toldBy, verdictReply, placeReply};
 ghost use Rattle.meaning.specs.Calendar.{matrixReply, matrixVerdict, cellsAfter};
 ghost use Rattle.meaning.specs.Questions as ask;
 ghost use Rattle.meaning.specs.Questions.{toldTo, imageAfter};
+ghost use Rattle.meaning.specs.Messages.{requestIn, requestedBy, requestTold, replyIn, heardBy, replyTold, requestOf, requestSent, requestRoom, replyOf, replySent, replyRoom, serveReply, serveImage, serveRoom};
 ghost use Rattle.replies.specs.Asked.{quantityOf};
 ghost use Rattle.bilashonge.specs.Interface.{inTotal, inPlace, inNumber, inTier, inAnswer, elementNamed, momentOf, dateOf};
 
-// The total of octets used, 0 on refusal.
+// The total of octets used, of the image or of the room for a message, 0 on refusal.
 #[repr(C)]
 pub struct Total {
     pub refusal: Refusal,
@@ -91,6 +96,18 @@ fn refusal_of(verdict: Verdict) -> Refusal
     told.refusal
 }
 
+// A total, as C has it.
+fn total_of(reply: Reply) -> Total
+    ensures { λ r. ⌜ r ≡ inTotal (toldBy reply) ⌝ }
+{
+    let told = replies::told(reply);
+    let refusal = told.refusal;
+    Total {
+        refusal,
+        total: told.first,
+    }
+}
+
 // A place, as C has it.
 fn place_of(place: meaning::Place) -> Place
     ensures { λ r. ⌜ r ≡ inPlace (toldBy (placeReply place)) ⌝ }
@@ -117,12 +134,7 @@ pub extern "C" fn bilashonge_check(description: &[u8]) -> Refusal
 pub extern "C" fn bilashonge_layout(description: &[u8], image: &[u8]) -> Total
     ensures { λ r. ⌜ r ≡ inTotal (toldTo ask.layout (now (description .entry)) (now (image .entry))) ⌝ }
 {
-    let told = replies::told(places::layout(description, image));
-    let refusal = told.refusal;
-    Total {
-        refusal,
-        total: told.first,
-    }
+    total_of(places::layout(description, image))
 }
 
 // Where a table is, and how long.
@@ -136,6 +148,22 @@ pub extern "C" fn bilashonge_table_place(
     ensures { λ r. ⌜ r ≡ inPlace (toldTo (ask.tablePlace manufacturer number) (now (description .entry)) (now (image .entry))) ⌝ }
 {
     place_of(places::table_place(description, image, manufacturer, number))
+}
+
+// Where a range of a table is.
+#[no_mangle]
+pub extern "C" fn bilashonge_range_place(
+    description: &[u8],
+    image: &[u8],
+    manufacturer: u32,
+    number: u32,
+    offset: usize,
+    length: usize,
+) -> Place
+    ensures { λ r. ⌜ r ≡ inPlace (toldTo (ask.readRange manufacturer number (record { 0 = offset }) length) (now (description .entry)) (now (image .entry))) ⌝ }
+{
+    let at = TableOffset::new(offset);
+    place_of(access::range_place(description, image, manufacturer, number, at, length))
 }
 
 // Where an element is, and how long.
@@ -290,4 +318,60 @@ pub extern "C" fn bilashonge_matrix(
     ensures cells { λ _. ⌜ now (cells .exit) ≡ cellsAfter (matrixVerdict (now (description .entry)) (now (image .entry))) (matrixReply (now (description .entry)) (now (image .entry))) (now (cells .entry)) ⌝ }
 {
     refusal_of(calendar::matrix_into(description, image, cells))
+}
+
+// Answers a request over the tables: the reply into the room, and a write done in the image.
+#[no_mangle]
+pub extern "C" fn bilashonge_serve(
+    description: &[u8],
+    image: &mut [u8],
+    request: &[u8],
+    room: &mut [u8],
+) -> Total
+    ensures reply { λ r. ⌜ r ≡ inTotal (toldBy (serveReply (now (description .entry)) (now (image .entry)) (now (request .entry)) (now (room .entry)))) ⌝ }
+    ensures image { λ _. ⌜ now (image .exit) ≡ serveImage (now (description .entry)) (now (image .entry)) (now (request .entry)) (now (room .entry)) ⌝ }
+    ensures room { λ _. ⌜ now (room .exit) ≡ serveRoom (now (description .entry)) (now (image .entry)) (now (request .entry)) (now (room .entry)) ⌝ }
+{
+    total_of(messages::serve(description, image, request, room))
+}
+
+// Reads a request.
+#[no_mangle]
+pub extern "C" fn bilashonge_read_request(request: &[u8]) -> RequestTold
+    ensures { λ r. ⌜ r ≡ requestTold (requestedBy (requestIn (now (request .entry)))) ⌝ }
+{
+    replies::request_told(messages::read_request(request))
+}
+
+// Writes a request into the room.
+#[no_mangle]
+pub extern "C" fn bilashonge_write_request(
+    kind: u64,
+    id: u64,
+    offset: u64,
+    count: u64,
+    new: &[u8],
+    room: &mut [u8],
+) -> Total
+    ensures reply { λ r. ⌜ r ≡ inTotal (toldBy (requestSent (requestOf kind id offset count (now (new .entry))) (now (room .entry)))) ⌝ }
+    ensures room { λ _. ⌜ now (room .exit) ≡ requestRoom (requestOf kind id offset count (now (new .entry))) (now (room .entry)) ⌝ }
+{
+    total_of(messages::write_request(kind, id, offset, count, new, room))
+}
+
+// Reads a meter's reply.
+#[no_mangle]
+pub extern "C" fn bilashonge_read_reply(reply: &[u8]) -> ReplyTold
+    ensures { λ r. ⌜ r ≡ replyTold (heardBy (replyIn (now (reply .entry)))) ⌝ }
+{
+    replies::reply_told(messages::read_reply(reply))
+}
+
+// Writes a meter's reply into the room.
+#[no_mangle]
+pub extern "C" fn bilashonge_write_reply(kind: u64, code: u64, new: &[u8], room: &mut [u8]) -> Total
+    ensures reply { λ r. ⌜ r ≡ inTotal (toldBy (replySent (replyOf kind code (now (new .entry))) (now (room .entry)))) ⌝ }
+    ensures room { λ _. ⌜ now (room .exit) ≡ replyRoom (replyOf kind code (now (new .entry))) (now (room .entry)) ⌝ }
+{
+    total_of(messages::write_reply(kind, code, new, room))
 }

@@ -9,7 +9,7 @@ use Rattle.meaning.specs.declared.Reply.{Reply}
 use Rattle.meaning.specs.declared.Place.{Place}
 use Rattle.meaning.specs.declared.Refusal.{Refusal}
 use Rattle.meaning.specs.declared.Verdict.{Verdict}
-use Rattle.meaning.specs.Refusals.{toldBy, placePart, tablePartReply, elementPartReply}
+use Rattle.meaning.specs.Refusals.{toldBy, placePart, tablePartReply, elementPartReply, readRangePart}
 use Rattle.meaning.specs.Calendar.{Found, found, missing, matrixIn, matrixReply, matrixVerdictIn, matrixVerdict, cellsAfter}
 use Rattle.meaning.specs.Questions as ask
 use Rattle.meaning.specs.Questions.{Question, refusalIn}
@@ -19,7 +19,7 @@ use Rattle.demands.specs.Replies.{ours, outcomeBy}
 use Rattle.laying.specs.Every.{Every}
 use Rattle.laying.proofs.Every.{every-append}
 use Rattle.demands.proofs.Demand2.{demand-2}
-use Rattle.demands.proofs.Known.{KnownIn, known-last, known-more, first-known, sound-known, layout-knows, after, one-known, three-known, four-known}
+use Rattle.demands.proofs.Known.{KnownIn, known-last, known-more, first-known, sound-known, layout-knows, after, one-known, two-known, three-known, four-known}
 use Rattle.demands.proofs.OnlyFirst.{verdict-refused}
 use Rattle.demands.proofs.FirstGiven.{first-given}
 use Rattle.demands.proofs.Rules.{check-in-words}
@@ -81,6 +81,7 @@ kept d img (ask.tier w q) =
 kept d img ask.matrix = record { known = after d img _ (four-known _ _ _ _ _ _ _ _ refl refl refl refl); unchanged = λ r e. refl }
 kept d img (ask.seasoned t) =
     record { known = after d img _ (every-append KnownIn _ _ (four-known _ _ _ _ _ _ _ _ refl refl refl refl) (one-known _ _ refl)); unchanged = λ r e. refl }
+kept d img (ask.readRange m k o n) = record { known = after d img _ (two-known _ _ _ _ refl refl); unchanged = λ r e. refl }
 
 -- THE REPLIES THAT ARE OCTETS
 part-none : (img : List ℕ) (x : Place) (r : Refusal) → x ≡ Place.Refused r → placePart img x ≡ []
@@ -98,11 +99,12 @@ unfolding cellsAfter
 cells-stay v r matrix lent e = rw e
 
 octets-all : (d img : List ℕ) → NoOctets ours d img
-unfolding tablePartReply elementPartReply matrixReply matrixVerdict
+unfolding tablePartReply elementPartReply readRangePart matrixReply matrixVerdict
 octets-all d img =
     record {
       tablePart = λ m k r e. part-none img _ r e;
       elementPart = λ q r e. part-none img _ r e;
+      rangePart = λ m k o n r e. part-none img _ r e;
       matrix = λ r e. no-matrix _ r e;
       matrixCells = λ r e lent. cells-stay _ r _ lent e;
     }

@@ -1,15 +1,17 @@
 -- DEMAND 2, every clause, for every description and image. Assumes nothing.
-use Prim.Native.Nat.{ℕ}
+use Prim.Native.Nat.{ℕ, _+_, _≤_}
 use mathlib.Core.Path.{_≡_}
 use mathlib.Core.Bool.{true}
 use mathlib.Core.List.{List}
+use borrow.Author.Tests.{le-ltb}
+use Rattle.offsets.specs.declared.TableOffset.{TableOffset}
 use Rattle.meaning.specs.Basics.{part}
 use Rattle.meaning.specs.declared.ElementName.{ElementName}
 use Rattle.meaning.specs.declared.Reply.{Reply}
 use Rattle.meaning.specs.declared.Place.{Place}
 use Rattle.meaning.specs.Description.{fieldsAt, isUint}
 use Rattle.meaning.specs.Layout.{numberAt}
-use Rattle.meaning.specs.Refusals.{elementPlaceReply, placePart, tablePartReply, elementPartReply, integerPlace, placeNumber, elementNumberReply}
+use Rattle.meaning.specs.Refusals.{elementPlaceReply, placePart, tablePartReply, elementPartReply, rangeAt, readRangeReply, readRangePart, integerPlace, placeNumber, elementNumberReply}
 use Rattle.almanac.proofs.Choices.{season-says, special-says}
 use Rattle.almanac.proofs.NextDay.{days}
 use Rattle.demands.specs.Demand2.{Reads, Calendar, Demand2}
@@ -27,9 +29,21 @@ number-told : (d img : List ℕ) (q : ElementName) (p n : ℕ) → elementPlaceR
 unfolding elementNumberReply integerPlace placeNumber
 number-told d img q p n e u = rw (e, u)
 
+-- a range inside its place
+range-told : (x : Place) (p size : ℕ) (o : TableOffset) (n : ℕ) → x ≡ octetsAt p size → o .0 + n ≤ size → rangeAt o n x ≡ octetsAt (p + o .0) n
+unfolding rangeAt
+range-told x p size o n e h = rw (e, le-ltb size (o .0 + n) h)
+
 reads : (d img : List ℕ) → Reads ours d img
-unfolding tablePartReply elementPartReply
-reads d img = record { table = λ m k p n e. part-told img _ p n e; element = λ q p n e. part-told img _ p n e; number = number-told d img }
+unfolding tablePartReply elementPartReply readRangeReply readRangePart
+reads d img =
+    record {
+      table = λ m k p n e. part-told img _ p n e;
+      element = λ q p n e. part-told img _ p n e;
+      number = number-told d img;
+      range = λ m k p size o n e h. range-told _ p size o n e h;
+      rangePart = λ m k o n p l e. part-told img _ p l e;
+    }
 
 calendar : (d img : List ℕ) → Calendar ours d img
 calendar d img = record { tier = tier-says d img; matrix = matrix-says d img; seasoned = seasoned-says d img; days = days; season = season-says; special = special-says }

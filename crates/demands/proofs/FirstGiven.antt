@@ -23,7 +23,7 @@ use Rattle.meaning.specs.declared.Refusal.{Refusal}
 use Rattle.meaning.specs.declared.Verdict.{Verdict}
 use Rattle.meaning.specs.Description.{itemCount, fieldsAt, isUint, checkReply}
 use Rattle.meaning.specs.Layout.{Placed, Seat, Slots, tableNamed, dataOrder}
-use Rattle.meaning.specs.Refusals.{verdictReply, placeReply, refused, openImage, layoutIn, layoutReply, seatPlace, tablePlaceIn, tablePlaceReply, placePart, tablePartReply, placeStart, placeLength}
+use Rattle.meaning.specs.Refusals.{verdictReply, placeReply, refused, openImage, layoutIn, layoutReply, seatPlace, tablePlaceIn, tablePlaceReply, placePart, tablePartReply, rangeAt, readRangeReply, placeStart, placeLength}
 use Rattle.meaning.specs.Refusals.{elementIn, placedPlace, elementPlaceIn, elementPlaceReply, integerPlace, placeNumber, elementNumberReply, placeVerdict}
 use Rattle.meaning.specs.Refusals.{writable, anyDimension, allowed, rangeOf, rangeIn, rangePlace, writeRangeReply, fitting, allowedAt, octetsPlaceIn}
 use Rattle.meaning.specs.Refusals.{writeOctetsReply, numberPlaceIn, writeNumberReply, tableAround}
@@ -55,13 +55,13 @@ abbrev writeRefusal : Place → Option Refusal
 writeRefusal p = verdictRefusal (placeVerdict p)
 
 -- no test more
-none-given : none ≡ firstOf []
+none-given : none ≡ firstOf {A = Refusal} []
 unfolding firstOf
 none-given = refl
 
 -- A TEST MORE, before others: where it holds, its refusal is told; else what the others come to
 module _ {A : Type 0} (told : A → Option Refusal) (b : Bool) (r : Refusal) (x y : A) (rest : List (Option Refusal)) (e : told x ≡ some r) (f : told y ≡ firstOf rest) where
-  test-first : told (if b then x else y) ≡ firstOf (given b r ∷ rest)
+  pub test-first : told (if b then x else y) ≡ firstOf (given b r ∷ rest)
   unfolding firstOf given
   test-first = go b
     where
@@ -84,6 +84,13 @@ table-first : (x : Option Seat) → placeRefusal (seatPlace x) ≡ firstOf (give
 unfolding refusalIn placeReply seatPlace firstOf given noSeat
 table-first none = refl
 table-first (some t) = refl
+
+-- a range of it
+read-first : (o : TableOffset) (n : ℕ) (x : Option Seat)
+    → placeRefusal (rangeAt o n (seatPlace x)) ≡ firstOf (given (noSeat x) noTable ∷ given (placeLength (seatPlace x) <? o .0 + n) outsideTable ∷ [])
+unfolding refusalIn placeReply rangeAt seatPlace firstOf given noSeat
+read-first o n none = refl
+read-first o n (some t) = test-first placeRefusal (t .size <? o .0 + n) outsideTable _ _ [] refl refl
 
 element-first : (x : Option Placed) → placeRefusal (placedPlace x) ≡ firstOf (given (noPlaced x) noElement ∷ [])
 unfolding refusalIn placeReply placedPlace firstOf given noPlaced
@@ -238,7 +245,7 @@ module _ (d img : List ℕ) where
 
 -- FIRST GIVEN
 -- a description alone
-sound-given : (x : Option Refusal) → x ≡ firstOf (x ∷ [])
+pub sound-given : (x : Option Refusal) → x ≡ firstOf (x ∷ [])
 unfolding firstOf
 sound-given none = refl
 sound-given (some r) = refl
@@ -259,7 +266,7 @@ writing = tt
 -- one of 1 to 9 given: every question about an image gets it
 module _ (d img : List ℕ) (r : Refusal) (e : openImage d img ≡ refused r) (f : firstOf (refusalsOf ours ask.layout d img) ≡ some r) where
   refused-first : (q : Question) → FirstGiven d img q
-  unfolding asking writing firstOf refusalIn verdictReply placeReply layoutReply layoutIn tablePlaceReply tablePlaceIn integerPlace placeNumber placeVerdict tierIn seasonedIn matrixVerdictIn
+  unfolding asking writing firstOf refusalIn verdictReply placeReply layoutReply layoutIn tablePlaceReply tablePlaceIn readRangeReply rangeAt integerPlace placeNumber placeVerdict tierIn seasonedIn matrixVerdictIn
   refused-first ask.check = sound-given (verdictRefusal (checkReply d))
   refused-first ask.layout = rw e (sym f)
   refused-first (ask.tablePlace m k) = rw e
@@ -273,6 +280,7 @@ module _ (d img : List ℕ) (r : Refusal) (e : openImage d img ≡ refused r) (f
   refused-first (ask.tier w q) = rw e
   refused-first ask.matrix = rw e
   refused-first (ask.seasoned t) = rw e
+  refused-first (ask.readRange m k p l) = rw e
 
 -- none of them given: the question's own tests
 module _ {d img : List ℕ} {ts : List Seat} {es : List Placed} {s : Slots} {n : ℕ} (o : Opens d img ts es s n) where
@@ -310,6 +318,10 @@ module _ {d img : List ℕ} {ts : List Seat} {es : List Placed} {s : Slots} {n :
   -- places
   table-opened : (m k : ℕ) → placeRefusal (tablePlaceReply d img m k) ≡ firstOf (refusalIn (layoutReply d img) ∷ ten d m k ∷ [])
   table-opened m k = rw (behind-layout, ten-is m k, table-laid o m k) (table-first (tableNamed m k ts))
+
+  read-opened : (m k : ℕ) (p : TableOffset) (l : ℕ) → FirstGiven d img (ask.readRange m k p l)
+  unfolding outcomeBy refusalsOf readRangeReply twelve
+  read-opened m k p l = rw (behind-layout, ten-is m k, table-laid o m k) (read-first p l (tableNamed m k ts))
 
   element-opened : (q : ElementName) → placeRefusal (elementPlaceReply d img q) ≡ firstOf (refusalIn (layoutReply d img) ∷ eleven d img q ∷ [])
   element-opened q = rw (behind-layout, eleven-is q, where-laid o q) (element-first (elementIn q es))
@@ -369,6 +381,7 @@ module _ {d img : List ℕ} {ts : List Seat} {es : List Placed} {s : Slots} {n :
   opened-first (ask.tier w q) = tier-opened w q
   opened-first ask.matrix = matrix-opened
   opened-first (ask.seasoned t) = seasoned-opened t
+  opened-first (ask.readRange m k p l) = read-opened m k p l
 
 -- each case of opening the image, with what 1 to 9 then are
 pub first-given : (d img : List ℕ) (q : Question) → FirstGiven d img q

@@ -97,10 +97,13 @@ after d img rest h = known-more _ _ (layout-known d img) h
 pub one-known : (b : Bool) (n : ℕ) → isGiven n ≡ true → Every KnownIn (given b (numbered n) ∷ [])
 one-known b n h = known-more _ _ (given-known b n h) known-last
 
--- three tests, and four
+-- two tests, three, and four
+pub two-known : (a b : Bool) (p q : ℕ) → isGiven p ≡ true → isGiven q ≡ true → Every KnownIn (given a (numbered p) ∷ given b (numbered q) ∷ [])
+two-known a b p q h i = known-more _ _ (given-known a p h) (one-known b q i)
+
 pub three-known : (a b c : Bool) (p q r : ℕ) → isGiven p ≡ true → isGiven q ≡ true → isGiven r ≡ true
     → Every KnownIn (given a (numbered p) ∷ given b (numbered q) ∷ given c (numbered r) ∷ [])
-three-known a b c p q r h i j = known-more _ _ (given-known a p h) (known-more _ _ (given-known b q i) (one-known c r j))
+three-known a b c p q r h i j = known-more _ _ (given-known a p h) (two-known b c q r i j)
 
 pub four-known : (a b c d : Bool) (p q r s : ℕ) → isGiven p ≡ true → isGiven q ≡ true → isGiven r ≡ true → isGiven s ≡ true
     → Every KnownIn (given a (numbered p) ∷ given b (numbered q) ∷ given c (numbered r) ∷ given d (numbered s) ∷ [])

@@ -13,8 +13,9 @@ use Rattle.meaning.specs.Layout.{dataOrder, numberAt}
 use Rattle.meaning.proofs.Splices.{part-at, part-long}
 use Rattle.demands.specs.Demand2.{OthersSame, Unchanged}
 use Rattle.demands.specs.Demands.{Demands}
+use Rattle.demands.specs.Messages.{Octets}
 use Rattle.demands.specs.Replies.{Replies, octetsAt}
-use Rattle.demands.proofs.OnlyOctets.{Octets, octets-at, writing-only}
+use Rattle.demands.proofs.OnlyOctets.{octets-at, writing-only}
 use Rattle.demands.proofs.OnlyOrder.{order-kept}
 use Rattle.demands.proofs.OnlyWrites.{later-same, range-only, octets-only, number-write-only, range-written, octets-written}
 use Rattle.meaning.specs.Refusals.{placeStart}

@@ -1,5 +1,5 @@
 -- A NUMBER HAS ONE WRITING in octets of a width, in either DATA_ORDER. Assumes nothing.
-use Prim.Native.Nat.{ℕ, suc, _<_}
+use Prim.Native.Nat.{ℕ, zero, suc, _<_}
 use mathlib.Core.Path.{_≡_, refl, sym, _∙_, ap}
 use mathlib.Core.Bool.{Bool, true, false, cond}
 use mathlib.Core.List.{List, [], _∷_, reverse, reverse-cons, reverse-reverse}
@@ -9,10 +9,14 @@ use Rattle.meaning.specs.Basics.{_=?_, leastFirst, mostFirst, numberIn}
 use Rattle.meaning.proofs.Octets.{most-reverse}
 use Rattle.laying.specs.Every.{Every}
 use Rattle.laying.proofs.Every.{every-append}
+use Rattle.demands.specs.Messages.{Octets}
 
 -- OCTETS
-abbrev pub Octets : List ℕ → Type 0
-Octets = Every (λ x. x < 256)
+pub octet-at : (xs : List ℕ) → Octets xs → (i : ℕ) → getD xs i 0 < 256
+unfolding Every
+octet-at [] h i = omega arith
+octet-at (x ∷ xs) h zero = h .0
+octet-at (x ∷ xs) h (suc i) = octet-at xs (h .1) i
 
 pub octets-at : (xs : List ℕ) → ((i : ℕ) → i < length xs → getD xs i 0 < 256) → Octets xs
 unfolding Every

@@ -1,17 +1,23 @@
 -- THE DEMANDS DECIDE EVERY READ: two families R and S that meet them check alike, tell the same total, tables and elements, the same parts of the image and the same numbers. Assumes of
 -- S besides that the places of a name past its count aren't read: `one` of specs/Demand3 says only whose element an octet is.
-use Prim.Native.Nat.{ℕ, _≤_}
+use Prim.Native.Nat.{ℕ, _+_, _≤_}
 use mathlib.Core.Path.{_≡_, refl, sym, _∙_, ap}
-use mathlib.Core.List.{List, []}
+use mathlib.Core.List.{List, [], _∷_}
+use borrow.Author.Tests.{ltb-false}
+use Rattle.offsets.specs.declared.TableOffset.{TableOffset}
+use Rattle.meaning.specs.Basics.{_<?_}
 use Rattle.meaning.specs.declared.ElementName.{ElementName}
 use Rattle.meaning.specs.declared.Place.{Place}
 use Rattle.meaning.specs.declared.Place.the-variants as place
+use Rattle.meaning.specs.Numbers.{outsideTable}
 use Rattle.meaning.specs.Questions as ask
-use Rattle.demands.specs.Demand1.{refusalsOf}
+use Rattle.meaning.specs.Questions.{refusalIn}
+use Rattle.meaning.specs.Refusals.{placeLength}
+use Rattle.demands.specs.Demand1.{given, firstOf, ten, twelve, refusalsOf}
 use Rattle.demands.specs.Demand3.{SameName}
 use Rattle.demands.specs.Demands.{Demands}
 use Rattle.demands.specs.Replies.{Replies, outcomeBy, octetsAt}
-use Rattle.demands.proofs.OnlyFirst.{reply-same, place-same, refusal-same, check-decided}
+use Rattle.demands.proofs.OnlyFirst.{reply-same, place-same, first-none, given-none, refusal-same, check-decided}
 use Rattle.demands.proofs.OnlyNames.{existing, names-compared}
 use Rattle.demands.proofs.OnlyPlaces.{told, total-is, table-told, element-told, number-told, Is, start, size, Before, stands-at, set-out, tiled}
 use Rattle.demands.proofs.OnlyTiles.{stands-there}
@@ -48,6 +54,29 @@ module _ (R S : Replies) (r : Demands R) (s : Demands S) where
             r .second d img .reads .table m k _ n e ∙ sym (s .second d img .reads .table m k _ n (sym (table-only m k) ∙ e))
         go (place.Refused x) e =
             r .first d img .octets .tablePart m k x e ∙ sym (s .first d img .octets .tablePart m k x (sym (table-only m k) ∙ e))
+
+    -- a range of a table: the table is told, and the range lies in it
+    pub read-only : (m k : ℕ) (o : TableOffset) (n : ℕ) → R .readRange d img m k o n ≡ S .readRange d img m k o n
+    unfolding outcomeBy refusalsOf twelve firstOf
+    read-only m k o n =
+        let e = refusal-same R S r s d img (ask.readRange m k o n) (rw (layout-only, table-only m k)) in
+        place-same (R .readRange d img m k o n) (S .readRange d img m k o n) e (λ f.
+        let size = placeLength (R .tablePlace d img m k) in
+        let past = given (size <? o .0 + n) outsideTable in
+        let a = first-none (refusalIn (R .layout d img)) (ten d m k ∷ past ∷ []) (sym (r .first d img .asked (ask.readRange m k o n) .first) ∙ f) in
+        let b = first-none (ten d m k) (past ∷ []) (a .1) in
+        let fits = ltb-false size (o .0 + n) (given-none _ outsideTable (first-none past [] (b .1) .0)) in
+        let at = told (R .tablePlace d img m k) (r .first d img .asked (ask.tablePlace m k) .first ∙ rw (a .0, b .0)) in
+        r .second d img .reads .range m k _ _ o n at fits ∙ sym (s .second d img .reads .range m k _ _ o n (sym (table-only m k) ∙ at) fits))
+
+    pub read-part-only : (m k : ℕ) (o : TableOffset) (n : ℕ) → R .rangePart d img m k o n ≡ S .rangePart d img m k o n
+    read-part-only m k o n = go (R .readRange d img m k o n) refl
+      where
+        go : (x : Place) → R .readRange d img m k o n ≡ x → R .rangePart d img m k o n ≡ S .rangePart d img m k o n
+        go (place.At p l) e =
+            r .second d img .reads .rangePart m k o n _ l e ∙ sym (s .second d img .reads .rangePart m k o n _ l (sym (read-only m k o n) ∙ e))
+        go (place.Refused x) e =
+            r .first d img .octets .rangePart m k o n x e ∙ sym (s .first d img .octets .rangePart m k o n x (sym (read-only m k o n) ∙ e))
 
     module _ (counted : Counted S) where
       pub element-only : (q : ElementName) → R .elementPlace d img q ≡ S .elementPlace d img q

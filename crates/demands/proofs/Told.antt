@@ -3,8 +3,8 @@ use Prim.Native.Nat.{ℕ, _<_, _≤_}
 use mathlib.Core.Path.{_≡_, refl}
 use mathlib.Core.Bool.{Bool, true, false, not, cond, _&&_, _||_, true≢false, false≢true}
 use native.Mathlib.Omega.{arith}
-use borrow.Author.Tests.{ltb-true, ltb-false, eqb-true, lt-ltb, le-ltb, eq-eqb}
-use lib.Dec.{eqb, ltb}
+use borrow.Author.Tests.{ltb-true, ltb-false, leb-true, eqb-true, lt-ltb, le-ltb, le-leb, eq-eqb}
+use lib.Dec.{eqb, leb, ltb}
 use Rattle.meaning.specs.Passed.{Exactly}
 use Rattle.almanac.proofs.Choices.{put}
 
@@ -24,6 +24,9 @@ itself = (λ x. x, λ x. x)
 
 pub below : (m n : ℕ) → Holds (ltb m n) (m < n)
 below m n = (ltb-true m n, lt-ltb m n)
+
+pub upto : (m n : ℕ) → Holds (leb m n) (m ≤ n)
+upto m n = (leb-true m n, le-leb m n)
 
 pub equal : (m n : ℕ) → Holds (eqb m n) (m ≡ n)
 equal m n = (eqb-true m n, eq-eqb m n)

@@ -9,6 +9,7 @@ use mathlib.Core.Bool.{Bool, true, false, not, _&&_, _||_}
 use mathlib.Core.List.{List, [], _∷_, _++_}
 use mathlib.Core.Option.{Option, some, none}
 use lib.ListN.{length, replicate}
+use Rattle.offsets.specs.declared.TableOffset.{TableOffset}
 use Rattle.meaning.specs.Basics.{if_then_else_, _=?_, _<?_, _≤?_}
 use Rattle.meaning.specs.declared.Chosen.{Chosen}
 use Rattle.meaning.specs.declared.Controls.{Controls}
@@ -31,13 +32,13 @@ use Rattle.demands.specs.Replies.{Replies, outcomeBy, alone}
 use Rattle.demands.specs.Rules.{CheckSays}
 use Rattle.demands.specs.Walk.{octetBefore, runsPast, numbersIn, exists}
 
--- A LIST OF REFUSALS
--- a refusal, where its test holds
-unfoldable pub given : Bool → Refusal → Option Refusal
+-- A LIST OF REFUSALS, or of the codes that refuse a message (specs/Messages)
+-- one of them, where its test holds
+unfoldable pub given : {A : Type 0} → Bool → A → Option A
 given test r = if test then some r else none
 
 -- the first of those given
-unfoldable pub firstOf : List (Option Refusal) → Option Refusal
+unfoldable pub firstOf : {A : Type 0} → List (Option A) → Option A
 firstOf [] = none
 firstOf (none ∷ rest) = firstOf rest
 firstOf (some r ∷ rest) = some r
@@ -157,6 +158,7 @@ refusalsOf R (ask.writeNumber q x) d img =
 refusalsOf R (ask.tier w q) d img = refusalIn (R .layout d img) ∷ ofCalendar R d img ++ ofMoment R d img w
 refusalsOf R ask.matrix d img = refusalIn (R .layout d img) ∷ ofCalendar R d img
 refusalsOf R (ask.seasoned t) d img = refusalIn (R .layout d img) ∷ ofCalendar R d img ++ sixteen t
+refusalsOf R (ask.readRange m k o n) d img = refusalIn (R .layout d img) ∷ ten d m k ∷ twelve (placeLength (R .tablePlace d img m k)) (o .0) n ∷ []
 
 -- AN ANSWER OR ONE OF THE NUMBERED REFUSALS: number, item and octet; then the answer's own values, 0 on refusal
 -- the numbers of the table; 2 to 7 report the item, 9 the item and octet, others nothing more
@@ -183,6 +185,7 @@ pub record Asked (R : Replies) (d img : List ℕ) (q : Question) : Type 0 where
 pub record NoOctets (R : Replies) (d img : List ℕ) : Type 0 where
   pub tablePart : (m k : ℕ) (r : Refusal) → R .tablePlace d img m k ≡ Place.Refused r → R .tablePart d img m k ≡ []
   pub elementPart : (q : ElementName) (r : Refusal) → R .elementPlace d img q ≡ Place.Refused r → R .elementPart d img q ≡ []
+  pub rangePart : (m k : ℕ) (o : TableOffset) (n : ℕ) (r : Refusal) → R .readRange d img m k o n ≡ Place.Refused r → R .rangePart d img m k o n ≡ []
   pub matrix : (r : Refusal) → R .matrixVerdict d img ≡ Verdict.Refused r → R .matrix d img ≡ replicate 15 (replicate 22 0)
   pub matrixCells : (r : Refusal) → R .matrixVerdict d img ≡ Verdict.Refused r → (lent : List (List ℕ)) → R .matrixCells d img lent ≡ lent
 

@@ -107,12 +107,15 @@ pub record NumberWrites (R : Replies) (d img : List ℕ) (q : ElementName) (x : 
   pub others : (p n : ℕ) → R .writeNumber d img q x ≡ Verdict.Passed → R .elementPlace d img q ≡ octetsAt p n → OthersSame img (R .numberImage d img q x) p n
   pub unchanged : Unchanged (R .writeNumber d img q x) img (R .numberImage d img q x)
 
--- READS: the octets of the place that is told, and of an integer the number that they make in the image's DATA_ORDER. On refusal see specs/Demand1
+-- READS: the octets of the place that is told, of a range that lies in its table from the offset on, and of an integer the number that they make in the image's DATA_ORDER. On refusal see specs/Demand1
 pub record Reads (R : Replies) (d img : List ℕ) : Type 0 where
   pub table : (m k p n : ℕ) → R .tablePlace d img m k ≡ octetsAt p n → R .tablePart d img m k ≡ part img p n
   pub element : (q : ElementName) (p n : ℕ) → R .elementPlace d img q ≡ octetsAt p n → R .elementPart d img q ≡ part img p n
   pub number : (q : ElementName) (p n : ℕ) → R .elementPlace d img q ≡ octetsAt p n → isUint (fieldsAt d (q .item)) ≡ true
       → R .elementNumber d img q ≡ Reply.Number (numberAt img p n)
+  pub range : (m k p size : ℕ) (o : TableOffset) (n : ℕ) → R .tablePlace d img m k ≡ octetsAt p size → o .0 + n ≤ size
+      → R .readRange d img m k o n ≡ octetsAt (p + o .0) n
+  pub rangePart : (m k : ℕ) (o : TableOffset) (n p l : ℕ) → R .readRange d img m k o n ≡ octetsAt p l → R .rangePart d img m k o n ≡ part img p l
 
 -- THE CALENDAR: the tier, by the octets of tables 51 and 54 as the tables' parts give them, and whether a season record stands and the matrix by the same; days and weekdays, and which
 -- record chooses season and special schedule, by which refusal 19 goes (crate almanac, specs/)

@@ -1,10 +1,12 @@
 pub mod Replies
-pub mod Same
 pub mod Walk
 pub mod Rules
 pub mod Calendar
 pub mod Demand3
 pub mod Demand2
 pub mod Demand1
+pub mod Bench
+pub mod Messages
+pub mod Same
 pub mod Demands
 pub mod Wrong

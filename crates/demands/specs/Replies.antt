@@ -11,7 +11,7 @@ use Rattle.meaning.specs.declared.Quantity.{Quantity}
 use Rattle.meaning.specs.declared.Reply.{Reply}
 use Rattle.meaning.specs.declared.Verdict.{Verdict}
 use Rattle.meaning.specs.Description.{checkReply}
-use Rattle.meaning.specs.Refusals.{verdictReply, placeReply, layoutReply, tablePlaceReply, elementPlaceReply, tablePartReply, elementPartReply, elementNumberReply}
+use Rattle.meaning.specs.Refusals.{verdictReply, placeReply, layoutReply, tablePlaceReply, elementPlaceReply, tablePartReply, elementPartReply, readRangeReply, readRangePart, elementNumberReply}
 use Rattle.meaning.specs.Refusals.{writeRangeReply, writeRangeImage, writeOctetsReply, writeOctetsImage, writeNumberReply, writeNumberImage}
 use Rattle.meaning.specs.Calendar.{tierReply, seasonedReply, matrixReply, matrixVerdict, cellsAfter}
 use Rattle.meaning.specs.Questions as ask
@@ -37,6 +37,8 @@ pub record Replies : Type 0 where
   pub matrixVerdict : (description image : List ℕ) → Verdict
   pub matrixCells : (description image : List ℕ) → (lent : List (List ℕ)) → List (List ℕ)
   pub seasoned : (description image : List ℕ) → Date → Reply
+  pub readRange : (description image : List ℕ) → (manufacturer number : ℕ) → TableOffset → (length : ℕ) → Place
+  pub rangePart : (description image : List ℕ) → (manufacturer number : ℕ) → TableOffset → (length : ℕ) → List ℕ
 
 abbrev pub ours : Replies
 ours =
@@ -59,6 +61,8 @@ ours =
       matrixVerdict = matrixVerdict;
       matrixCells = λ d img lent. cellsAfter (matrixVerdict d img) (matrixReply d img) lent;
       seasoned = seasonedReply;
+      readRange = readRangeReply;
+      rangePart = readRangePart;
     }
 
 -- WHAT A QUESTION COMES TO in a family: its reply, the octets that it tells, the image afterwards
@@ -76,6 +80,7 @@ outcomeBy R (ask.writeNumber q x) d img = outcome (verdictReply (R .writeNumber 
 outcomeBy R (ask.tier w q) d img = outcome (R .tier d img w q) [] img
 outcomeBy R ask.matrix d img = outcome (verdictReply (R .matrixVerdict d img)) (flatten (R .matrix d img)) img
 outcomeBy R (ask.seasoned t) d img = outcome (R .seasoned d img t) [] img
+outcomeBy R (ask.readRange m k o n) d img = outcome (placeReply (R .readRange d img m k o n)) (R .rangePart d img m k o n) img
 
 -- A PLACE: n octets from octet p on
 abbrev pub octetsAt : (p n : ℕ) → Place

@@ -1,4 +1,4 @@
--- TWO FAMILIES OF REPLIES THAT ARE THE SAME: every reply, and all that is left in lent memory, for every description, image and question. Assumes nothing.
+-- TWO FAMILIES OF REPLIES THAT ARE THE SAME: every reply, and all that is left in lent memory, for every description, image and question; and two families of messages. Assumes nothing.
 use Prim.Native.Nat.{ℕ}
 use mathlib.Core.Path.{_≡_}
 use mathlib.Core.List.{List}
@@ -7,6 +7,9 @@ use Rattle.meaning.specs.declared.Date.{Date}
 use Rattle.meaning.specs.declared.ElementName.{ElementName}
 use Rattle.meaning.specs.declared.Moment.{Moment}
 use Rattle.meaning.specs.declared.Quantity.{Quantity}
+use Rattle.meaning.specs.Messages.{Request, MeterReply}
+use Rattle.demands.specs.Bench.{Messages}
+use Rattle.demands.specs.Messages.{Octets, requestData, replyData}
 use Rattle.demands.specs.Replies.{Replies}
 
 pub record Same (R S : Replies) : Type 0 where
@@ -28,3 +31,17 @@ pub record Same (R S : Replies) : Type 0 where
   pub matrixVerdict : (d img : List ℕ) → R .matrixVerdict d img ≡ S .matrixVerdict d img
   pub matrixCells : (d img : List ℕ) (lent : List (List ℕ)) → R .matrixCells d img lent ≡ S .matrixCells d img lent
   pub seasoned : (d img : List ℕ) (t : Date) → R .seasoned d img t ≡ S .seasoned d img t
+  pub readRange : (d img : List ℕ) (m k : ℕ) (o : TableOffset) (n : ℕ) → R .readRange d img m k o n ≡ S .readRange d img m k o n
+  pub rangePart : (d img : List ℕ) (m k : ℕ) (o : TableOffset) (n : ℕ) → R .rangePart d img m k o n ≡ S .rangePart d img m k o n
+
+-- messages: everything that is read, replied and left in the image; what is left in the room, where the octets that go into it are octets
+pub record SameMessages (M N : Messages) : Type 0 where
+  pub readRequest : (xs : List ℕ) → M .readRequest xs ≡ N .readRequest xs
+  pub readReply : (xs : List ℕ) → M .readReply xs ≡ N .readReply xs
+  pub writeRequest : (q : Request) (room : List ℕ) → M .writeRequest q room ≡ N .writeRequest q room
+  pub requestRoom : (q : Request) (room : List ℕ) → Octets (requestData q) → M .requestRoom q room ≡ N .requestRoom q room
+  pub writeReply : (a : MeterReply) (room : List ℕ) → M .writeReply a room ≡ N .writeReply a room
+  pub replyRoom : (a : MeterReply) (room : List ℕ) → Octets (replyData a) → M .replyRoom a room ≡ N .replyRoom a room
+  pub serve : (d img xs room : List ℕ) → M .serve d img xs room ≡ N .serve d img xs room
+  pub servedImage : (d img xs room : List ℕ) → M .servedImage d img xs room ≡ N .servedImage d img xs room
+  pub servedRoom : (d img xs room : List ℕ) → Octets img → M .servedRoom d img xs room ≡ N .servedRoom d img xs room

@@ -1,10 +1,10 @@
 -- WRONG PROGRAMS, each with the clause that it breaks: those that document 01 lists where it says how full a statement it expects, and some more. A wrong program is any family of
--- replies that does what is said of it, on whatever description or image; the clause that refutes it is said of the example D and its first image, with what the clause
--- leans on. proofs/Wrong.antt proves each. Assumes nothing.
-use Prim.Native.Nat.{ℕ, _<_}
+-- replies or of messages that does what is said of it, on whatever description or image; the clause that refutes it is said of the example D and its first image, with what the
+-- clause leans on. proofs/Wrong.antt proves each. Assumes nothing.
+use Prim.Native.Nat.{ℕ, _+_, _%_, _<_}
 use mathlib.Core.Path.{_≡_}
 use mathlib.Core.List.{List, [], _∷_}
-use lib.ListN.{length}
+use lib.ListN.{length, getD}
 use Rattle.offsets.specs.declared.TableOffset.{TableOffset}
 use Rattle.meaning.specs.declared.Date.{Date}
 use Rattle.meaning.specs.declared.ElementName.{ElementName}
@@ -14,13 +14,16 @@ use Rattle.meaning.specs.declared.Quantity.{Quantity}
 use Rattle.meaning.specs.declared.Reply.{Reply}
 use Rattle.meaning.specs.declared.Verdict.{Verdict}
 use Rattle.meaning.specs.Examples.{D, D-writable, first, at, offset, clock, clock-image, moment, date}
+use Rattle.meaning.specs.Messages.{fullWrite, sumOf}
 use Rattle.meaning.specs.Numbers.{noElement}
 use Rattle.meaning.specs.Layout.{dataOrder}
 use Rattle.meaning.specs.Refusals.{tablePartReply}
 use Rattle.demands.specs.Calendar.{TierSays, SeasonedSays}
 use Rattle.demands.specs.Demand2.{Reads, RangeWrites, OctetsWrites, NumberWrites}
 use Rattle.demands.specs.Demand3.{PassedExactly, Passed, TotalExactly, ElementsStand}
-use Rattle.demands.specs.Replies.{Replies, octetsAt, alone}
+use Rattle.demands.specs.Bench.{Messages}
+use Rattle.demands.specs.Messages.{ReadsRequest, WritesRequest, Serves}
+use Rattle.demands.specs.Replies.{Replies, ours, octetsAt, alone}
 
 -- a calendar of two seasons: from 1 January 2024 on season 1. Every day of season 0 has schedule 1, tier 0; every day of season 1 schedule 2, tier 2
 abbrev pub two-seasons : List ℕ
@@ -121,3 +124,56 @@ pub record WrongPrograms (R : Replies) : Type 0 where
   pub firstRow : FirstRow R → CalendarRead R (clock 15) two-seasons → ⊥
   pub fromTheNextDay : FromTheNextDay R → CalendarRead R (clock 12) clock-image → ⊥
   pub neverNo : NeverNo R → CalendarRead R (clock 12) clock-image → ⊥
+
+-- MESSAGES. Requests of D: full reads of ids 5 and 2,053; one octet written to Table 5; a full write of one octet to Table 00, which has two and isn't writable
+abbrev pub read-5 : List ℕ
+read-5 = 0x30 ∷ 0x00 ∷ 0x05 ∷ []
+
+abbrev pub read-2053 : List ℕ
+read-2053 = 0x30 ∷ 0x08 ∷ 0x05 ∷ []
+
+abbrev pub write-5 : List ℕ
+write-5 = 0x4F ∷ 0x00 ∷ 0x05 ∷ 0x00 ∷ 0x00 ∷ 0x00 ∷ 0x00 ∷ 0x01 ∷ 0x07 ∷ 0xF9 ∷ []
+
+abbrev pub write-0 : List ℕ
+write-0 = 0x40 ∷ 0x00 ∷ 0x00 ∷ 0x00 ∷ 0x01 ∷ 0x07 ∷ 0xF9 ∷ []
+
+-- room for ten octets
+abbrev pub ten-zeros : List ℕ
+ten-zeros = 0 ∷ 0 ∷ 0 ∷ 0 ∷ 0 ∷ 0 ∷ 0 ∷ 0 ∷ 0 ∷ 0 ∷ []
+
+module _ (M : Messages) where
+  -- octets read and served over D and its first image, by our tables' replies
+  pub record OverD (xs room : List ℕ) : Type 0 where
+    pub read : ReadsRequest M xs
+    pub served : Serves M ours D first xs room
+
+  -- 14. A CHECK OCTET OVER COUNT AND DATA, so that all of these make a multiple of 256, breaks "the sum of the data octets"
+  pub record ChecksCount : Type 0 where
+    pub octet : (id : ℕ) (new room : List ℕ) (n : ℕ) → M .writeRequest (fullWrite id new) room ≡ Reply.Total n
+        → let later = M .requestRoom (fullWrite id new) room in (getD later 3 0 + getD later 4 0 + sumOf new + getD later (5 + length new) 0) % 256 ≡ 0
+
+  -- 15. A CHECK OCTET THAT IS THE SUM ITSELF breaks "is its two's complement"
+  pub record NotNegated : Type 0 where
+    pub octet : (id : ℕ) (new room : List ℕ) (n : ℕ) → M .writeRequest (fullWrite id new) room ≡ Reply.Total n
+        → getD (M .requestRoom (fullWrite id new) room) (5 + length new) 0 ≡ sumOf new % 256
+
+  -- 16. AN ID TAKEN MODULO 2,048, here 2,053 for 5, breaks "a manufacturer table's id is its number plus 2,048"
+  pub record Modulo : Type 0 where
+    pub same : (d img room : List ℕ) → M .serve d img read-2053 room ≡ M .serve d img read-5 room
+
+  -- 17. A WRITE MADE ALTHOUGH ITS REPLY DOESN'T FIT, so that the room has no part in it, breaks "before any write is done"
+  pub record WritesAnyway : Type 0 where
+    pub same : (d img xs room : List ℕ) → M .servedImage d img xs [] ≡ M .servedImage d img xs room
+
+  -- 18. 13 TOLD BEFORE A FULL WRITE'S 12 breaks the order of refusals
+  pub record ThirteenFirst : Type 0 where
+    pub told : M .servedRoom D first write-0 (0 ∷ []) ≡ 0x03 ∷ []
+
+-- ALL OF THEM
+pub record WrongMessages (M : Messages) : Type 0 where
+  pub checksCount : ChecksCount M → WritesRequest M (fullWrite 5 (7 ∷ [])) ten-zeros → ⊥
+  pub notNegated : NotNegated M → WritesRequest M (fullWrite 5 (7 ∷ [])) ten-zeros → ⊥
+  pub modulo : Modulo M → OverD M read-5 ten-zeros → OverD M read-2053 ten-zeros → ⊥
+  pub writesAnyway : WritesAnyway M → OverD M write-5 [] → OverD M write-5 (0 ∷ []) → ⊥
+  pub thirteenFirst : ThirteenFirst M → OverD M write-0 (0 ∷ []) → ⊥

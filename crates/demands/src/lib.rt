@@ -1,10 +1,11 @@
-// The three demands, stated of any family of replies; that ours meets them, and that no other does. No
-// function stands here.
+// The three demands, stated of any family of replies, and what document 02 asks of messages, stated of any
+// family of messages; that ours meet them, and that no others do. No function stands here.
 //
-// specs/ is what has to be believed: Demands, clause by clause in Demand1, Demand2 and Demand3. The words
-// that they share: Replies (a family of replies, and ours), Rules (the rules on descriptions), Walk (laying
-// out, item by item), Calendar (the tier, the season records and the matrix over the tables' octets). Same
-// says that two families are one; Wrong has wrong programs, each with the clause that it breaks.
+// specs/ is what has to be believed: Demands, clause by clause in Demand1, Demand2, Demand3 and Messages. The
+// words that they share: Replies (a family of replies, and ours), Bench (a family of messages, and ours), Rules
+// (the rules on descriptions), Walk (laying out, item by item), Calendar (the tier, the season records and the
+// matrix over the tables' octets). Same says that two families are one; Wrong has wrong programs, each with the
+// clause that it breaks.
 //
 // proofs/, from below:
 // Told, Surrounds, Rules: our check says what the rules in words say.
@@ -13,4 +14,6 @@
 // Calendar: the tier, the season records and the matrix.
 // Names, Elements, Tables, Made, Outcomes: places. Writes, Writable, Dimensions, Allowed, Octets, RangeWrites,
 // ElementWrites: writes. Known, Tests, FirstGiven: refusals. Demand1, Demand2, Demand3, Demands: all of it.
-// Only and what begins with its name: the demands decide every reply. Wrong: the wrong programs.
+// Forms: the forms of messages, without a program. Sending, Reading, Undoing, Serving, Messages: ours have them.
+// Only and what begins with its name: the demands decide every reply and every message. Wrong, WrongMessages: the
+// wrong programs.

@@ -5,7 +5,7 @@ use mathlib.Core.Bool.{Bool, true, false, not, _&&_, _||_, and-eq-true-iff}
 use Prim.Native.Nat.{ℕ, zero, suc, _+_, _≤_, _<_, zero-le}
 use native.Mathlib.Nat.{not-suc-le-zero, le-of-suc-le-suc, add-zero, zero-add}
 use native.Mathlib.Omega.{arith}
-use borrow.Author.Tests.{lt-ltb, le-ltb, leb-true, eqb-true, ne-eqb, not-true}
+use borrow.Author.Tests.{lt-ltb, le-ltb, lt-leb, leb-true, eqb-true, ne-eqb, not-true}
 use lib.Dec.{leb, eqb}
 use lib.ListN.{length, getD, take, length-take, length-drop}
 use lib.Seq.{length-take-le}
@@ -19,8 +19,8 @@ use Rattle.words.proofs.LineLaws.{count-of, word-of}
 use Rattle.lines.specs.declared.rows.Form.{Form}
 use Rattle.lines.specs.declared.read.Part.{Part}
 use Rattle.lines.specs.declared.read.Asked.{Asked}
-use Rattle.lines.specs.Answer.{nth, Row, rows, noRow, rowAt, kindOf, formOf, Within, wordIf}
-use Rattle.lines.specs.Answer.{noForm, replyText, answerAs, answerWords, answerText, roomFor, Replied}
+use Rattle.lines.specs.Answer.{nth, Row, tableRows, messageRows, rows, noRow, rowAt, kindOf, formOf, Within, wordIf, isKind, takes}
+use Rattle.lines.specs.Answer.{noForm, rowText, replyText, answerAs, answerWords, answerText, roomFor, Replied}
 use Rattle.lines.specs.Read.{OfSeven, PartRead, AskedRead}
 use Rattle.lines.proofs.OctetLaws.{partFrom, part-read}
 use Rattle.lines.proofs.ReadLaws.{read-within}
@@ -78,30 +78,56 @@ all-at f from (r ∷ rs) h (suc k) l =
     let e : from + suc k ≡ from + 1 + k = omega arith in
     rw e (all-at f (from + 1) rs (and-eq-true-iff (f from r) _ .0 h .1) k (le-of-suc-le-suc l))
 
--- at most seven numbers, with room for seven limits; at most five numbers told; octets told by the rows that `put_part` knows
+-- at most D and M, and seven numbers, with room for seven limits; at most five numbers told; octets told by the rows that `put_part` knows
 knows : (kind : ℕ) → Bool
-knows k = eqb k 3 || (eqb k 5 || eqb k 11)
+knows k = eqb k 3 || (eqb k 5 || (eqb k 11 || (eqb k 13 || leb 14 k)))
 
 fits : ℕ → Row → Bool
-fits k r = leb (r .form .numbers) 7 && (eqb (length (r .form .most)) 7 && (leb (r .form .told) 5 && (knows k || not (r .form .part))))
+fits k r = leb (r .form .lent) 2 && (leb (r .form .numbers) 7 && (eqb (length (r .form .most)) 7 && (leb (r .form .told) 5 && (knows k || not (r .form .part)))))
 
 pub record RowFits (kind : ℕ) : Type 0 where
+  pub lent : formOf kind .lent ≤ 2
   pub numbers : OfSeven (formOf kind .numbers) (formOf kind .most)
   pub told : formOf kind .told ≤ 5
-  pub part : (kind ≡ 3 → ⊥) → (kind ≡ 5 → ⊥) → (kind ≡ 11 → ⊥) → formOf kind .part ≡ false
+  pub part : kind < 14 → (kind ≡ 3 → ⊥) → (kind ≡ 5 → ⊥) → (kind ≡ 11 → ⊥) → (kind ≡ 13 → ⊥) → formOf kind .part ≡ false
 
 pub row-fits : (kind : ℕ) → kind < length rows → RowFits kind
-unfolding rows rowAt formOf knows fits allFrom
+unfolding tableRows messageRows rows rowAt formOf knows fits allFrom
 row-fits kind h =
     let f : Form = formOf kind in
-    let all = and-eq-true-iff (leb (f .numbers) 7) _ .0 (rw (zero-add kind) at (all-at fits 0 rows refl kind h)) in
+    let lent = and-eq-true-iff (leb (f .lent) 2) _ .0 (rw (zero-add kind) at (all-at fits 0 rows refl kind h)) in
+    let all = and-eq-true-iff (leb (f .numbers) 7) _ .0 (lent .1) in
     let rest = and-eq-true-iff (eqb (length (f .most)) 7) _ .0 (all .1) in
     let last = and-eq-true-iff (leb (f .told) 5) _ .0 (rest .1) in
     record {
+      lent = leb-true _ _ (lent .0);
       numbers = record { few = leb-true _ _ (all .0); long = eqb-true _ _ (rest .0) };
       told = leb-true _ _ (last .0);
-      part = λ a b c. not-true (f .part) (rw (ne-eqb kind 3 a, ne-eqb kind 5 b, ne-eqb kind 11 c) at (last .1));
+      part = λ l a b c e. not-true (f .part) (rw (lt-leb 14 kind l, ne-eqb kind 3 a, ne-eqb kind 5 b, ne-eqb kind 11 c, ne-eqb kind 13 e) at (last .1));
     }
+
+-- but for two, a row takes any numbers within their limits
+noKinds : ℕ → Row → Bool
+noKinds k r = eqb k 16 || (eqb k 18 || eqb (length (r .kinds)) 0)
+
+no-kinds : (ks : List ℕ) (x : ℕ) → length ks ≡ 0 → true ≡ isKind ks x
+unfolding isKind
+no-kinds [] x e = refl
+no-kinds (k ∷ ks) x e = absurd (omega arith)
+
+pub any-kind : (kind : ℕ) (numbers : List ℕ) → kind < length rows → (kind ≡ 16 → ⊥) → (kind ≡ 18 → ⊥) → true ≡ takes kind numbers
+unfolding tableRows messageRows rows rowAt noKinds allFrom takes
+any-kind kind numbers h a b =
+    no-kinds (rowAt kind .kinds) (getD numbers 0 0) (eqb-true _ _ (rw (zero-add kind, ne-eqb kind 16 a, ne-eqb kind 18 b) at (all-at noKinds 0 rows refl kind h)))
+
+-- what it takes is replied, and what it doesn't is no form
+pub taken-text : (kind : ℕ) (d m numbers new : List ℕ) {b : Bool} → b ≡ takes kind numbers → b ≡ true → rowText kind d m numbers new ≡ replyText kind d m numbers new
+unfolding replyText
+taken-text kind d m numbers new e t = rw (← e, t)
+
+pub not-taken : (kind : ℕ) (d m numbers new : List ℕ) {b : Bool} → b ≡ takes kind numbers → b ≡ false → noForm ≡ replyText kind d m numbers new
+unfolding replyText
+not-taken kind d m numbers new e t = rw (← e, t)
 
 -- no row has that name
 pub unknown : (kind : ℕ) (line : List ℕ) {word : List ℕ} → kind ≡ kindOf word → word ≡ nth (lineWords line) 0 → length rows ≤ kind → length line ≤ 300000
@@ -132,3 +158,7 @@ module _ (kind : ℕ) {f : Form} (line : List ℕ) {word description image given
   -- the numbers are within the limits of the kind
   pub asked-within : r .is ≡ true → Within kind (r .numbers)
   asked-within h = record { each = rw is-form at (read-within s h) }
+
+-- what D or a message has of octets
+pub asked-few : (n : ℕ) (description earlier : List ℕ) → length description ≡ length earlier → length earlier ≡ 150000 → length (take n description) ≤ 150000
+asked-few n description earlier e h = omega (arith, length-take n description)

@@ -31,7 +31,7 @@ held-is line later xs m n held r hm hl e p =
     }
 
 -- memory of these lengths is enough, by their numbers: no list of so many octets is computed
-pub memory-of : (o d i g : ℕ) → 4 * i + 770 ≤ o → 150000 ≤ d → 150000 ≤ i → 150000 ≤ g
+pub memory-of : (o d i g : ℕ) → 4 * i + 300110 ≤ o → d ≡ 150000 → 150000 ≤ i → 150000 ≤ g
     → Memory (replicate o 0) (replicate d 0) (replicate i 0) (replicate g 0)
 memory-of o d i g h₀ h₁ h₂ h₃ =
     let long : (n : ℕ) → length (replicate {A = ℕ} n 0) ≡ n = λ n. length-replicate {A = ℕ} n 0 in

@@ -4,3 +4,4 @@ pub mod InputLaws
 pub mod OctetLaws
 pub mod PutLaws
 pub mod ReadLaws
+pub mod MessageLaws

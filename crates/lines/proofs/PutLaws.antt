@@ -144,7 +144,7 @@ module _ {out numbers : List ℕ} {count : ℕ} {now : List ℕ} {at i : ℕ} (s
 
 -- THE WHOLE REPLY: numbers, then octets where it has them, then the image afterwards where it has that; the line feed
 module _ (m octets image numbers : List ℕ) (count : ℕ) (part after : Bool) {out : List ℕ} (few : count ≤ 5) (room : roomFor m ≤ length out)
-    (short-octets : part ≡ true → length octets ≤ length m + 330) (short-image : length image ≤ length m) {now₁ : List ℕ} {at₁ : ℕ}
+    (short-octets : part ≡ true → length octets ≤ length m + 150000) (short-image : length image ≤ length m) {now₁ : List ℕ} {at₁ : ℕ}
     (p₁ : IsPut out 0 (first numbers count) now₁ at₁) where
   count-short : length (first numbers count) ≤ 105
   count-short = omega (arith, numbers-long [] (take count numbers), length-take count numbers)
@@ -152,16 +152,16 @@ module _ (m octets image numbers : List ℕ) (count : ℕ) (part after : Bool) {
   first-put : Replied out (first numbers count) now₁ at₁
   first-put = record { room = omega (arith, count-short); put = p₁ }
 
-  pub part-room : at₁ + 2 * length m + 662 ≤ length now₁
+  pub part-room : at₁ + 2 * length m + 300002 ≤ length now₁
   part-room = omega (arith, put-end first-put, count-short, put-long p₁)
 
   module _ {now₂ : List ℕ} {at₂ : ℕ} (p₂ : IsPut now₁ at₁ (hexBehind at₁ part octets) now₂ at₂) where
     told : List ℕ
     told = first numbers count ++ hexBehind at₁ part octets
 
-    told-short : length told ≤ 2 * length m + 767
+    told-short : length told ≤ 2 * length m + 300107
     unfolding told
-    told-short = simp length-append (omega (arith, count-short, hex-room at₁ part octets (length m + 330) short-octets))
+    told-short = simp length-append (omega (arith, count-short, hex-room at₁ part octets (length m + 150000) short-octets))
 
     told-put : Replied out told now₂ at₂
     unfolding told

@@ -10,7 +10,7 @@ use borrow.Author.Tests.{leb-true}
 use lib.Dec.{leb}
 use lib.ListN.{length, getD, take, drop, set, replicate, drop-of-length-le}
 use lib.Seq.{getD-take, take-all, take-suc, set-at, drop-cons, length-take-le}
-use Rattle.meaning.specs.Basics.{_=?_}
+use Rattle.meaning.specs.Basics.{_=?_, _<?_}
 use Rattle.words.specs.declared.types.Number.{Number}
 use Rattle.words.specs.declared.types.Number.the-variants.{Is, Not}
 use Rattle.words.specs.Number.{allDigits, valueOf, isNumber, numberOf}
@@ -72,61 +72,61 @@ number-within words from (m ∷ most) (suc i) e = number-within words (from + 1)
 pub limits-long : {count : ℕ} {most : List ℕ} → OfSeven count most → length (take count most) ≡ count
 limits-long {count} {most} o = length-take-le count most (omega arith)
 
--- the first i words from word 3 on are numbers, and `values` are what they come to, with zeros behind
-pub record SoFar (words : List (List ℕ)) (most values : List ℕ) (i : ℕ) : Type 0 where
+-- the first i words from a word on are numbers, and `values` are what they come to, with zeros behind
+pub record SoFar (words : List (List ℕ)) (from : ℕ) (most values : List ℕ) (i : ℕ) : Type 0 where
   pub within : i ≤ length most
-  pub left : areNumbers words 3 most ≡ areNumbers words (3 + i) (drop i most)
-  pub front : values ≡ take i (numbersIn words 3 most) ++ replicate (7 - i) 0
+  pub left : areNumbers words from most ≡ areNumbers words (from + i) (drop i most)
+  pub front : values ≡ take i (numbersIn words from most) ++ replicate (7 - i) 0
 
-pub so-far-none : (words : List (List ℕ)) (most : List ℕ) → SoFar words most (replicate 7 0) 0
-so-far-none words most = record { within = zero-le; left = rw add-zero; front = refl }
+pub so-far-none : (words : List (List ℕ)) (from : ℕ) (most : List ℕ) → SoFar words from most (replicate 7 0) 0
+so-far-none words from most = record { within = zero-le; left = rw add-zero; front = refl }
 
-module _ {words : List (List ℕ)} {count : ℕ} {all values : List ℕ} {i : ℕ} (o : OfSeven count all) (s : SoFar words (take count all) values i) (less : i < count)
-    {word : List ℕ} {r : Number} (w : word ≡ nth words (3 + i)) (e : r ≡ numberOf word (getD all i 0)) where
+module _ {words : List (List ℕ)} {from count : ℕ} {all values : List ℕ} {i : ℕ} (o : OfSeven count all) (s : SoFar words from (take count all) values i) (less : i < count)
+    {word : List ℕ} {r : Number} (w : word ≡ nth words (from + i)) (e : r ≡ numberOf word (getD all i 0)) where
   h : i < length (take count all)
   h = omega (arith, limits-long o)
 
   m : getD all i 0 ≡ getD (take count all) i 0
   m = sym (getD-take count all i 0 less)
 
-  pub so-far-more : (n : ℕ) → r ≡ Is n → SoFar words (take count all) (set values i n) (i + 1)
+  pub so-far-more : (n : ℕ) → r ≡ Is n → SoFar words from (take count all) (set values i n) (i + 1)
   so-far-more n f =
       let most : List ℕ = take count all in
       let q = number-is word (getD all i 0) e n f in
-      let v : n ≡ getD (numbersIn words 3 most) i 0 = q .1 ∙ ap valueOf w ∙ sym (number-at words 3 most i h) in
-      let t : isNumber (nth words (3 + i)) (getD most i 0) ≡ true = rw (w, m) at (q .0) in
-      let l : i < length (numbersIn words 3 most) = omega (arith, numbers-long words 3 most, h) in
-      let front : length (take i (numbersIn words 3 most)) ≡ i = length-take-le i (numbersIn words 3 most) (omega arith) in
+      let v : n ≡ getD (numbersIn words from most) i 0 = q .1 ∙ ap valueOf w ∙ sym (number-at words from most i h) in
+      let t : isNumber (nth words (from + i)) (getD most i 0) ≡ true = rw (w, m) at (q .0) in
+      let l : i < length (numbersIn words from most) = omega (arith, numbers-long words from most, h) in
+      let front : length (take i (numbersIn words from most)) ≡ i = length-take-le i (numbersIn words from most) (omega arith) in
       -- one number more in place of the first zero
       let k : 7 - i ≡ suc (7 - (i + 1)) = omega arith in
       record {
         within = omega (arith, h);
-        left = s .left ∙ are-next words 3 most i h ∙ rw t;
-        front = rw (s .front, k, set-at _ 0 _ n i front, add-one i, take-suc (numbersIn words 3 most) i 0 l, append-assoc, v);
+        left = s .left ∙ are-next words from most i h ∙ rw t;
+        front = rw (s .front, k, set-at _ 0 _ n i front, add-one i, take-suc (numbersIn words from most) i 0 l, append-assoc, v);
       }
 
-  pub so-far-not : r ≡ Not → NumbersRead words (take count all) (record { are = false; values = values })
+  pub so-far-not : r ≡ Not → NumbersRead words from (take count all) (record { are = false; values = values })
   so-far-not f =
-      let t : isNumber (nth words (3 + i)) (getD (take count all) i 0) ≡ false = rw (w, m) at (number-not word (getD all i 0) e f) in
+      let t : isNumber (nth words (from + i)) (getD (take count all) i 0) ≡ false = rw (w, m) at (number-not word (getD all i 0) e f) in
       record {
-        reply = sym (s .left ∙ are-next words 3 (take count all) i h ∙ rw t);
+        reply = sym (s .left ∙ are-next words from (take count all) i h ∙ rw t);
         memory = λ g. cc;
       }
 
-pub so-far-all : {words : List (List ℕ)} {most values : List ℕ} {i : ℕ} → SoFar words most values i → length most ≤ i
-    → NumbersRead words most (record { are = true; values = values })
+pub so-far-all : {words : List (List ℕ)} {from : ℕ} {most values : List ℕ} {i : ℕ} → SoFar words from most values i → length most ≤ i
+    → NumbersRead words from most (record { are = true; values = values })
 unfolding areNumbers seven
-so-far-all {words} {most} {values} {i} s h =
-    let l : length (numbersIn words 3 most) ≡ i = numbers-long words 3 most ∙ omega arith in
+so-far-all {words} {from} {most} {values} {i} s h =
+    let l : length (numbersIn words from most) ≡ i = numbers-long words from most ∙ omega arith in
     record {
       reply = sym (s .left ∙ rw (drop-of-length-le most h));
-      memory = λ g. s .front ∙ rw (take-all i (numbersIn words 3 most) (omega arith), l);
+      memory = λ g. s .front ∙ rw (take-all i (numbersIn words from most) (omega arith), l);
     }
 
 -- ALL THAT A LINE ASKS
 module _ {f : Form} {words : List (List ℕ)} {description image given : List ℕ} {d m g : Part} {n : Numbers}
-    (is-d : PartRead (wordIf true (nth words 1)) description d) (is-m : PartRead (wordIf (f .image) (nth words 2)) image m)
-    (is-n : NumbersRead words (take (f .numbers) (f .most)) n) (is-g : PartRead (wordIf (f .given) (nth words (3 + f .numbers))) given g) where
+    (is-d : PartRead (wordIf (0 <? f .lent) (nth words 1)) description d) (is-m : PartRead (wordIf (1 <? f .lent) (nth words 2)) image m)
+    (is-n : NumbersRead words (1 + f .lent) (take (f .numbers) (f .most)) n) (is-g : PartRead (wordIf (f .given) (nth words (1 + f .lent + f .numbers))) given g) where
   pub asked-read : {counted two three all r : Bool} → counted ≡ (length words =? f .words) → two ≡ (m .are && g .are) → three ≡ (d .are && two)
       → all ≡ (three && n .are) → r ≡ (counted && all)
       → AskedRead f words description image given (record { is = r; d = d .count; m = m .count; given = g .count; numbers = n .values })
@@ -151,7 +151,7 @@ pub read-within : {f : Form} {words : List (List ℕ)} {description image given 
     → r .is ≡ true → (i : ℕ) → getD (r .numbers) i 0 ≤ getD (limits f) i 0
 unfolding ofForm seven
 read-within {f} {words} s e i =
-    let octets : Bool = areOctets (dWord words) && (areOctets (mWord f words) && areOctets (givenWord f words)) in
-    let a : (octets && areNumbers words 3 (limits f)) ≡ true = and-eq-true-iff (length words =? f .words) _ .0 (sym (s .reply) ∙ e) .1 in
-    let t : areNumbers words 3 (limits f) ≡ true = and-eq-true-iff octets _ .0 a .1 in
-    rw (s .values e, padded (numbersIn words 3 (limits f)) _ i) (number-within words 3 (limits f) i t)
+    let octets : Bool = areOctets (dWord f words) && (areOctets (mWord f words) && areOctets (givenWord f words)) in
+    let a : (octets && areNumbers words (1 + f .lent) (limits f)) ≡ true = and-eq-true-iff (length words =? f .words) _ .0 (sym (s .reply) ∙ e) .1 in
+    let t : areNumbers words (1 + f .lent) (limits f) ≡ true = and-eq-true-iff octets _ .0 a .1 in
+    rw (s .values e, padded (numbersIn words (1 + f .lent) (limits f)) _ i) (number-within words (1 + f .lent) (limits f) i t)

@@ -6,17 +6,30 @@ use mathlib.Core.List.{List, []}
 use lib.ListN.{length, take}
 use Rattle.meaning.specs.declared.Told.{Told}
 use Rattle.meaning.specs.Refusals.{toldNumbers}
-use Rattle.meaning.specs.Questions.{toldTo, octetsTo, imageAfter}
 use Rattle.words.specs.Put.{IsPut}
-use Rattle.lines.specs.Answer.{formOf, asked, hexBehind}
+use Rattle.lines.specs.declared.message.Answered.{Answered}
+use Rattle.lines.specs.Answer.{Said, formOf, said, hexBehind}
 
 -- the numbers that the row's reply has are the question's; and `later` is the image afterwards
 pub record Asks (kind : ℕ) (d m numbers new : List ℕ) (r : Told) (later : List ℕ) : Type 0 where
-  pub told : take (formOf kind .told) (toldNumbers r) ≡ take (formOf kind .told) (toldNumbers (toldTo (asked kind numbers new) d m))
-  pub image : later ≡ imageAfter (asked kind numbers new) d m
-  pub octets : octetsTo (asked kind numbers []) d later ≡ octetsTo (asked kind numbers new) d m
+  pub told : take (formOf kind .told) (toldNumbers r) ≡ take (formOf kind .told) (said kind d m numbers new .numbers)
+  pub image : later ≡ said kind d m numbers new .image
+  pub octets : said kind d later numbers [] .octets ≡ said kind d m numbers new .octets
 
--- the octets of the question were put, as a word of the reply where it has them; they are a part of the image, or the matrix's 330 cells
+-- the octets of the question were put, as a word of the reply where it has them; they are a part of the image, or cells or a message of at most 150,000 octets
 pub record Parted (kind : ℕ) (d m numbers out : List ℕ) (at : ℕ) (later : List ℕ) (r : ℕ) : Type 0 where
-  pub put : IsPut out at (hexBehind at (formOf kind .part) (octetsTo (asked kind numbers []) d m)) later r
-  pub short : formOf kind .part ≡ true → length (octetsTo (asked kind numbers []) d m) ≤ length m + 330
+  pub put : IsPut out at (hexBehind at (formOf kind .part) (said kind d m numbers [] .octets)) later r
+  pub short : formOf kind .part ≡ true → length (said kind d m numbers [] .octets) ≤ length m + 150000
+
+-- a message was read: its numbers, and its octets at the start of `part`
+pub record ReadAs (s : Said) (message : List ℕ) (r : Answered) (part : List ℕ) : Type 0 where
+  pub told : r .numbers ≡ s .numbers
+  pub within : r .count ≤ length message
+  pub octets : take (r .count) part ≡ s .octets
+
+-- a row of messages was asked: its numbers, its octets at the start of `part`, and the image afterwards
+pub record MessageAsked (kind : ℕ) (d m numbers new : List ℕ) (r : Answered) (part later : List ℕ) : Type 0 where
+  pub told : r .numbers ≡ said kind d m numbers new .numbers
+  pub within : r .count ≤ 150000
+  pub octets : take (r .count) part ≡ said kind d m numbers new .octets
+  pub image : later ≡ said kind d m numbers new .image

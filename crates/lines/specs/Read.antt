@@ -1,5 +1,5 @@
 -- What is known where the words of a line have been read. Assumes nothing.
-use Prim.Native.Nat.{ℕ, _≤_}
+use Prim.Native.Nat.{ℕ, _+_, _≤_}
 use mathlib.Core.Path.{_≡_}
 use mathlib.Core.Bool.{true}
 use mathlib.Core.List.{List}
@@ -16,10 +16,10 @@ pub record OfSeven (count : ℕ) (most : List ℕ) : Type 0 where
   pub few : count ≤ 7
   pub long : length most ≡ 7
 
--- numbers were read from word 3 on: whether all are numbers within their limits, and then what they come to
-pub record NumbersRead (words : List (List ℕ)) (most : List ℕ) (r : Numbers) : Type 0 where
-  pub reply : r .are ≡ areNumbers words 3 most
-  pub memory : r .are ≡ true → r .values ≡ seven (numbersIn words 3 most)
+-- numbers were read from a word on: whether all are numbers within their limits, and then what they come to
+pub record NumbersRead (words : List (List ℕ)) (from : ℕ) (most : List ℕ) (r : Numbers) : Type 0 where
+  pub reply : r .are ≡ areNumbers words from most
+  pub memory : r .are ≡ true → r .values ≡ seven (numbersIn words from most)
 
 -- a word was read into memory that is `later` now: whether it is one of octets, and then `later` starts with them
 pub record PartRead (word later : List ℕ) (r : Part) : Type 0 where
@@ -33,7 +33,7 @@ pub record AskedRead (form : Form) (words : List (List ℕ)) (description image 
   pub d-within : r .d ≤ length description
   pub m-within : r .m ≤ length image
   pub given-within : r .given ≤ length given
-  pub d-octets : r .is ≡ true → take (r .d) description ≡ octetsOf (dWord words)
+  pub d-octets : r .is ≡ true → take (r .d) description ≡ octetsOf (dWord form words)
   pub m-octets : r .is ≡ true → take (r .m) image ≡ octetsOf (mWord form words)
   pub given-octets : r .is ≡ true → take (r .given) given ≡ octetsOf (givenWord form words)
-  pub values : r .is ≡ true → r .numbers ≡ seven (numbersIn words 3 (limits form))
+  pub values : r .is ≡ true → r .numbers ≡ seven (numbersIn words (1 + form .lent) (limits form))

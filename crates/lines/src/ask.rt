@@ -1,4 +1,4 @@
-// From what a line asks to the call that answers it, row by row.
+// From what a line asks about tables to the call that answers it, row by row.
 use crate::put;
 use crate::read;
 use crate::rows;
@@ -7,7 +7,7 @@ use meaning::Told;
 use offsets::TableOffset;
 ghost use Prim.Native.Nat.{_+_, _*_, _≤_, _<_};
 ghost use lib.ListN.{length};
-ghost use Rattle.lines.specs.Answer.{rows, Within};
+ghost use Rattle.lines.specs.Answer.{tableRows, Within};
 ghost use Rattle.lines.specs.Ask.{Asks, Parted};
 
 // A part of the image tells no numbers.
@@ -21,7 +21,7 @@ fn nothing_told() -> Told {
 
 // What a question tells, and a write done in m.
 pub fn ask(kind: usize, d: &[u8], m: &mut [u8], numbers: [u64; 7], given: &[u8]) -> Told
-    requires { ⌜ kind < length rows ⌝ }
+    requires { ⌜ kind < length tableRows ⌝ }
     requires { ⌜ Within kind numbers ⌝ }
     ensures { λ r. ⌜ Asks kind (now (d .entry)) (now (m .entry)) numbers (now (given .entry)) r (now (m .exit)) ⌝ }
 {
@@ -76,6 +76,19 @@ pub fn ask(kind: usize, d: &[u8], m: &mut [u8], numbers: [u64; 7], given: &[u8])
     if kind == rows::SEASONED {
         return replies::told(calendar::seasoned(d, m, read::date(numbers)));
     }
+    if kind == rows::READRANGE {
+        let t = read::table(numbers);
+        let offset = TableOffset::new(numbers[2] as usize);
+        let length = numbers[3] as usize;
+        return replies::place_told(access::range_place(
+            d,
+            m,
+            t.manufacturer,
+            t.number,
+            offset,
+            length,
+        ));
+    }
     nothing_told()
 }
 
@@ -89,9 +102,9 @@ pub fn put_part(
     out: &mut [u8],
     at: usize,
 ) -> usize
-    requires { ⌜ kind < length rows ⌝ }
+    requires { ⌜ kind < length tableRows ⌝ }
     requires { ⌜ Within kind numbers ⌝ }
-    requires { ⌜ at + 2 * length (now m) + 662 ≤ length (now out) ⌝ }
+    requires { ⌜ at + 2 * length (now m) + 300002 ≤ length (now out) ⌝ }
     ensures { λ r. ⌜ Parted kind (now (d .entry)) (now (m .entry)) numbers (now (out .entry)) at (now (out .exit)) r ⌝ }
 {
     if kind == rows::TABLEPART {
@@ -100,6 +113,13 @@ pub fn put_part(
     }
     if kind == rows::OCTETS {
         return put::put_octets(out, at, access::element_part(d, m, read::element(numbers)));
+    }
+    if kind == rows::READRANGE {
+        let t = read::table(numbers);
+        let offset = TableOffset::new(numbers[2] as usize);
+        let length = numbers[3] as usize;
+        let part = access::range_part(d, m, t.manufacturer, t.number, offset, length);
+        return put::put_octets(out, at, part);
     }
     if kind == rows::MATRIX {
         let cells = replies::cells(calendar::matrix(d, m));

@@ -2,6 +2,7 @@
 // output, in order, until the input ends. Nothing is kept between lines.
 mod ask;
 mod input;
+mod message;
 mod put;
 mod read;
 mod reply;
@@ -9,9 +10,9 @@ mod rows;
 
 // The longest line that is taken, and one octet more, by which a longer line is told.
 const LINE: usize = 300001;
-// The longest reply that any row could have: five numbers, a part of the image or the matrix, and the
-// image, both in hex.
-const REPLY: usize = 600770;
+// The longest reply that any row could have: five numbers, a part of the image, the matrix or a
+// message, and the image, both in hex.
+const REPLY: usize = 900110;
 // The octets of a description: no line that is taken has hex digits for more.
 const DESCRIPTION: usize = 150000;
 // The octets of an image, likewise.

@@ -35,16 +35,16 @@ pub struct Asked {
     pub numbers: [u64; 7],
 }
 
-// The numbers from word 3 on, as many as count, each at most what stands for it in most.
-fn read_numbers(line: &[u8], split: Words, count: usize, most: [u64; 7]) -> Numbers
+// The numbers from a word on, as many as count, each at most what stands for it in most.
+fn read_numbers(line: &[u8], split: Words, from: usize, count: usize, most: [u64; 7]) -> Numbers
     requires { ⌜ split ≡ splitOf (now line) ⌝ }
-    requires { ⌜ OfSeven count most ⌝ }
-    ensures { λ r. ⌜ NumbersRead (lineWords (now (line .entry))) (take count most) r ⌝ }
+    requires { ⌜ (from ≤ 3) × OfSeven count most ⌝ }
+    ensures { λ r. ⌜ NumbersRead (lineWords (now (line .entry))) from (take count most) r ⌝ }
 {
     let mut values = [0u64; 7];
     let mut i = 0;
     while i < count {
-        let word = words::word(line, split, 3 + i);
+        let word = words::word(line, split, from + i);
         let read = words::number(word, most[i]);
         match read {
             Number::Is(n) => {
@@ -101,15 +101,17 @@ pub fn read_asked(
     requires { ⌜ 150000 ≤ length (now description) ⌝ }
     requires { ⌜ 150000 ≤ length (now image) ⌝ }
     requires { ⌜ 150000 ≤ length (now given) ⌝ }
-    requires { ⌜ OfSeven (form .numbers) (form .most) ⌝ }
+    requires { ⌜ (form .lent ≤ 2) × OfSeven (form .numbers) (form .most) ⌝ }
     ensures { λ r. ⌜ AskedRead form (lineWords (now (line .entry))) (now (description .exit)) (now (image .exit)) (now (given .exit)) r ⌝ }
 {
-    let d = read_octets(line, split, 1, true, description);
-    let m = read_octets(line, split, 2, form.image, image);
+    let lent = form.lent;
+    let d = read_octets(line, split, 1, 0 < lent, description);
+    let m = read_octets(line, split, 2, 1 < lent, image);
     let count = form.numbers;
     let most = form.most;
-    let read = read_numbers(line, split, count, most);
-    let new = read_octets(line, split, 3 + count, form.given, given);
+    let from = 1 + lent;
+    let read = read_numbers(line, split, from, count, most);
+    let new = read_octets(line, split, from + count, form.given, given);
     let values = read.values;
     let octets_are = basics::both(d.are, basics::both(m.are, new.are));
     let words_are = basics::both(octets_are, read.are);

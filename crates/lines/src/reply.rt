@@ -1,18 +1,70 @@
 // What a line is answered: its first word tells the row of the table, the row the form that the line
 // must have, and both the reply.
 use crate::ask;
+use crate::message;
 use crate::put;
 use crate::read;
 use crate::rows;
 ghost use Prim.Native.Nat.{_≤_, _<_};
 ghost use lib.ListN.{length};
-ghost use Rattle.lines.specs.Answer.{rows, answerText, replyText, Within, roomFor, Memory, Replied};
+ghost use Rattle.lines.specs.Answer.{tableRows, rows, answerText, replyText, rowText, Within, roomFor, Memory, Replied};
 
 // The longest line that is taken.
 const LONGEST: usize = 300000;
 
-// The reply to a question of this row, by the octets of D and M, the numbers, each within its limit,
+// The reply to a question about tables, by the octets of D and M, the numbers, each within its limit,
 // and the octets of DATA.
+fn reply_tables(
+    kind: usize,
+    d: &[u8],
+    m: &mut [u8],
+    numbers: [u64; 7],
+    given: &[u8],
+    out: &mut [u8],
+) -> usize
+    requires { ⌜ kind < length tableRows ⌝ }
+    requires { ⌜ roomFor (now m) ≤ length (now out) ⌝ }
+    requires { ⌜ Within kind numbers ⌝ }
+    ensures { λ r. ⌜ Replied (now (out .entry)) (rowText kind (now (d .entry)) (now (m .entry)) numbers (now (given .entry))) (now (out .exit)) r ⌝ }
+{
+    let form = rows::form_of(kind);
+    let told = replies::numbers(ask::ask(kind, d, m, numbers, given));
+    let first = put::put_numbers(out, told, form.told);
+    let second = ask::put_part(kind, d, m, numbers, out, first);
+    let last = put::put_octets_if(out, second, form.after, m);
+    words::put_octet(out, last, b'\n')
+}
+
+// The octets that a message may have.
+const MESSAGE: usize = 150000;
+
+// The reply to a row of messages, likewise.
+fn reply_message(
+    kind: usize,
+    d: &[u8],
+    m: &mut [u8],
+    numbers: [u64; 7],
+    given: &[u8],
+    out: &mut [u8],
+) -> usize
+    requires { ⌜ (length tableRows ≤ kind) × (kind < length rows) ⌝ }
+    requires { ⌜ roomFor (now m) ≤ length (now out) ⌝ }
+    requires { ⌜ Within kind numbers ⌝ }
+    requires { ⌜ length (now d) ≤ 150000 ⌝ }
+    ensures { λ r. ⌜ Replied (now (out .entry)) (rowText kind (now (d .entry)) (now (m .entry)) numbers (now (given .entry))) (now (out .exit)) r ⌝ }
+{
+    let form = rows::form_of(kind);
+    let mut part = [0u8; MESSAGE];
+    let answered = message::ask(kind, d, m, numbers, given, &mut part);
+    let told = answered.numbers;
+    let count = answered.count;
+    let first = put::put_numbers(out, told, form.told);
+    let second = put::put_octets_if(out, first, form.part, &part[..count]);
+    let last = put::put_octets_if(out, second, form.after, m);
+    words::put_octet(out, last, b'\n')
+}
+
+// The reply to what a line asks of this row. Numbers that the row doesn't take are no form.
 fn reply(
     kind: usize,
     d: &[u8],
@@ -24,14 +76,16 @@ fn reply(
     requires { ⌜ kind < length rows ⌝ }
     requires { ⌜ roomFor (now m) ≤ length (now out) ⌝ }
     requires { ⌜ Within kind numbers ⌝ }
+    requires { ⌜ length (now d) ≤ 150000 ⌝ }
     ensures { λ r. ⌜ Replied (now (out .entry)) (replyText kind (now (d .entry)) (now (m .entry)) numbers (now (given .entry))) (now (out .exit)) r ⌝ }
 {
-    let form = rows::form_of(kind);
-    let told = replies::numbers(ask::ask(kind, d, m, numbers, given));
-    let first = put::put_numbers(out, told, form.told);
-    let second = ask::put_part(kind, d, m, numbers, out, first);
-    let last = put::put_octets_if(out, second, form.after, m);
-    words::put_octet(out, last, b'\n')
+    if !rows::takes(kind, numbers) {
+        return put::no_form(out);
+    }
+    if kind < rows::MESSAGES {
+        return reply_tables(kind, d, m, numbers, given, out);
+    }
+    reply_message(kind, d, m, numbers, given, out)
 }
 
 // Puts the reply to a line, and the line feed that ends it, at the start of out, and answers how

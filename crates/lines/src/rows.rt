@@ -1,8 +1,9 @@
 // The questions, a row each: a name, the form of the lines that ask it, and what its reply tells. specs/Answer.antt has the same table, with what each row asks.
+use basics::either;
 ghost use mathlib.Core.Path.{_≡_};
 ghost use Prim.Native.Nat.{_<_};
 ghost use lib.ListN.{length};
-ghost use Rattle.lines.specs.Answer.{rows, kindOf, formOf};
+ghost use Rattle.lines.specs.Answer.{rows, kindOf, formOf, takes};
 
 // The rows, by their places in the table.
 pub const CHECK: usize = 0;
@@ -31,14 +32,29 @@ pub const MATRIX: usize = 11;
 
 pub const SEASONED: usize = 12;
 
-pub const ROWS: usize = 13;
+pub const READRANGE: usize = 13;
 
-// The form of a line: how many words it has; whether M is there, behind the name and D; how many
-// numbers stand behind M, and the most that each may come to; whether DATA stands last. And its
-// reply: how many numbers it tells, whether octets, whether the image afterwards.
+// The rows of messages stand behind those of tables.
+pub const MESSAGES: usize = 14;
+
+pub const SERVE: usize = 14;
+
+pub const READREQUEST: usize = 15;
+
+pub const WRITEREQUEST: usize = 16;
+
+pub const READREPLY: usize = 17;
+
+pub const WRITEREPLY: usize = 18;
+
+pub const ROWS: usize = 19;
+
+// The form of a line: how many words it has; how many of octets stand behind the name, none, D, or D
+// and M; how many numbers stand behind those, and the most that each may come to; whether DATA stands
+// last. And its reply: how many numbers it tells, whether octets, whether the image afterwards.
 pub struct Form {
     pub words: usize,
-    pub image: bool,
+    pub lent: usize,
     pub numbers: usize,
     pub most: [u64; 7],
     pub given: bool,
@@ -48,12 +64,15 @@ pub struct Form {
 }
 
 // What the numbers may come to: mfr 1 and num 65,535; the five of a moment and the three of a date
-// 2^32 - 1, and what 1; an offset, the six numbers of an element and a value are not limited.
+// 2^32 - 1, and what 1; a room the longest request's 65,544. An offset, a length, the six numbers of
+// an element, a value and a message's own numbers are not limited.
 const NONE: [u64; 7] = [0; 7];
 
 const TABLE_MOST: [u64; 7] = [1, 65535, 0, 0, 0, 0, 0];
 
 const RANGE_MOST: [u64; 7] = [1, 65535, u64::MAX, 0, 0, 0, 0];
+
+const LENGTH_MOST: [u64; 7] = [1, 65535, u64::MAX, u64::MAX, 0, 0, 0];
 
 const ELEMENT_MOST: [u64; 7] = [
     u64::MAX,
@@ -79,17 +98,26 @@ const TIER_MOST: [u64; 7] = [
 
 const DATE_MOST: [u64; 7] = [4294967295, 4294967295, 4294967295, 0, 0, 0, 0];
 
+const ROOM: u64 = 65544;
+
+const ROOM_MOST: [u64; 7] = [ROOM, 0, 0, 0, 0, 0, 0];
+
+const REQUEST_MOST: [u64; 7] = [u64::MAX, u64::MAX, u64::MAX, u64::MAX, ROOM, 0, 0];
+
+const REPLY_MOST: [u64; 7] = [u64::MAX, u64::MAX, ROOM, 0, 0, 0, 0];
+
 // Which row a name is of; ROWS where it is of none.
 pub fn kind_of(name: &[u8]) -> usize
     ensures { λ r. ⌜ r ≡ kindOf (now (name .entry)) ⌝ }
 {
     words::index_of(
         name,
-        b"check layout table tablepart where octets number writerange writeoctets writenumber tier matrix seasoned",
+        b"check layout table tablepart where octets number writerange writeoctets writenumber tier matrix seasoned readrange serve readrequest writerequest readreply writereply",
     )
 }
 
-// How many numbers a reply tells: none, a refusal's, or one or two of the answer's own behind those.
+// How many numbers a reply tells: none, a refusal's, or one or two of the answer's own behind those;
+// of a message that was written the refusal's number, of one that was read three or five.
 const NOTHING: usize = 0;
 
 const REFUSAL: usize = 3;
@@ -99,22 +127,28 @@ const ONE_MORE: usize = 4;
 const TWO_MORE: usize = 5;
 
 // A row of the table: the fields of Form, in their order.
-struct Row(usize, bool, usize, [u64; 7], bool, usize, bool, bool);
+struct Row(usize, usize, usize, [u64; 7], bool, usize, bool, bool);
 
 const TABLE_ROWS: [Row; ROWS] = [
-    Row(2, false, 0, NONE, false, REFUSAL, false, false),
-    Row(3, true, 0, NONE, false, ONE_MORE, false, false),
-    Row(5, true, 2, TABLE_MOST, false, TWO_MORE, false, false),
-    Row(5, true, 2, TABLE_MOST, false, NOTHING, true, false),
-    Row(9, true, 6, ELEMENT_MOST, false, TWO_MORE, false, false),
-    Row(9, true, 6, ELEMENT_MOST, false, NOTHING, true, false),
-    Row(9, true, 6, ELEMENT_MOST, false, ONE_MORE, false, false),
-    Row(7, true, 3, RANGE_MOST, true, REFUSAL, false, true),
-    Row(10, true, 6, ELEMENT_MOST, true, REFUSAL, false, true),
-    Row(10, true, 7, VALUE_MOST, false, REFUSAL, false, true),
-    Row(9, true, 6, TIER_MOST, false, TWO_MORE, false, false),
-    Row(3, true, 0, NONE, false, REFUSAL, true, false),
-    Row(6, true, 3, DATE_MOST, false, ONE_MORE, false, false),
+    Row(2, 1, 0, NONE, false, REFUSAL, false, false),
+    Row(3, 2, 0, NONE, false, ONE_MORE, false, false),
+    Row(5, 2, 2, TABLE_MOST, false, TWO_MORE, false, false),
+    Row(5, 2, 2, TABLE_MOST, false, NOTHING, true, false),
+    Row(9, 2, 6, ELEMENT_MOST, false, TWO_MORE, false, false),
+    Row(9, 2, 6, ELEMENT_MOST, false, NOTHING, true, false),
+    Row(9, 2, 6, ELEMENT_MOST, false, ONE_MORE, false, false),
+    Row(7, 2, 3, RANGE_MOST, true, REFUSAL, false, true),
+    Row(10, 2, 6, ELEMENT_MOST, true, REFUSAL, false, true),
+    Row(10, 2, 7, VALUE_MOST, false, REFUSAL, false, true),
+    Row(9, 2, 6, TIER_MOST, false, TWO_MORE, false, false),
+    Row(3, 2, 0, NONE, false, REFUSAL, true, false),
+    Row(6, 2, 3, DATE_MOST, false, ONE_MORE, false, false),
+    Row(7, 2, 4, LENGTH_MOST, false, TWO_MORE, true, false),
+    Row(5, 2, 1, ROOM_MOST, true, 1, true, true),
+    Row(2, 1, 0, NONE, false, 5, true, false),
+    Row(7, 0, 5, REQUEST_MOST, true, 1, true, false),
+    Row(2, 1, 0, NONE, false, 3, true, false),
+    Row(5, 0, 3, REPLY_MOST, true, 1, true, false),
 ];
 
 // The form of the lines that ask the question of a row, and its reply.
@@ -126,7 +160,7 @@ pub fn form_of(kind: usize) -> Form
     let most = row.3;
     Form {
         words: row.0,
-        image: row.1,
+        lent: row.1,
         numbers: row.2,
         most,
         given: row.4,
@@ -134,4 +168,22 @@ pub fn form_of(kind: usize) -> Form
         part: row.6,
         after: row.7,
     }
+}
+
+// Whether a row takes numbers: of a message that is to be written, whether there is such a kind.
+pub fn takes(kind: usize, numbers: [u64; 7]) -> bool
+    requires { ⌜ kind < length rows ⌝ }
+    ensures { λ r. ⌜ r ≡ takes kind numbers ⌝ }
+{
+    let first = numbers[0];
+    if kind == WRITEREQUEST {
+        return either(
+            first == 48,
+            either(first == 63, either(first == 64, first == 79)),
+        );
+    }
+    if kind == WRITEREPLY {
+        return either(first == 1, either(first == 2, first == 3));
+    }
+    true
 }

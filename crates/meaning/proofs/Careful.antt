@@ -1,7 +1,7 @@
 -- The examples of specs/Careful.antt hold: each by computing both sides. Assumes nothing.
 use mathlib.Core.Path.{refl}
 use Rattle.meaning.proofs.Computing.{computing}
-use Rattle.meaning.specs.Careful.{RulesCareful, LayoutCareful, CalendarCareful}
+use Rattle.meaning.specs.Careful.{RulesCareful, LayoutCareful, CalendarCareful, MessagesCareful}
 
 pub rules-careful : RulesCareful
 unfolding computing
@@ -166,4 +166,144 @@ calendar-careful =
       row-2 = refl;
       fifteen = refl;
       refused-matrix = refl;
+    }
+
+pub messages-careful : MessagesCareful
+unfolding computing
+messages-careful =
+    record {
+      check-none = refl;
+      check-1 = refl;
+      check-256 = refl;
+      check-510 = refl;
+      full-read = refl;
+      offset-read = refl;
+      full-write = refl;
+      offset-write = refl;
+      read-holds = refl;
+      write-done = refl;
+      read-refused = refl;
+      full-read-back = refl;
+      offset-read-back = refl;
+      full-write-back = refl;
+      offset-write-back = refl;
+      none-back = refl;
+      no-request = refl;
+      unknown-2F = refl;
+      unknown-31 = refl;
+      unknown-alone = refl;
+      full-read-short = refl;
+      full-read-long = refl;
+      offset-read-short = refl;
+      offset-read-long = refl;
+      full-write-short = refl;
+      full-write-long = refl;
+      full-write-alone = refl;
+      offset-write-short = refl;
+      offset-write-long = refl;
+      count-less = refl;
+      check-more = refl;
+      check-less = refl;
+      check-count = refl;
+      check-positive = refl;
+      holds-back = refl;
+      holds-none-back = refl;
+      done-back = refl;
+      refuses-1-back = refl;
+      refuses-4-back = refl;
+      reply-empty = refl;
+      reply-5 = refl;
+      reply-00-00 = refl;
+      reply-count = refl;
+      reply-check = refl;
+      reply-first = refl;
+      id-over = refl;
+      id-most = refl;
+      id-over-read = refl;
+      offset-over-read = refl;
+      count-over-read = refl;
+      most-read = refl;
+      small-read = refl;
+      id-over-write = refl;
+      data-over-write = refl;
+      most-write = refl;
+      small-write = refl;
+      id-over-range = refl;
+      offset-over-range = refl;
+      data-over-range = refl;
+      most-range = refl;
+      small-range = refl;
+      data-over-reply = refl;
+      most-reply = refl;
+      code-0 = refl;
+      code-5 = refl;
+      code-1 = refl;
+      code-4 = refl;
+      room-short = refl;
+      room-stays = refl;
+      room-longer = refl;
+      reply-room-short = refl;
+      reply-room-longer = refl;
+      told-refused = refl;
+      told-full-read = refl;
+      told-offset-read = refl;
+      told-full-write = refl;
+      told-offset-write = refl;
+      told-data = refl;
+      told-done = refl;
+      told-code = refl;
+      told-43 = refl;
+      of-48 = refl;
+      of-63 = refl;
+      of-64 = refl;
+      of-79 = refl;
+      of-47 = refl;
+      lacking = refl;
+      kind-49 = refl;
+      of-1 = refl;
+      of-2 = refl;
+      of-3 = refl;
+      of-0 = refl;
+      code-unjudged = refl;
+      kind-4 = refl;
+      range-place = refl;
+      range-octets = refl;
+      range-read-only = refl;
+      range-end = refl;
+      range-past = refl;
+      range-over = refl;
+      range-no-table = refl;
+      whole = refl;
+      range-served = refl;
+      no-octets = refl;
+      no-octets-inside = refl;
+      id-4101 = refl;
+      id-2053 = refl;
+      id-2047 = refl;
+      id-2048 = refl;
+      id-4095 = refl;
+      id-4096 = refl;
+      write-whole = refl;
+      write-whole-image = refl;
+      write-part = refl;
+      write-part-image = refl;
+      write-less = refl;
+      write-less-image = refl;
+      write-none-of-none = refl;
+      read-only = refl;
+      read-only-none = refl;
+      read-only-count = refl;
+      dimension-whole = refl;
+      dimension-part = refl;
+      no-room-write = refl;
+      no-room-image = refl;
+      one-octet = refl;
+      room-9 = refl;
+      room-9-stays = refl;
+      no-room-refusal = refl;
+      unsound = refl;
+      unsound-empty = refl;
+      unsound-unknown = refl;
+      short-image = refl;
+      bad-check = refl;
     }

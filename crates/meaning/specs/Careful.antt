@@ -1,15 +1,20 @@
--- What is easy to get wrong, and what the starred examples don't reach, worked by hand: three statements, proved in proofs/Careful.antt.
+-- What is easy to get wrong, and what the starred examples don't reach, worked by hand: four statements, proved in proofs/Careful.antt.
 -- With the starred one they notice a changed operand nearly anywhere in the definitions.
 use Prim.Native.Nat.{ℕ}
 use mathlib.Core.Path.{_≡_}
+use mathlib.Core.Bool.{true, false}
 use mathlib.Core.List.{List, [], _∷_, _++_}
+use mathlib.Core.Option.{some, none}
 use lib.ListN.{getD, replicate, length, drop}
 use Rattle.meaning.specs.declared.ElementName.{ElementName}
 use Rattle.meaning.specs.declared.Quantity.{Quantity}
 use Rattle.meaning.specs.Description.{checkReply}
-use Rattle.meaning.specs.Refusals.{numbersOf, verdictReply, placeReply, layoutReply, tablePlaceReply, elementPlaceReply, elementNumberReply, tablePartReply, elementPartReply, writeRangeReply, writeRangeImage, writeOctetsReply, writeOctetsImage, writeNumberReply, writeNumberImage}
+use Rattle.meaning.specs.Refusals.{numbersOf, verdictReply, placeReply, layoutReply, tablePlaceReply, elementPlaceReply, elementNumberReply, tablePartReply, elementPartReply, readRangeReply, readRangePart, writeRangeReply, writeRangeImage, writeOctetsReply, writeOctetsImage, writeNumberReply, writeNumberImage}
 use Rattle.meaning.specs.Calendar.{tierReply, seasonedReply, matrixReply, matrixVerdict, weekdayOf, dayNumber}
-use Rattle.meaning.specs.Examples.{items, plain, at, offset, gives, refusal, clock, clock-image, moment, date}
+use Rattle.meaning.specs.Messages.{Request, fullRead, offsetRead, fullWrite, offsetWrite, isRequest, notRequest, MeterReply, holds, done, refuses}
+use Rattle.meaning.specs.Messages.{checkOctet, requestOctets, requestFits, requestIn, requestedBy, requestTold, replyOctets, replyFits, replyIn, heardBy, replyTold}
+use Rattle.meaning.specs.Messages.{writeRequestReply, writeRequestRoom, writeReplyReply, writeReplyRoom, requestOf, requestSent, replyOf, replySent, serveReply, serveRoom, serveImage}
+use Rattle.meaning.specs.Examples.{items, D, D-writable, D-unset, first, first-cut, plain, at, offset, gives, refusal, clock, clock-image, moment, date}
 
 -- THE RULES
 abbrev pub broken : (rule item : ℕ) → List ℕ
@@ -326,3 +331,200 @@ pub record CalendarCareful : Type 0 where
   pub row-2 : getD (matrixReply (clock 48) (year-image 0x20)) 2 [] ≡ 0 ∷ 0 ∷ 0 ∷ 0 ∷ 0 ∷ 0 ∷ 0 ∷ 0 ∷ 0 ∷ 0 ∷ 0 ∷ 0 ∷ 0 ∷ 0 ∷ 0 ∷ 0 ∷ 0 ∷ 0 ∷ 0 ∷ 0 ∷ 0 ∷ 0 ∷ []
   pub fifteen : length (matrixReply (clock 48) (year-image 0x20)) ≡ 15
   pub refused-matrix : matrixReply (clock 13) (clock-image ++ 0 ∷ []) ≡ replicate 15 (replicate 22 0)
+
+-- MESSAGES. A request and a reply put into a room of twenty octets; 21
+abbrev pub putting : Request → List ℕ
+putting q = numbersOf 4 (writeRequestReply q (replicate 20 0))
+
+abbrev pub answering : MeterReply → List ℕ
+answering a = numbersOf 4 (writeReplyReply a (replicate 20 0))
+
+abbrev pub no-room : List ℕ
+no-room = refusal 21 0 0 (0 ∷ [])
+
+-- a range of the first image
+abbrev pub ranged : (manufacturer number at length : ℕ) → List ℕ
+ranged m k p n = numbersOf 5 (placeReply (readRangeReply D first m k (offset p) n))
+
+-- a meter's answer, in a room of ten octets that were FF, and the image afterwards; an answer of one octet
+abbrev pub serves : (description image request : List ℕ) → List ℕ
+serves d img request = serveRoom d img request (replicate 10 0xFF)
+
+abbrev pub serves-image : (description image request : List ℕ) → List ℕ
+serves-image d img request = serveImage d img request (replicate 10 0xFF)
+
+abbrev pub replies : (octet : ℕ) → List ℕ
+replies x = x ∷ replicate 9 0xFF
+
+-- a full read and a full write of table 5; a full write of table 0, of what it holds
+abbrev pub read-5 : List ℕ
+read-5 = 0x30 ∷ 0x00 ∷ 0x05 ∷ []
+
+abbrev pub write-5 : List ℕ
+write-5 = 0x40 ∷ 0x00 ∷ 0x05 ∷ 0x00 ∷ 0x06 ∷ 0x01 ∷ 0x02 ∷ 0x03 ∷ 0x04 ∷ 0x05 ∷ 0x06 ∷ 0xEB ∷ []
+
+abbrev pub write-0 : List ℕ
+write-0 = 0x40 ∷ 0x00 ∷ 0x00 ∷ 0x00 ∷ 0x02 ∷ 0x00 ∷ 0x82 ∷ 0x7E ∷ []
+
+-- the first and the last tables: 0 and 2,047, a manufacturer's 0 and 2,047, each an octet
+abbrev pub ends : List ℕ
+ends = items (begun 0x10000001 (0x17FF0001 ∷ 0x30010000 ∷ 0x18000001 ∷ 0x30010000 ∷ 0x1FFF0001 ∷ 0x30010000 ∷ []))
+
+abbrev pub ends-image : List ℕ
+ends-image = 0x00 ∷ 0x0A ∷ 0x0B ∷ 0x0C ∷ []
+
+pub record MessagesCareful : Type 0 where
+  -- the check octet: of no data; of 1; of sums of 256 and 510
+  pub check-none : checkOctet [] ≡ 0
+  pub check-1 : checkOctet (1 ∷ []) ≡ 255
+  pub check-256 : checkOctet (128 ∷ 127 ∷ 1 ∷ []) ≡ 0
+  pub check-510 : checkOctet (255 ∷ 255 ∷ []) ≡ 2
+  -- the octets of each form, most significant first; the check octet over the data alone
+  pub full-read : requestOctets (fullRead 2053) ≡ 0x30 ∷ 0x08 ∷ 0x05 ∷ []
+  pub offset-read : requestOctets (offsetRead 2053 66051 258) ≡ 0x3F ∷ 0x08 ∷ 0x05 ∷ 0x01 ∷ 0x02 ∷ 0x03 ∷ 0x01 ∷ 0x02 ∷ []
+  pub full-write : requestOctets (fullWrite 5 (1 ∷ 2 ∷ [])) ≡ 0x40 ∷ 0x00 ∷ 0x05 ∷ 0x00 ∷ 0x02 ∷ 0x01 ∷ 0x02 ∷ 0xFD ∷ []
+  pub offset-write : requestOctets (offsetWrite 2053 66051 (255 ∷ 2 ∷ [])) ≡ 0x4F ∷ 0x08 ∷ 0x05 ∷ 0x01 ∷ 0x02 ∷ 0x03 ∷ 0x00 ∷ 0x02 ∷ 0xFF ∷ 0x02 ∷ 0xFF ∷ []
+  pub read-holds : replyOctets (holds (1 ∷ 2 ∷ [])) ≡ 0x00 ∷ 0x00 ∷ 0x02 ∷ 0x01 ∷ 0x02 ∷ 0xFD ∷ []
+  pub write-done : replyOctets done ≡ 0x00 ∷ []
+  pub read-refused : replyOctets (refuses 3) ≡ 0x03 ∷ []
+  -- read back; an id as it came, over 4,095 too
+  pub full-read-back : requestIn (0x30 ∷ 0xFF ∷ 0xFE ∷ []) ≡ isRequest (fullRead 65534)
+  pub offset-read-back : requestIn (0x3F ∷ 0x08 ∷ 0x05 ∷ 0x01 ∷ 0x02 ∷ 0x03 ∷ 0x01 ∷ 0x02 ∷ []) ≡ isRequest (offsetRead 2053 66051 258)
+  pub full-write-back : requestIn (0x40 ∷ 0x00 ∷ 0x05 ∷ 0x00 ∷ 0x02 ∷ 0x01 ∷ 0x02 ∷ 0xFD ∷ []) ≡ isRequest (fullWrite 5 (1 ∷ 2 ∷ []))
+  pub offset-write-back : requestIn (0x4F ∷ 0x08 ∷ 0x05 ∷ 0x01 ∷ 0x02 ∷ 0x03 ∷ 0x00 ∷ 0x02 ∷ 0xFF ∷ 0x02 ∷ 0xFF ∷ []) ≡ isRequest (offsetWrite 2053 66051 (255 ∷ 2 ∷ []))
+  pub none-back : requestIn (0x4F ∷ 0x00 ∷ 0x05 ∷ 0x00 ∷ 0x00 ∷ 0x06 ∷ 0x00 ∷ 0x00 ∷ 0x00 ∷ []) ≡ isRequest (offsetWrite 5 6 [])
+  -- 01 where it is empty; then 02 by the first octet, whatever the length
+  pub no-request : requestIn [] ≡ notRequest 1
+  pub unknown-2F : requestIn (0x2F ∷ 0x00 ∷ 0x05 ∷ []) ≡ notRequest 2
+  pub unknown-31 : requestIn (0x31 ∷ 0x00 ∷ 0x05 ∷ []) ≡ notRequest 2
+  pub unknown-alone : requestIn (0x41 ∷ []) ≡ notRequest 2
+  -- 01: an octet short, an octet long; a first octet alone
+  pub full-read-short : requestIn (0x30 ∷ 0x00 ∷ []) ≡ notRequest 1
+  pub full-read-long : requestIn (0x30 ∷ 0x00 ∷ 0x05 ∷ 0x00 ∷ []) ≡ notRequest 1
+  pub offset-read-short : requestIn (0x3F ∷ 0x00 ∷ 0x05 ∷ 0x00 ∷ 0x00 ∷ 0x00 ∷ 0x00 ∷ []) ≡ notRequest 1
+  pub offset-read-long : requestIn (0x3F ∷ 0x00 ∷ 0x05 ∷ 0x00 ∷ 0x00 ∷ 0x00 ∷ 0x00 ∷ 0x00 ∷ 0x00 ∷ []) ≡ notRequest 1
+  pub full-write-short : requestIn (0x40 ∷ 0x00 ∷ 0x05 ∷ 0x00 ∷ 0x02 ∷ 0x01 ∷ 0x02 ∷ []) ≡ notRequest 1
+  pub full-write-long : requestIn (0x40 ∷ 0x00 ∷ 0x05 ∷ 0x00 ∷ 0x02 ∷ 0x01 ∷ 0x02 ∷ 0xFD ∷ 0x00 ∷ []) ≡ notRequest 1
+  pub full-write-alone : requestIn (0x40 ∷ []) ≡ notRequest 1
+  pub offset-write-short : requestIn (0x4F ∷ 0x00 ∷ 0x05 ∷ 0x00 ∷ 0x00 ∷ 0x06 ∷ 0x00 ∷ 0x00 ∷ []) ≡ notRequest 1
+  pub offset-write-long : requestIn (0x4F ∷ 0x00 ∷ 0x05 ∷ 0x00 ∷ 0x00 ∷ 0x06 ∷ 0x00 ∷ 0x00 ∷ 0x00 ∷ 0x00 ∷ []) ≡ notRequest 1
+  -- 01: the count one off; the check octet one off, over count and data, not negated
+  pub count-less : requestIn (0x40 ∷ 0x00 ∷ 0x05 ∷ 0x00 ∷ 0x01 ∷ 0x01 ∷ 0x02 ∷ 0xFD ∷ []) ≡ notRequest 1
+  pub check-more : requestIn (0x40 ∷ 0x00 ∷ 0x05 ∷ 0x00 ∷ 0x02 ∷ 0x01 ∷ 0x02 ∷ 0xFE ∷ []) ≡ notRequest 1
+  pub check-less : requestIn (0x4F ∷ 0x00 ∷ 0x05 ∷ 0x00 ∷ 0x00 ∷ 0x04 ∷ 0x00 ∷ 0x02 ∷ 0x01 ∷ 0x02 ∷ 0xFC ∷ []) ≡ notRequest 1
+  pub check-count : requestIn (0x40 ∷ 0x00 ∷ 0x05 ∷ 0x00 ∷ 0x02 ∷ 0x01 ∷ 0x02 ∷ 0xFB ∷ []) ≡ notRequest 1
+  pub check-positive : requestIn (0x40 ∷ 0x00 ∷ 0x05 ∷ 0x00 ∷ 0x02 ∷ 0x01 ∷ 0x02 ∷ 0x03 ∷ []) ≡ notRequest 1
+  -- replies read
+  pub holds-back : replyIn (0x00 ∷ 0x00 ∷ 0x02 ∷ 0x01 ∷ 0x02 ∷ 0xFD ∷ []) ≡ some (holds (1 ∷ 2 ∷ []))
+  pub holds-none-back : replyIn (0x00 ∷ 0x00 ∷ 0x00 ∷ 0x00 ∷ []) ≡ some (holds [])
+  pub done-back : replyIn (0x00 ∷ []) ≡ some done
+  pub refuses-1-back : replyIn (0x01 ∷ []) ≡ some (refuses 1)
+  pub refuses-4-back : replyIn (0x04 ∷ []) ≡ some (refuses 4)
+  -- 43: none of these forms
+  pub reply-empty : replyIn [] ≡ none
+  pub reply-5 : replyIn (0x05 ∷ []) ≡ none
+  pub reply-00-00 : replyIn (0x00 ∷ 0x00 ∷ []) ≡ none
+  pub reply-count : replyIn (0x00 ∷ 0x00 ∷ 0x01 ∷ 0x01 ∷ 0x02 ∷ 0xFD ∷ []) ≡ none
+  pub reply-check : replyIn (0x00 ∷ 0x00 ∷ 0x02 ∷ 0x01 ∷ 0x02 ∷ 0xFB ∷ []) ≡ none
+  pub reply-first : replyIn (0x01 ∷ 0x00 ∷ 0x02 ∷ 0x01 ∷ 0x02 ∷ 0xFD ∷ []) ≡ none
+  -- 21: a number that doesn't fit its field; the greatest that do, and small ones
+  pub id-over : putting (fullRead 65536) ≡ no-room
+  pub id-most : putting (fullRead 65535) ≡ gives (3 ∷ [])
+  pub id-over-read : putting (offsetRead 65536 0 0) ≡ no-room
+  pub offset-over-read : putting (offsetRead 5 16777216 0) ≡ no-room
+  pub count-over-read : putting (offsetRead 5 0 65536) ≡ no-room
+  pub most-read : putting (offsetRead 65535 16777215 65535) ≡ gives (8 ∷ [])
+  pub small-read : putting (offsetRead 5 6 7) ≡ gives (8 ∷ [])
+  pub id-over-write : putting (fullWrite 65536 []) ≡ no-room
+  pub data-over-write : requestFits (fullWrite 5 (replicate 65536 0)) ≡ false
+  pub most-write : requestFits (fullWrite 65535 (replicate 65535 0)) ≡ true
+  pub small-write : putting (fullWrite 5 (1 ∷ [])) ≡ gives (7 ∷ [])
+  pub id-over-range : putting (offsetWrite 65536 0 []) ≡ no-room
+  pub offset-over-range : putting (offsetWrite 5 16777216 []) ≡ no-room
+  pub data-over-range : requestFits (offsetWrite 5 6 (replicate 65536 0)) ≡ false
+  pub most-range : requestFits (offsetWrite 65535 16777215 (replicate 65535 0)) ≡ true
+  pub small-range : putting (offsetWrite 5 6 (1 ∷ [])) ≡ gives (10 ∷ [])
+  pub data-over-reply : replyFits (holds (replicate 65536 0)) ≡ false
+  pub most-reply : replyFits (holds (replicate 65535 0)) ≡ true
+  pub code-0 : answering (refuses 0) ≡ no-room
+  pub code-5 : answering (refuses 5) ≡ no-room
+  pub code-1 : answering (refuses 1) ≡ gives (1 ∷ [])
+  pub code-4 : answering (refuses 4) ≡ gives (1 ∷ [])
+  -- a room an octet short is 21 and stays; of a longer one the octets behind the message stay
+  pub room-short : numbersOf 4 (writeRequestReply (fullRead 5) (9 ∷ 9 ∷ [])) ≡ no-room
+  pub room-stays : writeRequestRoom (fullRead 5) (9 ∷ 9 ∷ []) ≡ 9 ∷ 9 ∷ []
+  pub room-longer : writeRequestRoom (fullRead 5) (9 ∷ 8 ∷ 7 ∷ 6 ∷ 5 ∷ []) ≡ 0x30 ∷ 0x00 ∷ 0x05 ∷ 0x06 ∷ 0x05 ∷ []
+  pub reply-room-short : numbersOf 4 (writeReplyReply (holds (1 ∷ [])) (9 ∷ 9 ∷ 9 ∷ 9 ∷ [])) ≡ no-room
+  pub reply-room-longer : writeReplyRoom (holds (1 ∷ [])) (9 ∷ 8 ∷ 7 ∷ 6 ∷ 5 ∷ 4 ∷ []) ≡ 0x00 ∷ 0x00 ∷ 0x01 ∷ 0x01 ∷ 0xFF ∷ 0x04 ∷ []
+  -- by numbers, what was read: 0 for what a form lacks
+  pub told-refused : requestTold (requestedBy (notRequest 2)) ≡ record { code = 2; kind = 0; id = 0; offset = 0; count = 0; start = 0 }
+  pub told-full-read : requestTold (requestedBy (isRequest (fullRead 5))) ≡ record { code = 0; kind = 48; id = 5; offset = 0; count = 0; start = 0 }
+  pub told-offset-read : requestTold (requestedBy (isRequest (offsetRead 5 6 7))) ≡ record { code = 0; kind = 63; id = 5; offset = 6; count = 7; start = 0 }
+  pub told-full-write : requestTold (requestedBy (isRequest (fullWrite 5 (1 ∷ 2 ∷ [])))) ≡ record { code = 0; kind = 64; id = 5; offset = 0; count = 2; start = 5 }
+  pub told-offset-write : requestTold (requestedBy (isRequest (offsetWrite 5 6 (1 ∷ [])))) ≡ record { code = 0; kind = 79; id = 5; offset = 6; count = 1; start = 8 }
+  pub told-data : replyTold (heardBy (some (holds (1 ∷ 2 ∷ [])))) ≡ record { refusal = record { number = 0; item = 0; octet = 0 }; kind = 1; code = 0; count = 2; start = 3 }
+  pub told-done : replyTold (heardBy (some done)) ≡ record { refusal = record { number = 0; item = 0; octet = 0 }; kind = 2; code = 0; count = 0; start = 0 }
+  pub told-code : replyTold (heardBy (some (refuses 4))) ≡ record { refusal = record { number = 0; item = 0; octet = 0 }; kind = 3; code = 4; count = 0; start = 0 }
+  pub told-43 : replyTold (heardBy none) ≡ record { refusal = record { number = 43; item = 0; octet = 0 }; kind = 0; code = 0; count = 0; start = 0 }
+  -- by numbers, what is to be written: what a form lacks isn't judged, another kind is 21
+  pub of-48 : requestOf 48 5 6 7 (1 ∷ []) ≡ some (fullRead 5)
+  pub of-63 : requestOf 63 5 6 7 (1 ∷ []) ≡ some (offsetRead 5 6 7)
+  pub of-64 : requestOf 64 5 6 7 (1 ∷ []) ≡ some (fullWrite 5 (1 ∷ []))
+  pub of-79 : requestOf 79 5 6 7 (1 ∷ []) ≡ some (offsetWrite 5 6 (1 ∷ []))
+  pub of-47 : requestOf 47 5 6 7 (1 ∷ []) ≡ none
+  pub lacking : numbersOf 4 (requestSent (requestOf 48 5 16777216 65536 (1 ∷ [])) (replicate 3 0)) ≡ gives (3 ∷ [])
+  pub kind-49 : numbersOf 4 (requestSent (requestOf 49 5 0 0 []) (replicate 20 0)) ≡ no-room
+  pub of-1 : replyOf 1 4 (1 ∷ []) ≡ some (holds (1 ∷ []))
+  pub of-2 : replyOf 2 4 (1 ∷ []) ≡ some done
+  pub of-3 : replyOf 3 4 (1 ∷ []) ≡ some (refuses 4)
+  pub of-0 : replyOf 0 4 (1 ∷ []) ≡ none
+  pub code-unjudged : numbersOf 4 (replySent (replyOf 2 5 (1 ∷ [])) (0 ∷ [])) ≡ gives (1 ∷ [])
+  pub kind-4 : numbersOf 4 (replySent (replyOf 4 1 []) (replicate 20 0)) ≡ no-room
+  -- a range read; none at the table's end, past it 12; no table 6, 10. Table 0 may be read, though not written
+  pub range-place : ranged 0 5 2 3 ≡ gives (4 ∷ 3 ∷ [])
+  pub range-octets : readRangePart D first 0 5 (offset 2) 3 ≡ 0x34 ∷ 0x12 ∷ 0x78 ∷ []
+  pub range-read-only : ranged 0 0 1 1 ≡ gives (1 ∷ 1 ∷ [])
+  pub range-end : ranged 0 5 6 0 ≡ gives (8 ∷ 0 ∷ [])
+  pub range-past : ranged 0 5 7 0 ≡ refusal 12 0 0 (0 ∷ 0 ∷ [])
+  pub range-over : ranged 0 5 5 2 ≡ refusal 12 0 0 (0 ∷ 0 ∷ [])
+  pub range-no-table : ranged 0 6 0 0 ≡ refusal 10 0 0 (0 ∷ 0 ∷ [])
+  -- SERVED: table 5 read whole; a range of it; a count of 0 asks for no octets, at its end and inside it
+  pub whole : serves D first read-5 ≡ 0x00 ∷ 0x00 ∷ 0x06 ∷ 0xAA ∷ 0xBB ∷ 0x34 ∷ 0x12 ∷ 0x78 ∷ 0x56 ∷ 0x87 ∷ []
+  pub range-served : serves D first (0x3F ∷ 0x00 ∷ 0x05 ∷ 0x00 ∷ 0x00 ∷ 0x02 ∷ 0x00 ∷ 0x03 ∷ []) ≡ 0x00 ∷ 0x00 ∷ 0x03 ∷ 0x34 ∷ 0x12 ∷ 0x78 ∷ 0x42 ∷ 0xFF ∷ 0xFF ∷ 0xFF ∷ []
+  pub no-octets : serves D first (0x3F ∷ 0x00 ∷ 0x05 ∷ 0x00 ∷ 0x00 ∷ 0x06 ∷ 0x00 ∷ 0x00 ∷ []) ≡ 0x00 ∷ 0x00 ∷ 0x00 ∷ 0x00 ∷ 0xFF ∷ 0xFF ∷ 0xFF ∷ 0xFF ∷ 0xFF ∷ 0xFF ∷ []
+  pub no-octets-inside : serves D first (0x3F ∷ 0x00 ∷ 0x05 ∷ 0x00 ∷ 0x00 ∷ 0x02 ∷ 0x00 ∷ 0x00 ∷ []) ≡ 0x00 ∷ 0x00 ∷ 0x00 ∷ 0x00 ∷ 0xFF ∷ 0xFF ∷ 0xFF ∷ 0xFF ∷ 0xFF ∷ 0xFF ∷ []
+  -- ids: 5 + 4,096 names no table, nor 5 + 2,048 where no manufacturer's table 5 is; 2,047 and 2,048, 4,095 and 4,096
+  pub id-4101 : serves D first (0x30 ∷ 0x10 ∷ 0x05 ∷ []) ≡ replies 4
+  pub id-2053 : serves D first (0x30 ∷ 0x08 ∷ 0x05 ∷ []) ≡ replies 4
+  pub id-2047 : serves ends ends-image (0x30 ∷ 0x07 ∷ 0xFF ∷ []) ≡ 0x00 ∷ 0x00 ∷ 0x01 ∷ 0x0A ∷ 0xF6 ∷ 0xFF ∷ 0xFF ∷ 0xFF ∷ 0xFF ∷ 0xFF ∷ []
+  pub id-2048 : serves ends ends-image (0x30 ∷ 0x08 ∷ 0x00 ∷ []) ≡ 0x00 ∷ 0x00 ∷ 0x01 ∷ 0x0B ∷ 0xF5 ∷ 0xFF ∷ 0xFF ∷ 0xFF ∷ 0xFF ∷ 0xFF ∷ []
+  pub id-4095 : serves ends ends-image (0x30 ∷ 0x0F ∷ 0xFF ∷ []) ≡ 0x00 ∷ 0x00 ∷ 0x01 ∷ 0x0C ∷ 0xF4 ∷ 0xFF ∷ 0xFF ∷ 0xFF ∷ 0xFF ∷ 0xFF ∷ []
+  pub id-4096 : serves ends ends-image (0x30 ∷ 0x10 ∷ 0x00 ∷ []) ≡ replies 4
+  -- table 5 written whole, and a range of it; written whole with an octet less it is 04 and the image stays; a table of no octets
+  pub write-whole : serves D first write-5 ≡ replies 0
+  pub write-whole-image : serves-image D first write-5 ≡ 0x00 ∷ 0x82 ∷ 0x01 ∷ 0x02 ∷ 0x03 ∷ 0x04 ∷ 0x05 ∷ 0x06 ∷ []
+  pub write-part : serves D first (0x4F ∷ 0x00 ∷ 0x05 ∷ 0x00 ∷ 0x00 ∷ 0x04 ∷ 0x00 ∷ 0x02 ∷ 0x01 ∷ 0x02 ∷ 0xFD ∷ []) ≡ replies 0
+  pub write-part-image : serves-image D first (0x4F ∷ 0x00 ∷ 0x05 ∷ 0x00 ∷ 0x00 ∷ 0x04 ∷ 0x00 ∷ 0x02 ∷ 0x01 ∷ 0x02 ∷ 0xFD ∷ []) ≡ 0x00 ∷ 0x82 ∷ 0xAA ∷ 0xBB ∷ 0x34 ∷ 0x12 ∷ 0x01 ∷ 0x02 ∷ []
+  pub write-less : serves D first (0x40 ∷ 0x00 ∷ 0x05 ∷ 0x00 ∷ 0x05 ∷ 0x01 ∷ 0x02 ∷ 0x03 ∷ 0x04 ∷ 0x05 ∷ 0xF1 ∷ []) ≡ replies 4
+  pub write-less-image : serves-image D first (0x40 ∷ 0x00 ∷ 0x05 ∷ 0x00 ∷ 0x05 ∷ 0x01 ∷ 0x02 ∷ 0x03 ∷ 0x04 ∷ 0x05 ∷ 0xF1 ∷ []) ≡ first
+  pub write-none-of-none : serves D (0 ∷ 0 ∷ []) (0x40 ∷ 0x00 ∷ 0x05 ∷ 0x00 ∷ 0x00 ∷ 0x00 ∷ []) ≡ replies 0
+  -- table 0 isn't writable: 03, for no octets too; a wrong count is 04, since 12 comes before 13
+  pub read-only : serves D first write-0 ≡ replies 3
+  pub read-only-none : serves D first (0x4F ∷ 0x00 ∷ 0x00 ∷ 0x00 ∷ 0x00 ∷ 0x02 ∷ 0x00 ∷ 0x00 ∷ 0x00 ∷ []) ≡ replies 3
+  pub read-only-count : serves D first (0x40 ∷ 0x00 ∷ 0x00 ∷ 0x00 ∷ 0x01 ∷ 0x00 ∷ 0x00 ∷ []) ≡ replies 4
+  -- where it is writable, its dimensions may not be touched: 04
+  pub dimension-whole : serves D-writable first write-0 ≡ replies 4
+  pub dimension-part : serves D-writable first (0x4F ∷ 0x00 ∷ 0x00 ∷ 0x00 ∷ 0x00 ∷ 0x01 ∷ 0x00 ∷ 0x01 ∷ 0x82 ∷ 0x7E ∷ []) ≡ replies 4
+  -- a room shorter than the reply, one octet where a write is done or refused: 21, and neither room nor image changes
+  pub no-room-write : numbersOf 4 (serveReply D first write-5 []) ≡ no-room
+  pub no-room-image : serveImage D first write-5 [] ≡ first
+  pub one-octet : numbersOf 4 (serveReply D first write-5 (9 ∷ [])) ≡ gives (1 ∷ [])
+  pub room-9 : numbersOf 4 (serveReply D first read-5 (replicate 9 9)) ≡ no-room
+  pub room-9-stays : serveRoom D first read-5 (replicate 9 9) ≡ 9 ∷ 9 ∷ 9 ∷ 9 ∷ 9 ∷ 9 ∷ 9 ∷ 9 ∷ 9 ∷ []
+  pub no-room-refusal : numbersOf 4 (serveReply D first [] []) ≡ no-room
+  -- 1 to 9 are 04, and come after 01 and 02; a wrong check octet is 01
+  pub unsound : serves D-unset first read-5 ≡ replies 4
+  pub unsound-empty : serves D-unset first [] ≡ replies 1
+  pub unsound-unknown : serves D-unset first (0x31 ∷ []) ≡ replies 2
+  pub short-image : serves D first-cut read-5 ≡ replies 4
+  pub bad-check : serves D first (0x40 ∷ 0x00 ∷ 0x05 ∷ 0x00 ∷ 0x06 ∷ 0x01 ∷ 0x02 ∷ 0x03 ∷ 0x04 ∷ 0x05 ∷ 0x06 ∷ 0xEC ∷ []) ≡ replies 1

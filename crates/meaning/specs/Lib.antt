@@ -7,6 +7,7 @@ pub mod Layout
 pub mod Refusals
 pub mod Calendar
 pub mod Questions
+pub mod Messages
 pub mod Examples
 pub mod Unpassed
 pub mod Careful

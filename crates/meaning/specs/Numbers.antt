@@ -1,4 +1,4 @@
--- THE REFUSALS BY NAME: the table "Refusal numbers" of document 01, but for 17, which document 02's E1 takes back. A refusal is its number and what it reports (`Refusal`, src/lib.rt): 2 to 7 report the
+-- THE REFUSALS BY NAME: the table "Refusal numbers" of document 01, but for 17, which document 02's E1 takes back, and those that document 02 adds. A refusal is its number and what it reports (`Refusal`, src/lib.rt): 2 to 7 report the
 -- item, 9 the item and octet, others nothing more. Assumes nothing.
 use Prim.Native.Nat.{ℕ}
 use mathlib.Core.Bool.{Bool, not, _&&_, _||_}
@@ -12,7 +12,7 @@ reportsItem n = 2 ≤? n && n ≤? 7 || n =? 9
 abbrev pub reportsOctet : ℕ → Bool
 reportsOctet n = n =? 9
 
--- the numbers that are given: document 01's 1 to 20, but 17 no longer
+-- the numbers that questions about tables give: document 01's 1 to 20, but 17 no longer
 abbrev pub isGiven : ℕ → Bool
 isGiven n = 1 ≤? n && n ≤? 20 && not (n =? 17)
 
@@ -74,3 +74,11 @@ noRowOrColumn = numbered 19
 -- Table 51 isn't 9 octets, or Table 54 isn't the size that it says
 abbrev pub notACalendar : Refusal
 notACalendar = numbered 20
+
+-- a message doesn't fit the room lent, or a number its field
+abbrev pub noRoom : Refusal
+noRoom = numbered 21
+
+-- octets that are no reply of a meter
+abbrev pub notAReply : Refusal
+notAReply = numbered 43

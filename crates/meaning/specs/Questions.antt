@@ -13,7 +13,7 @@ use Rattle.meaning.specs.declared.Refusal.{Refusal}
 use Rattle.meaning.specs.declared.Reply.{Reply}
 use Rattle.meaning.specs.declared.Told.{Told}
 use Rattle.meaning.specs.Description.{checkReply}
-use Rattle.meaning.specs.Refusals.{toldBy, verdictReply, placeReply, layoutReply, tablePlaceReply, elementPlaceReply, tablePartReply, elementPartReply, elementNumberReply}
+use Rattle.meaning.specs.Refusals.{toldBy, verdictReply, placeReply, layoutReply, tablePlaceReply, elementPlaceReply, tablePartReply, elementPartReply, readRangeReply, readRangePart, elementNumberReply}
 use Rattle.meaning.specs.Refusals.{writeRangeReply, writeRangeImage, writeOctetsReply, writeOctetsImage, writeNumberReply, writeNumberImage}
 use Rattle.meaning.specs.Calendar.{tierReply, seasonedReply, matrixReply, matrixVerdict}
 
@@ -38,6 +38,8 @@ pub data Question : Type 0 where
   matrix : Question
   -- document 02, E1: does any season record with a real date stand at or before this date
   seasoned : Date → Question
+  -- document 02, E2: a range of a table, and where it is
+  readRange : (manufacturer number : ℕ) → TableOffset → (length : ℕ) → Question
 
 -- WHAT A QUESTION COMES TO: the reply; the octets that it tells, row by row where they are cells, none where it tells none; the image afterwards
 pub record Outcome : Type 0 where
@@ -63,6 +65,7 @@ outcomeOf (writeNumber q x) d img = outcome (verdictReply (writeNumberReply d im
 outcomeOf (tier w q) d img = outcome (tierReply d img w q) [] img
 outcomeOf matrix d img = outcome (verdictReply (matrixVerdict d img)) (flatten (matrixReply d img)) img
 outcomeOf (seasoned t) d img = outcome (seasonedReply d img t) [] img
+outcomeOf (readRange m k o n) d img = outcome (placeReply (readRangeReply d img m k o n)) (readRangePart d img m k o n) img
 
 unfoldable pub replyTo : Question → (description image : List ℕ) → Reply
 replyTo q d img = outcomeOf q d img .reply

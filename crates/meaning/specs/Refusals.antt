@@ -147,6 +147,17 @@ tablePartReply d img m k = placePart img (tablePlaceReply d img m k)
 unfoldable pub elementPartReply : (description image : List ℕ) → ElementName → List ℕ
 elementPartReply d img q = placePart img (elementPlaceReply d img q)
 
+-- A RANGE OF A TABLE: 10, then 12 (offset + length over the table's size). Empty on refusal
+unfoldable pub rangeAt : TableOffset → (length : ℕ) → Place → Place
+rangeAt o n (Place.At p size) = if size <? o .0 + n then Place.Refused outsideTable else Place.At (record { 0 = p .0 + o .0 }) n
+rangeAt o n (Place.Refused r) = Place.Refused r
+
+unfoldable pub readRangeReply : (description image : List ℕ) → (manufacturer number : ℕ) → TableOffset → (length : ℕ) → Place
+readRangeReply d img m k o n = rangeAt o n (tablePlaceReply d img m k)
+
+unfoldable pub readRangePart : (description image : List ℕ) → (manufacturer number : ℕ) → TableOffset → (length : ℕ) → List ℕ
+readRangePart d img m k o n = placePart img (readRangeReply d img m k o n)
+
 -- AN ELEMENT'S NUMBER
 -- 11 too where a number is asked of a BLOCK or SET
 unfoldable pub integerPlace : (description : List ℕ) → (item : ℕ) → Place → Place

@@ -181,6 +181,18 @@ impl Refusal {
         item: 0,
         octet: 0,
     };
+    // Of messages.
+    pub const NO_ROOM: Refusal = Refusal {
+        number: 21,
+        item: 0,
+        octet: 0,
+    };
+
+    pub const NOT_A_REPLY: Refusal = Refusal {
+        number: 43,
+        item: 0,
+        octet: 0,
+    };
 }
 
 // Whether a description is sound, a write is accepted, the matrix can be had.
@@ -200,7 +212,7 @@ pub enum Reply {
     Refused(Refusal),
     // A verdict that refuses nothing.
     Passed,
-    // The total of octets used.
+    // The total of octets used, of the image or of a room lent.
     Total(usize),
     // A place.
     At { start: ImageOffset, length: usize },
@@ -219,4 +231,57 @@ pub struct Told {
     pub refusal: Refusal,
     pub first: u64,
     pub second: u64,
+}
+
+// A request as it was read (document 02's E2): what it asks for, or the octet that refuses it. Of a write, how many octets of data it has; they stand from its octet 5 on,
+// behind an offset from octet 8 on.
+pub enum Requested {
+    Refused(u32),
+    FullRead {
+        id: u32,
+    },
+    OffsetRead {
+        id: u32,
+        offset: usize,
+        count: usize,
+    },
+    FullWrite {
+        id: u32,
+        count: usize,
+    },
+    OffsetWrite {
+        id: u32,
+        offset: usize,
+        count: usize,
+    },
+}
+
+// A meter's reply as it was read: so many octets of data, from its octet 3 on; a write done; the octet that refuses. Or it is no reply.
+pub enum Heard {
+    Data { count: usize },
+    Done,
+    Refused(u32),
+    NoReply,
+}
+
+// A request that was read, in numbers, for callers that know no enum; C has this very struct. The octet that refuses it, 0 where none does; its kind, which is its first
+// octet, id, offset and count; where its data start. All else is 0 where it is refused, and so is what its form lacks.
+#[repr(C)]
+pub struct RequestTold {
+    pub code: u64,
+    pub kind: u64,
+    pub id: u64,
+    pub offset: u64,
+    pub count: u64,
+    pub start: u64,
+}
+
+// A meter's reply that was read, likewise: its kind, 1 for data, 2 for done, 3 for refused; the octet that refuses; how many data, and where they start.
+#[repr(C)]
+pub struct ReplyTold {
+    pub refusal: Refusal,
+    pub kind: u64,
+    pub code: u64,
+    pub count: u64,
+    pub start: u64,
 }

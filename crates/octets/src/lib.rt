@@ -98,7 +98,7 @@ fn least_first(octets: &mut [u8], value: u64)
 }
 
 // Fills `octets` with a number, in a DATA_ORDER.
-fn fill(octets: &mut [u8], order: u32, value: u64)
+pub fn fill(octets: &mut [u8], order: u32, value: u64)
     ensures { λ _. ⌜ now (octets .exit) ≡ octetsIn order (length (now (octets .entry))) value ⌝ }
 {
     least_first(octets, value);

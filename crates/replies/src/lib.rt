@@ -2,15 +2,20 @@
 // number is turned into its value here too.
 //
 // What is told is a refusal, all 0 where nothing is refused, and two numbers of the answer's own.
+use meaning::Heard;
 use meaning::Place;
 use meaning::Quantity;
 use meaning::Refusal;
 use meaning::Reply;
+use meaning::ReplyTold;
+use meaning::RequestTold;
+use meaning::Requested;
 use meaning::Told;
 use meaning::Verdict;
 ghost use mathlib.Core.Path.{_≡_};
 ghost use mathlib.Core.List.{flatten};
 ghost use Rattle.meaning.specs.Refusals.{refusedWith, answered, toldBy, toldNumbers, verdictReply, placeReply};
+ghost use Rattle.meaning.specs.Messages.{requestTold, replyTold};
 ghost use Rattle.replies.specs.Asked.{quantityOf};
 
 // Nothing is told but the refusal.
@@ -32,6 +37,38 @@ fn answered(first: u64, second: u64) -> Told
         refusal: Refusal::NONE,
         first,
         second,
+    }
+}
+
+fn request_numbers(
+    code: u64,
+    kind: u64,
+    id: u64,
+    offset: u64,
+    count: u64,
+    start: u64,
+) -> RequestTold
+    ensures { λ r. ⌜ r ≡ record { code = code; kind = kind; id = id; offset = offset; count = count; start = start } ⌝ }
+{
+    RequestTold {
+        code,
+        kind,
+        id,
+        offset,
+        count,
+        start,
+    }
+}
+
+fn reply_numbers(refusal: Refusal, kind: u64, code: u64, count: u64, start: u64) -> ReplyTold
+    ensures { λ r. ⌜ r ≡ record { refusal = refusal; kind = kind; code = code; count = count; start = start } ⌝ }
+{
+    ReplyTold {
+        refusal,
+        kind,
+        code,
+        count,
+        start,
     }
 }
 
@@ -83,6 +120,35 @@ pub fn place_told(place: Place) -> Told
     match place {
         Place::At { start, length } => told(Reply::At { start, length }),
         Place::Refused(r) => told(Reply::Refused(r)),
+    }
+}
+
+// A request in numbers.
+pub fn request_told(requested: Requested) -> RequestTold
+    ensures { λ r. ⌜ r ≡ requestTold requested ⌝ }
+{
+    match requested {
+        Requested::Refused(code) => request_numbers(code as u64, 0, 0, 0, 0, 0),
+        Requested::FullRead { id } => request_numbers(0, 48, id as u64, 0, 0, 0),
+        Requested::OffsetRead { id, offset, count } => {
+            request_numbers(0, 63, id as u64, offset as u64, count as u64, 0)
+        }
+        Requested::FullWrite { id, count } => request_numbers(0, 64, id as u64, 0, count as u64, 5),
+        Requested::OffsetWrite { id, offset, count } => {
+            request_numbers(0, 79, id as u64, offset as u64, count as u64, 8)
+        }
+    }
+}
+
+// A meter's reply in numbers.
+pub fn reply_told(heard: Heard) -> ReplyTold
+    ensures { λ r. ⌜ r ≡ replyTold heard ⌝ }
+{
+    match heard {
+        Heard::Data { count } => reply_numbers(Refusal::NONE, 1, 0, count as u64, 3),
+        Heard::Done => reply_numbers(Refusal::NONE, 2, 0, 0, 0),
+        Heard::Refused(code) => reply_numbers(Refusal::NONE, 3, code as u64, 0, 0),
+        Heard::NoReply => reply_numbers(Refusal::NOT_A_REPLY, 0, 0, 0, 0),
     }
 }
 

@@ -20,6 +20,7 @@ use Rattle.octets.proofs.data_order as octets-data-order
 use Rattle.octets.proofs.part as octets-part
 use Rattle.octets.proofs.number_in as octets-number-in
 use Rattle.octets.proofs.number_at as octets-number-at
+use Rattle.octets.proofs.fill as octets-fill
 use Rattle.octets.proofs.put_octets as octets-put-octets
 use Rattle.octets.proofs.put_number as octets-put-number
 use Rattle.items.proofs.is_choice as items-is-choice
@@ -35,9 +36,12 @@ use Rattle.places.proofs.table_place as places-table-place
 use Rattle.places.proofs.element_place as places-element-place
 use Rattle.places.proofs.range_in as places-range-in
 use Rattle.access.proofs.table_part as access-table-part
+use Rattle.access.proofs.range_place as access-range-place
+use Rattle.access.proofs.range_part as access-range-part
 use Rattle.access.proofs.element_part as access-element-part
 use Rattle.access.proofs.element_number as access-element-number
 use Rattle.access.proofs.write_range as access-write-range
+use Rattle.access.proofs.write_table as access-write-table
 use Rattle.access.proofs.write_octets as access-write-octets
 use Rattle.access.proofs.write_number as access-write-number
 use Rattle.dates.proofs.day_of as dates-day-of
@@ -49,10 +53,19 @@ use Rattle.calendar.proofs.seasoned as calendar-seasoned
 use Rattle.calendar.proofs.matrix as calendar-matrix
 use Rattle.calendar.proofs.matrix_verdict as calendar-matrix-verdict
 use Rattle.calendar.proofs.matrix_into as calendar-matrix-into
+use Rattle.messages.proofs.read_request as messages-read-request
+use Rattle.messages.proofs.request_data as messages-request-data
+use Rattle.messages.proofs.write_request as messages-write-request
+use Rattle.messages.proofs.read_reply as messages-read-reply
+use Rattle.messages.proofs.reply_data as messages-reply-data
+use Rattle.messages.proofs.write_reply as messages-write-reply
+use Rattle.messages.proofs.serve as messages-serve
 use Rattle.replies.proofs.told as replies-told
 use Rattle.replies.proofs.numbers as replies-numbers
 use Rattle.replies.proofs.verdict_told as replies-verdict-told
 use Rattle.replies.proofs.place_told as replies-place-told
+use Rattle.replies.proofs.request_told as replies-request-told
+use Rattle.replies.proofs.reply_told as replies-reply-told
 use Rattle.replies.proofs.cells as replies-cells
 use Rattle.replies.proofs.quantity as replies-quantity
 use Rattle.words.proofs.number as words-number
@@ -67,6 +80,7 @@ use Rattle.words.proofs.put_octets as words-put-octets
 use Rattle.bilashonge.proofs.bilashonge_check as bilashonge-check
 use Rattle.bilashonge.proofs.bilashonge_layout as bilashonge-layout
 use Rattle.bilashonge.proofs.bilashonge_table_place as bilashonge-table-place
+use Rattle.bilashonge.proofs.bilashonge_range_place as bilashonge-range-place
 use Rattle.bilashonge.proofs.bilashonge_element_place as bilashonge-element-place
 use Rattle.bilashonge.proofs.bilashonge_element_number as bilashonge-element-number
 use Rattle.bilashonge.proofs.bilashonge_write_range as bilashonge-write-range
@@ -75,6 +89,11 @@ use Rattle.bilashonge.proofs.bilashonge_write_number as bilashonge-write-number
 use Rattle.bilashonge.proofs.bilashonge_tier_at as bilashonge-tier-at
 use Rattle.bilashonge.proofs.bilashonge_seasoned as bilashonge-seasoned
 use Rattle.bilashonge.proofs.bilashonge_matrix as bilashonge-matrix
+use Rattle.bilashonge.proofs.bilashonge_serve as bilashonge-serve
+use Rattle.bilashonge.proofs.bilashonge_read_request as bilashonge-read-request
+use Rattle.bilashonge.proofs.bilashonge_write_request as bilashonge-write-request
+use Rattle.bilashonge.proofs.bilashonge_read_reply as bilashonge-read-reply
+use Rattle.bilashonge.proofs.bilashonge_write_reply as bilashonge-write-reply
 
 -- crates/offsets
 pub one-offsets-TableOffset-new : OneReply _ offsets-TableOffset-new.Kinds.ps offsets-TableOffset-new.Kinds.r offsets-TableOffset-new.Reads.Learnt
@@ -127,6 +146,9 @@ one-octets-number-in κs a x y later other p q = (p .0 ∙ sym (q .0), refl)
 pub one-octets-number-at : OneReply _ octets-number-at.Kinds.ps octets-number-at.Kinds.r octets-number-at.Reads.Learnt
 one-octets-number-at κs a x y later other p q = (p .0 ∙ sym (q .0), refl)
 
+pub one-octets-fill : OneReply _ octets-fill.Kinds.ps octets-fill.Kinds.r octets-fill.Reads.Learnt
+one-octets-fill κs a x y later other p q = (refl, λ i. ((p ∙ sym q) i, (tt, (tt, tt))))
+
 pub one-octets-put-octets : OneReply _ octets-put-octets.Kinds.ps octets-put-octets.Kinds.r octets-put-octets.Reads.Learnt
 one-octets-put-octets κs a x y later other p q = (refl, λ i. ((p ∙ sym q) i, (tt, (tt, tt))))
 
@@ -176,6 +198,12 @@ one-places-range-in κs a x y later other p q = (p ∙ sym q, refl)
 pub one-access-table-part : OnePart _ access-table-part.Kinds.ps access-table-part.Kinds.r (λ κs x. (ptr x, now x)) access-table-part.Reads.Learnt
 one-access-table-part κs a x y later other p q = ((λ i. ((p .1 ∙ sym (q .1)) i, (p .0 ∙ sym (q .0)) i)), refl)
 
+pub one-access-range-place : OneReply _ access-range-place.Kinds.ps access-range-place.Kinds.r access-range-place.Reads.Learnt
+one-access-range-place κs a x y later other p q = (p ∙ sym q, refl)
+
+pub one-access-range-part : OnePart _ access-range-part.Kinds.ps access-range-part.Kinds.r (λ κs x. (ptr x, now x)) access-range-part.Reads.Learnt
+one-access-range-part κs a x y later other p q = ((λ i. ((p .1 ∙ sym (q .1)) i, (p .0 ∙ sym (q .0)) i)), refl)
+
 pub one-access-element-part : OnePart _ access-element-part.Kinds.ps access-element-part.Kinds.r (λ κs x. (ptr x, now x)) access-element-part.Reads.Learnt
 one-access-element-part κs a x y later other p q = ((λ i. ((p .1 ∙ sym (q .1)) i, (p .0 ∙ sym (q .0)) i)), refl)
 
@@ -184,6 +212,9 @@ one-access-element-number κs a x y later other p q = (p ∙ sym q, refl)
 
 pub one-access-write-range : OneReply _ access-write-range.Kinds.ps access-write-range.Kinds.r access-write-range.Reads.Learnt
 one-access-write-range κs a x y later other p q = (p .0 ∙ sym (q .0), λ i. (tt, ((p .1 ∙ sym (q .1)) i, (tt, (tt, (tt, (tt, tt)))))))
+
+pub one-access-write-table : OneReply _ access-write-table.Kinds.ps access-write-table.Kinds.r access-write-table.Reads.Learnt
+one-access-write-table κs a x y later other p q = (p .0 ∙ sym (q .0), λ i. (tt, ((p .1 ∙ sym (q .1)) i, (tt, (tt, (tt, tt))))))
 
 pub one-access-write-octets : OneReply _ access-write-octets.Kinds.ps access-write-octets.Kinds.r access-write-octets.Reads.Learnt
 one-access-write-octets κs a x y later other p q = (p .0 ∙ sym (q .0), λ i. (tt, ((p .1 ∙ sym (q .1)) i, (tt, (tt, tt)))))
@@ -221,6 +252,28 @@ one-calendar-matrix-verdict κs a x y later other p q = (p ∙ sym q, refl)
 pub one-calendar-matrix-into : OneReply _ calendar-matrix-into.Kinds.ps calendar-matrix-into.Kinds.r calendar-matrix-into.Reads.Learnt
 one-calendar-matrix-into κs a x y later other p q = (p .0 ∙ sym (q .0), λ i. (tt, (tt, ((p .1 ∙ sym (q .1)) i, tt))))
 
+-- crates/messages
+pub one-messages-read-request : OneReply _ messages-read-request.Kinds.ps messages-read-request.Kinds.r messages-read-request.Reads.Learnt
+one-messages-read-request κs a x y later other p q = (p ∙ sym q, refl)
+
+pub one-messages-request-data : OnePart _ messages-request-data.Kinds.ps messages-request-data.Kinds.r (λ κs x. (ptr x, now x)) messages-request-data.Reads.Learnt
+one-messages-request-data κs a x y later other p q = ((λ i. ((p .1 ∙ sym (q .1)) i, (p .0 ∙ sym (q .0)) i)), refl)
+
+pub one-messages-write-request : OneReply _ messages-write-request.Kinds.ps messages-write-request.Kinds.r messages-write-request.Reads.Learnt
+one-messages-write-request κs a x y later other p q = (p .0 ∙ sym (q .0), λ i. (tt, (tt, (tt, (tt, (tt, ((p .1 ∙ sym (q .1)) i, tt)))))))
+
+pub one-messages-read-reply : OneReply _ messages-read-reply.Kinds.ps messages-read-reply.Kinds.r messages-read-reply.Reads.Learnt
+one-messages-read-reply κs a x y later other p q = (p ∙ sym q, refl)
+
+pub one-messages-reply-data : OnePart _ messages-reply-data.Kinds.ps messages-reply-data.Kinds.r (λ κs x. (ptr x, now x)) messages-reply-data.Reads.Learnt
+one-messages-reply-data κs a x y later other p q = ((λ i. ((p .1 ∙ sym (q .1)) i, (p .0 ∙ sym (q .0)) i)), refl)
+
+pub one-messages-write-reply : OneReply _ messages-write-reply.Kinds.ps messages-write-reply.Kinds.r messages-write-reply.Reads.Learnt
+one-messages-write-reply κs a x y later other p q = (p .0 ∙ sym (q .0), λ i. (tt, (tt, (tt, ((p .1 ∙ sym (q .1)) i, tt)))))
+
+pub one-messages-serve : OneReply _ messages-serve.Kinds.ps messages-serve.Kinds.r messages-serve.Reads.Learnt
+one-messages-serve κs a x y later other p q = (p .0 ∙ sym (q .0), λ i. (tt, ((p .1 .0 ∙ sym (q .1 .0)) i, (tt, ((p .1 .1 ∙ sym (q .1 .1)) i, tt)))))
+
 -- crates/replies
 pub one-replies-told : OneReply _ replies-told.Kinds.ps replies-told.Kinds.r replies-told.Reads.Learnt
 one-replies-told κs a x y later other p q = (p ∙ sym q, refl)
@@ -233,6 +286,12 @@ one-replies-verdict-told κs a x y later other p q = (p ∙ sym q, refl)
 
 pub one-replies-place-told : OneReply _ replies-place-told.Kinds.ps replies-place-told.Kinds.r replies-place-told.Reads.Learnt
 one-replies-place-told κs a x y later other p q = (p ∙ sym q, refl)
+
+pub one-replies-request-told : OneReply _ replies-request-told.Kinds.ps replies-request-told.Kinds.r replies-request-told.Reads.Learnt
+one-replies-request-told κs a x y later other p q = (p ∙ sym q, refl)
+
+pub one-replies-reply-told : OneReply _ replies-reply-told.Kinds.ps replies-reply-told.Kinds.r replies-reply-told.Reads.Learnt
+one-replies-reply-told κs a x y later other p q = (p ∙ sym q, refl)
 
 pub one-replies-cells : OneReply _ replies-cells.Kinds.ps replies-cells.Kinds.r replies-cells.Reads.Learnt
 one-replies-cells κs a x y later other p q = (p ∙ sym q, refl)
@@ -278,6 +337,9 @@ one-bilashonge-layout κs a x y later other p q = (p ∙ sym q, refl)
 pub one-bilashonge-table-place : OneReply _ bilashonge-table-place.Kinds.ps bilashonge-table-place.Kinds.r bilashonge-table-place.Reads.Learnt
 one-bilashonge-table-place κs a x y later other p q = (p ∙ sym q, refl)
 
+pub one-bilashonge-range-place : OneReply _ bilashonge-range-place.Kinds.ps bilashonge-range-place.Kinds.r bilashonge-range-place.Reads.Learnt
+one-bilashonge-range-place κs a x y later other p q = (p ∙ sym q, refl)
+
 pub one-bilashonge-element-place : OneReply _ bilashonge-element-place.Kinds.ps bilashonge-element-place.Kinds.r bilashonge-element-place.Reads.Learnt
 one-bilashonge-element-place κs a x y later other p q = (p ∙ sym q, refl)
 
@@ -301,6 +363,21 @@ one-bilashonge-seasoned κs a x y later other p q = (p ∙ sym q, refl)
 
 pub one-bilashonge-matrix : OneReply _ bilashonge-matrix.Kinds.ps bilashonge-matrix.Kinds.r bilashonge-matrix.Reads.Learnt
 one-bilashonge-matrix κs a x y later other p q = (p .0 ∙ sym (q .0), λ i. (tt, (tt, ((p .1 ∙ sym (q .1)) i, tt))))
+
+pub one-bilashonge-serve : OneReply _ bilashonge-serve.Kinds.ps bilashonge-serve.Kinds.r bilashonge-serve.Reads.Learnt
+one-bilashonge-serve κs a x y later other p q = (p .0 ∙ sym (q .0), λ i. (tt, ((p .1 .0 ∙ sym (q .1 .0)) i, (tt, ((p .1 .1 ∙ sym (q .1 .1)) i, tt)))))
+
+pub one-bilashonge-read-request : OneReply _ bilashonge-read-request.Kinds.ps bilashonge-read-request.Kinds.r bilashonge-read-request.Reads.Learnt
+one-bilashonge-read-request κs a x y later other p q = (p ∙ sym q, refl)
+
+pub one-bilashonge-write-request : OneReply _ bilashonge-write-request.Kinds.ps bilashonge-write-request.Kinds.r bilashonge-write-request.Reads.Learnt
+one-bilashonge-write-request κs a x y later other p q = (p .0 ∙ sym (q .0), λ i. (tt, (tt, (tt, (tt, (tt, ((p .1 ∙ sym (q .1)) i, tt)))))))
+
+pub one-bilashonge-read-reply : OneReply _ bilashonge-read-reply.Kinds.ps bilashonge-read-reply.Kinds.r bilashonge-read-reply.Reads.Learnt
+one-bilashonge-read-reply κs a x y later other p q = (p ∙ sym q, refl)
+
+pub one-bilashonge-write-reply : OneReply _ bilashonge-write-reply.Kinds.ps bilashonge-write-reply.Kinds.r bilashonge-write-reply.Reads.Learnt
+one-bilashonge-write-reply κs a x y later other p q = (p .0 ∙ sym (q .0), λ i. (tt, (tt, (tt, ((p .1 ∙ sym (q .1)) i, tt)))))
 
 -- the function of this crate, on which the must-fail edits are tried
 pub one-kept : OneReply _ kept.Kinds.ps kept.Kinds.r kept.Reads.Learnt

@@ -60,6 +60,24 @@ pub fn table(d: &[u8], image: &[u8], mfr: bool, num: u64) -> Result<Place, Refus
     table_in(&lay_out(d, image)?, mfr, num)
 }
 
+/// A range of a table, to be read (document 02, E2). Order: 1 to 9, 10, 12; a
+/// range of no octets at an offset up to the size is one.
+pub fn read_range(
+    d: &[u8],
+    image: &[u8],
+    mfr: bool,
+    num: u64,
+    offset: u64,
+    length: u64,
+) -> Result<Place, Refusal> {
+    let place = table(d, image, mfr, num)?;
+    // Refusal 12: "offset + length over the table's size".
+    if u128::from(offset) + u128::from(length) > u128::from(place.length) {
+        return Err(Refusal::plain(12));
+    }
+    Ok(Place { at: place.at + offset, length })
+}
+
 /// The place of item `wanted` among the items from `start` to `end`, of which
 /// the first stands at octet `at`. None where refusal 11 is due: "one not
 /// below its count, branch not chosen".
@@ -231,6 +249,23 @@ pub fn write_range(
     let range = Place { at: table.start + offset, length: data.len() as u64 };
     refuse_dimensions(&layout, range)?;
     Ok(replaced(image, range.at, data))
+}
+
+/// The question "write a range of a table" over a whole table, as document
+/// 02's E2 asks it: "A full write's count other than the table's size is the
+/// tables' 12."
+pub fn write_table(
+    d: &[u8],
+    image: &[u8],
+    mfr: bool,
+    num: u64,
+    data: &[u8],
+) -> Result<Vec<u8>, Refusal> {
+    let place = table(d, image, mfr, num)?;
+    if data.len() as u64 != place.length {
+        return Err(Refusal::plain(12));
+    }
+    write_range(d, image, mfr, num, 0, data)
 }
 
 /// The question "write ... an element's octets". Order: 1 to 9, 11, 13, 14,

@@ -4,10 +4,14 @@ use crate::access::{self, Name};
 use crate::calendar::{self, Date, What};
 use crate::description;
 use crate::layout;
+use crate::messages::{self, Reply, Request};
 use crate::refusal::Refusal;
 
 /// The longest line that is read, the line feed not counted.
 pub const LONGEST_LINE: usize = 300_000;
+
+/// The most room that can be lent: the longest request's octets.
+const MOST_ROOM: u64 = 65_544;
 
 /// A number: one or more decimal digits, leading zeros allowed, no sign; none
 /// where it is over its type.
@@ -103,6 +107,11 @@ impl<'a> Words<'a> {
         number(self.word()?, 65_535)
     }
 
+    /// "`room` is a number of octets, at most 65,544"
+    fn room(&mut self) -> Option<u64> {
+        number(self.word()?, MOST_ROOM)
+    }
+
     /// "`S` = `item n s0 s1 s2 s3` (item number, how many subscripts count,
     /// four subscripts)"
     fn name(&mut self) -> Option<Name> {
@@ -145,6 +154,30 @@ fn reply(result: Result<String, Refusal>, zeros: &str) -> String {
 /// the image as it was.
 fn write_reply(result: Result<Vec<u8>, Refusal>, image: &[u8]) -> String {
     reply(result.map(|later| written(&later)), &written(image))
+}
+
+/// A message that was written, or the number that refuses it.
+fn message_reply(result: Result<Vec<u8>, u64>) -> String {
+    match result {
+        Ok(message) => format!("0 {}", written(&message)),
+        Err(no) => format!("{} -", no),
+    }
+}
+
+/// `code kind id offset count DATA` of a request that was read. "offset 0 in
+/// full forms; count 0 in a full read"; a write's count is its data's length.
+fn request_reply(result: Result<Request, u64>) -> String {
+    let none = Vec::new();
+    let (code, kind, id, offset, count, data) = match &result {
+        Err(code) => (*code, 0, 0, 0, 0, &none),
+        Ok(Request::FullRead { id }) => (0, 48, *id, 0, 0, &none),
+        Ok(Request::OffsetRead { id, offset, count }) => (0, 63, *id, *offset, *count, &none),
+        Ok(Request::FullWrite { id, data }) => (0, 64, *id, 0, data.len() as u64, data),
+        Ok(Request::OffsetWrite { id, offset, data }) => {
+            (0, 79, *id, *offset, data.len() as u64, data)
+        }
+    };
+    format!("{} {} {} {} {} {}", code, kind, id, offset, count, written(data))
 }
 
 /// The reply to a request, or none where the line is of no form.
@@ -261,6 +294,73 @@ fn answer_request(line: &[u8]) -> Option<String> {
                 Err(refusal) => (head(&refusal), [[0; 22]; 15]),
             };
             format!("{} {}", head, written(&cells.concat()))
+        }
+        // Document 02, E2.
+        b"serve" => {
+            let (d, m) = (words.octets()?, words.octets()?);
+            let room = words.room()?;
+            let request = words.octets()?;
+            words.end()?;
+            match messages::serve(&d, &m, room, &request) {
+                Ok((reply, later)) => format!("0 {} {}", written(&reply), written(&later)),
+                Err(no) => format!("{} - {}", no, written(&m)),
+            }
+        }
+        b"readrequest" => {
+            let request = words.octets()?;
+            words.end()?;
+            request_reply(messages::read_request(&request))
+        }
+        b"writerequest" => {
+            let kind = words.long()?;
+            let (id, offset, count) = (words.long()?, words.long()?, words.long()?);
+            let room = words.room()?;
+            let data = words.octets()?;
+            words.end()?;
+            // "the writes take the count from DATA, the full forms leave
+            // offset out, the reads leave DATA out; another kind is no form"
+            let request = match kind {
+                48 => Request::FullRead { id },
+                63 => Request::OffsetRead { id, offset, count },
+                64 => Request::FullWrite { id, data },
+                79 => Request::OffsetWrite { id, offset, data },
+                _ => return None,
+            };
+            message_reply(messages::write_request(&request, room))
+        }
+        b"readreply" => {
+            let reply = words.octets()?;
+            words.end()?;
+            match messages::read_reply(&reply) {
+                Ok(Reply::Data(data)) => format!("0 1 0 {}", written(&data)),
+                Ok(Reply::Done) => String::from("0 2 0 -"),
+                Ok(Reply::Refused(code)) => format!("0 3 {} -", code),
+                Err(no) => format!("{} 0 0 -", no),
+            }
+        }
+        b"writereply" => {
+            let (kind, code) = (words.long()?, words.long()?);
+            let room = words.room()?;
+            let data = words.octets()?;
+            words.end()?;
+            let reply = match kind {
+                1 => Reply::Data(data),
+                2 => Reply::Done,
+                3 => Reply::Refused(code),
+                _ => return None,
+            };
+            message_reply(messages::write_reply(&reply, room))
+        }
+        b"readrange" => {
+            let (d, m) = (words.octets()?, words.octets()?);
+            let (mfr, num) = (words.bit()?, words.table_number()?);
+            let (offset, length) = (words.long()?, words.long()?);
+            words.end()?;
+            let found = access::read_range(&d, &m, mfr, num, offset, length);
+            let good = |place: access::Place| {
+                format!("{} {} {}", place.at, place.length, written(place.part(&m)))
+            };
+            reply(found.map(good), "0 0 -")
         }
         _ => return None,
     };

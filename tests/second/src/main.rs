@@ -1,18 +1,21 @@
 //! The second program: the questions about meter tables, asked in lines of
-//! text and answered from documents 01 and 02 (its request E1) alone. See the
-//! README beside this directory.
+//! text and answered from documents 01 and 02 (its requests E1 and E2) alone.
+//! See the README beside this directory.
 
 mod access;
 mod calendar;
 mod description;
 mod layout;
 mod lines;
+mod messages;
 mod refusal;
 
 #[cfg(test)]
 mod tests_calendar;
 #[cfg(test)]
 mod tests_lines;
+#[cfg(test)]
+mod tests_messages;
 #[cfg(test)]
 mod tests_paper;
 #[cfg(test)]

@@ -109,10 +109,11 @@ fn a_bad_later_word_is_seen_before_the_answer() {
 #[test]
 fn counts_of_words() {
     // One word less and one more than each question takes.
-    let forms: [(&str, usize); 13] = [
+    let forms: [(&str, usize); 17] = [
         ("check", 1), ("layout", 2), ("table", 4), ("tablepart", 4), ("where", 8), ("octets", 8),
         ("number", 8), ("writerange", 6), ("writeoctets", 9), ("writenumber", 9), ("tier", 8),
-        ("seasoned", 5), ("matrix", 2),
+        ("seasoned", 5), ("matrix", 2), ("serve", 4), ("readrequest", 1), ("readreply", 1),
+        ("readrange", 6),
     ];
     for (question, count) in forms {
         for words in 0..12 {

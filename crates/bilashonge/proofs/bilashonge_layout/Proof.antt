@@ -1,4 +1,4 @@
--- `bilashonge_layout`: what the reply tells, field by field. Assumes nothing.
+-- `bilashonge_layout`: the total. Assumes nothing.
 use borrow.Author.Needs.{needs}
 use Rattle.meaning.specs.Questions.{outcomeOf, replyTo, toldTo}
 use Rattle.bilashonge.proofs.bilashonge_layout.Statement.{statement}
@@ -11,4 +11,4 @@ bilashonge-layout-spec =
     (tie.spec
     (λ c κs. search needs)
     (λ c κs. search needs)
-    (λ c. rw (c .before .told .ensures, c .before .before .layout .ensures)))
+    (λ c. rw (c .total-of .ensures, c .before .layout .ensures)))

@@ -1,7 +1,7 @@
 -- `lines::main`: the memory is as long as what is lent asks. Each answer has a name, so that nothing of that length is computed again where they are put
 -- together: in the list they took half as much memory again. Assumes nothing.
 use Prim.Native.Nat.{ℕ}
-use mathlib.Core.Path.{sym}
+use mathlib.Core.Path.{refl, sym}
 use native.Mathlib.Omega.{arith}
 use lib.ListN.{length-replicate}
 use borrow.Author.Needs.{needs}
@@ -13,7 +13,7 @@ slice-aggregate-run-2 : tie.Need-slice-aggregate-run-2
 slice-aggregate-run-2 c = sym (length-replicate {A = ℕ} 300001 0)
 
 slice-aggregate-run-3 : tie.Need-slice-aggregate-run-3
-slice-aggregate-run-3 c = sym (length-replicate {A = ℕ} 600770 0)
+slice-aggregate-run-3 c = sym (length-replicate {A = ℕ} 900110 0)
 
 slice-aggregate-run-4 : tie.Need-slice-aggregate-run-4
 slice-aggregate-run-4 c = sym (length-replicate {A = ℕ} 150000 0)
@@ -25,7 +25,7 @@ slice-aggregate-run-6 : tie.Need-slice-aggregate-run-6
 slice-aggregate-run-6 c = sym (length-replicate {A = ℕ} 150000 0)
 
 run-requires : tie.Need-run-requires
-run-requires c κs = memory-of 600770 150000 150000 150000 (omega arith) (omega arith) (omega arith) (omega arith)
+run-requires c κs = memory-of 900110 150000 150000 150000 (omega arith) refl (omega arith) (omega arith)
 
 pub main-spec : {M : Type 1} → statement M
 main-spec =

@@ -2,13 +2,13 @@
 use mathlib.Core.Path.{refl}
 use borrow.Author.Needs.{needs, zero≤}
 use Rattle.meaning.specs.Questions.{toldTo, replyTo, octetsTo, imageAfter, outcomeOf}
-use Rattle.lines.specs.Answer.{tierLimits, dateLimits, rows, rowAt, formOf, limits, asked}
+use Rattle.lines.specs.Answer.{tierLimits, dateLimits, tableRows, messageRows, rows, rowAt, formOf, limits, said}
 use Rattle.lines.proofs.AskLaws.{asks, asks-none, past, beyond, fits-at, fits-all}
 use Rattle.lines.proofs.ask.ask.Statement.{statement}
 use Rattle.lines.proofs.ask.ask.Tie as tie
 
 pub ask-spec : {M : Type 1} → statement M
-unfolding rows rowAt formOf limits asked toldTo replyTo octetsTo imageAfter outcomeOf
+unfolding tableRows messageRows rows rowAt formOf limits said toldTo replyTo octetsTo imageAfter outcomeOf
 ask-spec =
     tie.close
     (tie.spec
@@ -82,7 +82,18 @@ ask-spec =
     (λ c κs. search needs)
     (λ c. search needs)
     (λ c. asks 12 (c .before .before .before .before .if13 .taken) (rw (c .told4 .ensures, c .before .seasoned .ensures, c .before .before .date .ensures)) refl refl)
+    (λ c κs. (search (fits-at 13 0 1 refl), search (fits-at 13 1 65535 refl)))
+    (λ c. search needs)
+    (λ c κs. search needs)
+    (λ c. search needs)
+    (λ c κs. search needs)
+    (λ c κs. search needs)
+    (λ c. search needs)
+    (λ c.
+    let table3 = c .before .before .before .before .table3 in
+    let if14 = c .before .before .before .before .before .if14 in
+    asks 13 (if14 .taken) (rw (c .place-told3 .ensures, c .before .range-place .ensures, c .before .before .before .new2 .ensures, table3 .ensures)) refl refl)
     (λ c κs. search needs)
     (λ c.
-    let start = c .before .before .before .before .before .before .before .before .before .before .before .before .before .before .before .before .before in
-    beyond (start .pre .0) (search (past 0, past 1, past 2, past 3, past 4, past 5, past 6, past 7, past 8, past 9, past 10, past 11, past 12, zero≤) depth 16)))
+    let start = c .before .before .before .before .before .before .before .before .before .before .before .before .before .before .before .before .before .before in
+    beyond (start .pre .0) (search (past 0, past 1, past 2, past 3, past 4, past 5, past 6, past 7, past 8, past 9, past 10, past 11, past 12, past 13, zero≤) depth 17)))

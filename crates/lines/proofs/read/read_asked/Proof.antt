@@ -22,10 +22,9 @@ read-asked-spec =
     (tie.spec
     (λ c κs. search needs)
     (λ c κs. search needs)
-    (λ c κs. search needs)
-    (λ c.
-    let start = c .before .before .before .before .before .before .before .before .before .before .before .before .before .before in
-    omega (arith, start .pre .1 .1 .1 .1 .1 .few))
+    (λ c. let pre = c .before .before .before .before .before .before .before .before .before .before .before .before .before .pre in omega (arith, pre .1 .1 .1 .1 .1 .0))
+    (λ c κs. let pre = c .before .before .before .before .before .before .before .before .before .before .before .before .before .pre in (pre .0, (omega (arith, pre .1 .1 .1 .1 .1 .0), pre .1 .1 .1 .1 .1 .1)))
+    (λ c. let pre = c .before .before .before .before .before .before .before .before .before .before .before .before .before .before .pre in omega (arith, pre .1 .1 .1 .1 .1 .0, pre .1 .1 .1 .1 .1 .1 .few))
     (λ c κs.
     let pre = c .before .before .before .before .before .before .before .before .before .before .before .before .before .before .before .pre in
     (pre .0, (pre .1 .0, pre .1 .1 .1 .1 .0)))

@@ -10,10 +10,10 @@ use Rattle.lines.proofs.read.read_numbers.Statement.{statement}
 use Rattle.lines.proofs.read.read_numbers.Tie as tie
 
 abbrev Inv-loop : tie.InvT-loop
-Inv-loop line split count most values₀ i₀ values i = SoFar (lineWords line) (take count most) values i
+Inv-loop line split from count most values₀ i₀ values i = SoFar (lineWords line) from (take count most) values i
 
 abbrev μ-loop : tie.MeasureT-loop
-μ-loop line split count most values₀ i₀ values i = count - i
+μ-loop line split from count most values₀ i₀ values i = count - i
 
 loop-again : tie.Need-loop-again Inv-loop μ-loop
 loop-again c =
@@ -21,7 +21,7 @@ loop-again c =
     let s = c .before .before .before .before .before .before .loop .inv in
     let number = c .before .before .before .number in
     let w = word-at _ _ (pre .0) _ _ (c .before .before .before .before .word .ensures .0) in
-    so-far-more (pre .1) s (omega arith) w (number .ensures) _ (c .before .read .given .1)
+    so-far-more (pre .1 .1) s (omega arith) w (number .ensures) _ (c .before .read .given .1)
 
 pub read-numbers-spec : {M : Type 1} → statement M
 read-numbers-spec =
@@ -29,7 +29,7 @@ read-numbers-spec =
     (tie.spec
     Inv-loop
     μ-loop
-    (λ c. so-far-none _ _)
+    (λ c. so-far-none _ _ _)
     (λ c. omega arith)
     (λ c κs. search needs)
     (λ c. omega arith)
@@ -45,5 +45,5 @@ read-numbers-spec =
     (λ c.
     let start = c .before .before .before .before .before .before .before in
     let w = word-at _ _ (start .pre .0) _ _ (c .before .before .before .word .ensures .0) in
-    so-far-not (start .pre .1) (c .before .before .before .before .before .loop .inv) (omega arith) w (c .before .before .number .ensures) (c .enum-told .given .1))
-    (λ c. so-far-all (c .before .loop .inv) (omega (arith, limits-long (c .before .before .before .pre .1)))))
+    so-far-not (start .pre .1 .1) (c .before .before .before .before .before .loop .inv) (omega arith) w (c .before .before .number .ensures) (c .enum-told .given .1))
+    (λ c. so-far-all (c .before .loop .inv) (omega (arith, limits-long (c .before .before .before .pre .1 .1)))))

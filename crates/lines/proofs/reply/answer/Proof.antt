@@ -4,13 +4,13 @@ use native.Mathlib.Omega.{arith}
 use lib.Seq.{length-take-le}
 use borrow.Author.Tests.{not-true, not-false}
 use borrow.Author.Needs.{needs}
-use Rattle.lines.specs.Answer.{rows}
-use Rattle.lines.proofs.AnswerLaws.{put-as, word-at, row-fits, too-long, unknown, asked-reply, asked-none, asked-room, asked-within}
+use Rattle.lines.specs.Answer.{tableRows, messageRows, rows}
+use Rattle.lines.proofs.AnswerLaws.{put-as, word-at, row-fits, too-long, unknown, asked-reply, asked-none, asked-room, asked-within, asked-few}
 use Rattle.lines.proofs.reply.answer.Statement.{statement}
 use Rattle.lines.proofs.reply.answer.Tie as tie
 
 reply-requires : tie.Need-reply-requires
-unfolding rows
+unfolding tableRows messageRows rows
 reply-requires c κs =
     let form-of = c .before .before .before .before .before .before .before .before .before .before .before .before .before .before .before .before .before .form-of in
     let kind-of = c .before .before .before .before .before .before .before .before .before .before .before .before .before .before .before .before .before .before .before .kind-of in
@@ -23,12 +23,12 @@ reply-requires c κs =
       inside,
       (
         asked-room _ _ (kind-of .ensures) (form-of .ensures) name inside (asked .ensures) (start .args .image .now) (start .args .out .now) (asked .kept .1 .1 .1 .1 .0) (start .pre .reply),
-        asked-within _ _ (kind-of .ensures) (form-of .ensures) name inside (asked .ensures) (not-false _ (c .before .before .before .before .before .if3 .left)),
+        (asked-within _ _ (kind-of .ensures) (form-of .ensures) name inside (asked .ensures) (not-false _ (c .before .before .before .before .before .if3 .left)), asked-few (asked .result .d) (asked .last .1 .1 .1 .0) (start .args .description .now) (asked .kept .1 .1 .1 .0) (start .pre .items)),
       ),
     )
 
 pub answer-spec : {M : Type 1} → statement M
-unfolding rows
+unfolding tableRows messageRows rows
 answer-spec =
     tie.close
     (tie.spec
@@ -50,7 +50,7 @@ answer-spec =
     (λ c κs.
     let split = c .before .before .before .before .before .before .before .split in
     let memory = c .before .before .before .before .before .before .before .before .before .before .before .before .before .before .pre in
-    (split .ensures, (omega arith, (memory .items, (memory .tables, (memory .new, rw (c .before .before .before .form-of .ensures) (row-fits _ (c .before .before .before .before .if2 .left) .numbers)))))))
+    (split .ensures, (omega arith, (omega (arith, memory .items), (memory .tables, (memory .new, rw (c .before .before .before .form-of .ensures) (row-fits _ (c .before .before .before .before .if2 .left) .lent, row-fits _ (c .before .before .before .before .if2 .left) .numbers)))))))
     (λ c κs.
     let start = c .before .before .before .before .before .before .before .before .before .before .before .before .before .before .before .before .before .before .before .before .before .before .before .before in
     omega (arith, start .pre .reply))

@@ -1,44 +1,30 @@
--- `lines::reply::reply`: asked, then the numbers, the octets and the image afterwards. Assumes nothing.
+-- `lines::reply::reply`: no form, a question about tables, or a message. Assumes nothing.
 use native.Mathlib.Omega.{arith}
+use borrow.Author.Tests.{not-true, not-false}
 use borrow.Author.Needs.{needs}
-use Rattle.lines.proofs.AskLaws.{told-few, room-for-part, room-for-image, whole-put}
+use Rattle.lines.specs.Answer.{tableRows, messageRows, rows}
+use Rattle.lines.proofs.AnswerLaws.{put-as, taken-text, not-taken}
 use Rattle.lines.proofs.reply.reply.Statement.{statement}
 use Rattle.lines.proofs.reply.reply.Tie as tie
 
 pub reply-spec : {M : Type 1} → statement M
+unfolding tableRows messageRows rows
 reply-spec =
     tie.close
     (tie.spec
     (λ c κs. search needs)
-    (λ c κs. search needs)
-    (λ c κs. search needs)
-    (λ c κs.
-    let form-of = c .before .before .before .before .before .before .form-of in
-    (told-few (form-of .ensures) (search needs), omega arith))
-    (λ c κs.
-    let numbers = c .before .before .before .before .before .before .numbers in
-    let form-of = c .before .before .before .before .before .before .before .before .before .before .before .form-of in
-    let start = c .before .before .before .before .before .before .before .before .before .before .before .before .before .before .before .before in
-    let pre = start .pre in
-    let ask = c .before .before .before .before .before .before .before .before .before .ask in
-    (pre .0, (pre .1 .1, room-for-part (form-of .ensures) (pre .0) (numbers .ensures) (ask .ensures) (search needs) (pre .1 .0) (c .before .before .before .before .put-numbers .ensures))))
-    (λ c κs.
-    let put-numbers = c .before .before .before .before .before .before .before .before .before .put-numbers in
-    let numbers = c .before .before .before .before .before .before .before .before .before .before .before .numbers in
-    let ask-then = c .before .before .before .before .before .before .before .before .before .before .before .before .before .before .ask in
-    let form-of = c .before .before .before .before .before .before .before .before .before .before .before .before .before .before .before .before .form-of in
-    let pre = c .before .before .before .before .before .before .before .before .before .before .before .before .before .before .before .before .before .before .before .before .before .pre in
-    room-for-image (form-of .ensures) (pre .0) (numbers .ensures) (ask-then .ensures) (search needs) (pre .1 .0) (put-numbers .ensures) (c .before .before .before .before .put-part .ensures))
+    (λ c κs. omega arith)
+    (λ c. search needs)
+    (λ c. put-as _ (c .before .before .no-form .ensures) (not-taken _ _ _ _ _ (c .before .before .before .before .before .takes .ensures) (not-true _ (c .before .before .before .before .if1 .taken))))
     (λ c κs. search needs)
     (λ c. search needs)
     (λ c. search needs)
     (λ c.
-    let put-octets-if = c .before .before .before .before .before .before .put-octets-if in
-    let put-part = c .before .before .before .before .before .before .before .before .before .before .before .put-part in
-    let put-numbers = c .before .before .before .before .before .before .before .before .before .before .before .before .before .before .before .before .put-numbers in
-    let numbers = c .before .before .before .before .before .before .before .before .before .before .before .before .before .before .before .before .before .before .numbers in
-    let ask-then = c .before .before .before .before .before .before .before .before .before .before .before .before .before .before .before .before .before .before .before .before .before .ask in
-    let form-of = c .before .before .before .before .before .before .before .before .before .before .before .before .before .before .before .before .before .before .before .before .before .before .before .form-of in
-    let pre = c .before .before .before .before .before .before .before .before .before .before .before .before .before .before .before .before .before .before .before .before .before .before .before .before .before .before .before .before .pre in
-    whole-put (form-of .ensures) (pre .0) (numbers .ensures) (ask-then .ensures) (search needs) (pre .1 .0) (put-numbers .ensures) (put-part .ensures)
-    (put-octets-if .ensures) (c .before .before .put-octet .ensures)))
+    let takes = c .before .before .before .before .before .before .before .before .before .takes .ensures in
+    put-as _ (c .before .before .before .before .reply-tables .ensures) (taken-text _ _ _ _ _ takes (not-false _ (c .before .before .before .before .before .before .before .before .if1 .left))))
+    (λ c κs. search needs)
+    (λ c. search needs)
+    (λ c. search needs)
+    (λ c.
+    let takes = c .before .before .before .before .before .before .before .before .before .takes .ensures in
+    put-as _ (c .before .before .before .before .reply-message .ensures) (taken-text _ _ _ _ _ takes (not-false _ (c .before .before .before .before .before .before .before .before .if1 .left)))))
