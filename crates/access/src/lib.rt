@@ -1,5 +1,6 @@
-// Reads and writes: a table or an element as a part of the image, an element's number; a range of a
-// table, an element's octets, its number written. The public calls stand at the end.
+// Reads and writes: a table, a range of it or an element as a part of the image, an element's number;
+// a range of a table or the whole of it, an element's octets, its number written. The public calls
+// stand at the end.
 //
 // Any description, image and question get an answer. Refusals 1 to 9 come first, then 10 to 15 in
 // their order. A write's place is found before an octet is written, so a refused write changes none.

@@ -1,5 +1,5 @@
 -- The reply to a line: docs/LINES.md. A question is a row of one table: its name, the form of its lines, what it comes to, and how much of that its reply tells.
--- What a question comes to is said in one place (crate meaning, specs/Questions). Octets are ASCII: a space is 32, a line feed 10, `?` 63. Assumes nothing.
+-- What a question comes to is said in one place (crate meaning, specs/Questions), and of messages in another (specs/Messages there). Octets are ASCII: a space is 32, a line feed 10, `?` 63. Assumes nothing.
 use Prim.Native.Nat.{ℕ, _+_, _-_, _*_, _≤_}
 use Prim.Native.Char.{code}
 use Prim.Native.String.{String, [] as end, _∷_ as _then_}
