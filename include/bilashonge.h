@@ -139,6 +139,12 @@ struct bilashonge_answer {
     uint64_t yes;
 };
 
+/* weekday: 0 for Sunday to 6 for Saturday. */
+struct bilashonge_weekday {
+    struct bilashonge_refusal refusal;
+    uint64_t weekday;
+};
+
 /* The kinds of requests: the first octet of each. */
 enum bilashonge_request_kind {
     BILASHONGE_FULL_READ = 0x30,
@@ -291,6 +297,14 @@ struct bilashonge_tier bilashonge_tier_at(
 struct bilashonge_answer bilashonge_seasoned(
     const uint8_t *description, size_t description_length,
     const uint8_t *image, size_t image_length,
+    uint32_t year, uint32_t month, uint32_t day);
+
+/*
+ * WHICH DAY OF THE WEEK is this date, by the Gregorian calendar; or 16 alone, where it is no real
+ * date of 1990 to 2089, as 29 February 2023 and 31 April. No table has a part in it, so nothing is
+ * lent.
+ */
+struct bilashonge_weekday bilashonge_weekday_of(
     uint32_t year, uint32_t month, uint32_t day);
 
 /*

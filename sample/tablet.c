@@ -4,9 +4,9 @@
  *     tablet DESCRIPTION IMAGE NEW
  *
  * The files are in hex; what stands behind # on a line is for people. It prints the meter's tables and
- * calendar, moves the 07:00 switch to 06:30 in its own copy of the image, and prints tables and calendar of a
- * new meter of that description, whose image is NEW. Then it provokes every refusal and prints it in words. The
- * files are only read.
+ * calendar and a view of two months, moves the 07:00 switch to 06:30 in its own copy of the image, and prints
+ * tables and calendar of a new meter of that description, whose image is NEW. Then it provokes every refusal
+ * and prints it in words. The files are only read.
  */
 #include <bilashonge.h>
 
@@ -170,25 +170,81 @@ static void print_tables(struct meter *meter, uint64_t total) {
     }
 }
 
+/* The arrays of Table 54, in their order. */
+enum { DATES = 1, RECURRING_DATES, SWITCHES };
+
+/* The first item in that array. 0 where there is none: item 0 is a TABLE, so the library knows no element by
+ * it. */
+static size_t find_item(const struct meter *meter, int array) {
+    bool in_table_54 = false;
+    int arrays = 0;
+    for (size_t item = 0; item < item_count(meter); item++) {
+        uint32_t word = item_word(meter, item), kind = bits(word, 31, 28);
+        if (kind == KIND_TABLE)
+            in_table_54 = bits(word, 27, 16) == 54;
+        else if (in_table_54 && kind == KIND_ARRAY && ++arrays == array)
+            return item + 1;
+    }
+    return 0;
+}
+
+/* DAYS. The tablet has no calendar of its own: which days there are, and which weekdays, the library tells. */
+
+enum { SUNDAY = 0, SATURDAY = 6, WEEK_DAYS = 7, LONGEST_MONTH = 31 };
+
+struct day {
+    uint32_t year, month, day;
+};
+
+static const char *const weekday_names[] = {"Sunday",   "Monday", "Tuesday", "Wednesday",
+                                            "Thursday", "Friday", "Saturday"};
+static const char *const month_names[] = {
+    [1] = "January", "February", "March",     "April",   "May",      "June",
+    "July",          "August",   "September", "October", "November", "December",
+};
+
+static struct bilashonge_weekday weekday_of(const struct day *day) {
+    return bilashonge_weekday_of(day->year, day->month, day->day);
+}
+
+static bool is_real(const struct day *day) {
+    return answered(weekday_of(day).refusal);
+}
+
+/* Behind the last day of a month comes the first of the next, and behind December another year. */
+static struct day day_after(const struct day *day) {
+    struct day after = {day->year, day->month, day->day + 1};
+    if (!is_real(&after))
+        after = (struct day){day->year, day->month + 1, 1};
+    if (!is_real(&after))
+        after = (struct day){day->year + 1, 1, 1};
+    return after;
+}
+
+/* Its day is 0 where the library knows no day of that month. */
+static struct day last_of_month(uint32_t year, uint32_t month) {
+    struct day last = {year, month, LONGEST_MONTH};
+    while (last.day > 0 && !is_real(&last))
+        last.day--;
+    return last;
+}
+
+static struct day day_before(const struct day *day) {
+    if (day->day > 1)
+        return (struct day){day->year, day->month, day->day - 1};
+    return day->month > 1 ? last_of_month(day->year, day->month - 1) : last_of_month(day->year - 1, 12);
+}
+
 /* ITS CALENDAR */
 
 enum { HALF_HOUR = 30, DAY_MINUTES = 24 * 60, NONE_YET = '-' };
 
-struct day {
-    const char *name;
-    uint32_t year, month, day;
-};
-
 static const struct day days[] = {
-    {"Friday 29 December 2023", 2023, 12, 29},
-    {"Tuesday 5 March 2024", 2024, 3, 5},
-    {"Saturday 9 March 2024", 2024, 3, 9},
-    {"Monday 3 June 2024", 2024, 6, 3},
-    {"Wednesday 25 December 2024", 2024, 12, 25},
+    {2023, 12, 29}, {2024, 3, 5}, {2024, 3, 9}, {2024, 6, 3}, {2024, 12, 25},
 };
 
 /* The one on which the switch is moved. */
-enum { TUESDAY = 1 };
+enum { SWITCH_DAY = 1 };
 
 static struct bilashonge_tier tier_of(const struct meter *meter, const struct day *day, uint32_t minute) {
     return bilashonge_tier_at(LENT(meter), day->year, day->month, day->day, minute / 60, minute % 60,
@@ -221,6 +277,14 @@ static void print_in_words(const struct meter *meter, const struct day *day) {
     putchar('\n');
 }
 
+/* As Friday 29 December 2023. */
+static void print_name(const struct day *day) {
+    char name[48];
+    snprintf(name, sizeof name, "%s %" PRIu32 " %s %" PRIu32, weekday_names[weekday_of(day).weekday], day->day,
+             month_names[day->month], day->year);
+    printf("%-28s  ", name);
+}
+
 static void print_hours(void) {
     printf("%-28s  00    03    06    09    12    15    18    21    24\n", "");
 }
@@ -228,7 +292,7 @@ static void print_hours(void) {
 static void print_day(const struct meter *meter, const struct day *day) {
     /* A refusal of the first minute is that of the whole day. */
     struct bilashonge_refusal refusal = tier_of(meter, day, 0).refusal;
-    printf("%-28s  ", day->name);
+    print_name(day);
     if (!answered(refusal)) {
         puts(in_words(refusal));
         return;
@@ -252,14 +316,12 @@ static void print_calendar(const struct meter *meter) {
 
 /* Prints the columns' names and returns how many there are. Where weekdays aren't separate, they share one. */
 static uint32_t print_columns(bool separate_weekdays, uint32_t specials) {
-    static const char *const names[2][7] = {
-        {"Saturday", "Sunday", "Weekday"},
-        {"Sunday", "Monday", "Tuesday", "Wednesday", "Thursday", "Friday", "Saturday"},
-    };
-    uint32_t day_count = separate_weekdays ? 7 : 3;
+    static const char *const shared_names[] = {"Saturday", "Sunday", "Weekday"};
+    const char *const *names = separate_weekdays ? weekday_names : shared_names;
+    uint32_t day_count = separate_weekdays ? WEEK_DAYS : 3;
     printf("%-9s", "");
     for (uint32_t day = 0; day < day_count; day++)
-        printf(" %10s", names[separate_weekdays][day]);
+        printf(" %10s", names[day]);
     for (uint32_t special = 0; special < specials; special++)
         printf("%s%" PRIu32, special < 10 ? "  Special " : " Special ", special);
     putchar('\n');
@@ -286,6 +348,77 @@ static void print_schedules(const struct meter *meter) {
     }
 }
 
+/* A MONTH, as crews know it: six weeks from a Sunday on */
+
+enum { WEEKS = 6, FIRST_SPECIAL = 19, LAST_SPECIAL = 30 };
+
+/* A DATE's year is in bits 0 to 6: 0 to 89 are 2000 and on, 90 to 99 are 1990 and on, others no year. Its month
+ * is in bits 7 to 10, its day in 11 to 15. */
+static bool is_date_of(uint32_t date, const struct day *day) {
+    uint32_t year = bits(date, 6, 0);
+    return year < 100 && (year < 90 ? 2000 : 1900) + year == day->year && bits(date, 10, 7) == day->month
+           && bits(date, 15, 11) == day->day;
+}
+
+/* Behind a date's number stands its action, which may select a special schedule. Behind the last date the
+ * library says 11. */
+static bool is_special(const struct meter *meter, const struct day *day) {
+    size_t item = find_item(meter, DATES);
+    for (size_t subscript = 0;; subscript++) {
+        struct bilashonge_number date = bilashonge_element_number(LENT(meter), item, &subscript, 1);
+        if (!answered(date.refusal))
+            return false;
+        uint64_t number = bilashonge_element_number(LENT(meter), item + 1, &subscript, 1).number;
+        uint32_t action = bits((uint32_t)number, 4, 0);
+        if (is_date_of((uint32_t)date.number, day) && action >= FIRST_SPECIAL && action <= LAST_SPECIAL)
+            return true;
+    }
+}
+
+/* From the Sunday at or before this day on, each day in the column that the library tells. A place stays empty
+ * where the library knows no such day, before 1990 and after 2089. */
+static void fill_weeks(struct day day, struct day weeks[WEEKS][WEEK_DAYS]) {
+    memset(weeks, 0, WEEKS * sizeof weeks[0]);
+    /* A refusal has 0 for its weekday, so this ends before 1990 as well. */
+    while (weekday_of(&day).weekday != SUNDAY)
+        day = day_before(&day);
+    for (int place = 0; place < WEEKS * WEEK_DAYS; place++) {
+        struct bilashonge_weekday weekday = weekday_of(&day);
+        if (answered(weekday.refusal))
+            weeks[place / WEEK_DAYS][weekday.weekday] = day;
+        day = day_after(&day);
+    }
+}
+
+/* Of the text three characters. Behind a Saturday the line ends, so nothing is filled up there. */
+static void print_cell(int weekday, const char *text, const char *behind) {
+    printf("%4.3s%-*s", text, weekday == SATURDAY ? 0 : 2, behind);
+    if (weekday == SATURDAY)
+        putchar('\n');
+}
+
+/* The days of the neighbouring months stand in parentheses. */
+static void print_day_cell(const struct meter *meter, uint32_t month, int weekday, const struct day *day) {
+    bool within = day->month == month;
+    char text[16] = "", behind[3] = "";
+    if (day->day != 0) {
+        snprintf(text, sizeof text, "%s%" PRIu32, within ? "" : "(", day->day);
+        snprintf(behind, sizeof behind, "%s%s", is_special(meter, day) ? "*" : "", within ? "" : ")");
+    }
+    print_cell(weekday, text, behind);
+}
+
+static void print_month(const struct meter *meter, uint32_t year, uint32_t month) {
+    struct day weeks[WEEKS][WEEK_DAYS];
+    fill_weeks((struct day){year, month, 1}, weeks);
+    printf("\nMONTH: %s %" PRIu32 "; * is a special day\n", month_names[month], year);
+    for (int weekday = SUNDAY; weekday <= SATURDAY; weekday++)
+        print_cell(weekday, weekday_names[weekday], "");
+    for (int week = 0; week < WEEKS; week++)
+        for (int weekday = SUNDAY; weekday <= SATURDAY; weekday++)
+            print_day_cell(meter, month, weekday, &weeks[week][weekday]);
+}
+
 /* A SWITCH MOVED */
 
 enum { OLD_MINUTE = 7 * 60, NEW_MINUTE = 6 * 60 + 30 };
@@ -297,21 +430,6 @@ static uint32_t switch_minute(uint32_t number) {
 
 static uint32_t moved_to(uint32_t number, uint32_t minute) {
     return bits(number, 4, 0) | minute % 60 << 5 | minute / 60 << 11;
-}
-
-/* The item of the switches' numbers: the first in the third array of Table 54, after the non-recurring and the
- * recurring dates. 0 where there is none: item 0 is a TABLE, so the library knows no element by it. */
-static size_t find_switch_item(const struct meter *meter) {
-    bool in_table_54 = false;
-    int arrays = 0;
-    for (size_t item = 0; item < item_count(meter); item++) {
-        uint32_t word = item_word(meter, item), kind = bits(word, 31, 28);
-        if (kind == KIND_TABLE)
-            in_table_54 = bits(word, 27, 16) == 54;
-        else if (in_table_54 && kind == KIND_ARRAY && ++arrays == 3)
-            return item + 1;
-    }
-    return 0;
 }
 
 /* The first switch at that minute, or the refusal that comes behind the last switch: 11. */
@@ -327,7 +445,7 @@ static struct bilashonge_number find_switch(const struct meter *meter, size_t it
 static void move_switch(struct meter *meter) {
     static struct meter before;
     before = *meter;
-    size_t subscript, item = find_switch_item(meter);
+    size_t subscript, item = find_item(meter, SWITCHES);
     struct bilashonge_number old = find_switch(meter, item, OLD_MINUTE, &subscript);
     uint32_t number = moved_to((uint32_t)old.number, NEW_MINUTE);
     struct bilashonge_refusal refusal = old.refusal;
@@ -344,7 +462,7 @@ static void move_switch(struct meter *meter) {
     printf(": its number was %" PRIu64 ", and is %" PRIu32 " now\n", old.number, number);
     print_difference(&before, meter);
     print_hours();
-    print_day(meter, &days[TUESDAY]);
+    print_day(meter, &days[SWITCH_DAY]);
 }
 
 /* EVERY REFUSAL */
@@ -360,7 +478,7 @@ static struct bilashonge_refusal write_entry(struct meter *meter, uint32_t entry
 }
 
 static struct bilashonge_refusal tier_in_2024(struct meter *meter, uint32_t month, uint32_t day) {
-    const struct day asked = {"", 2024, month, day};
+    const struct day asked = {2024, month, day};
     return tier_of(meter, &asked, 0).refusal;
 }
 
@@ -457,6 +575,8 @@ int main(int argument_count, char **arguments) {
     read_meter(&new_meter, arguments[1], arguments[3]);
     if (!print_meter(&meter))
         return 1;
+    print_month(&meter, 2024, 2);
+    print_month(&meter, 2024, 12);
     move_switch(&meter);
     printf("\nA NEW METER, with one season and no season record\n");
     if (!print_meter(&new_meter))

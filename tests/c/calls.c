@@ -1,7 +1,7 @@
 /*
  * Calls of the C interface with octets and replies written by hand: what the line language can't ask, and the
- * document 01's starred examples. There is more on messages in messages.c. Prints how many checks there were;
- * fails where one does.
+ * document 01's starred examples. There is more on messages in messages.c, and on weekdays in weekdays.c. Prints
+ * how many checks there were; fails where one does.
  */
 #include "bilashonge.h"
 
@@ -257,6 +257,16 @@ static bool no_answer(struct bilashonge_answer answer, uint64_t number)
     return refused(answer.refusal, number) && answer.yes == 0;
 }
 
+static bool is_weekday(struct bilashonge_weekday weekday, uint64_t value)
+{
+    return answered(weekday.refusal) && weekday.weekday == value;
+}
+
+static bool no_weekday(struct bilashonge_weekday weekday)
+{
+    return refused(weekday.refusal, 16) && weekday.weekday == 0;
+}
+
 #define SAME(array, other) (sizeof array == sizeof other && memcmp(array, other, sizeof array) == 0)
 
 /* -------------------------------------------------------------------------------------------- the header */
@@ -284,6 +294,9 @@ static void structs(void)
     CHECK(sizeof(struct bilashonge_answer) == 32);
     CHECK(offsetof(struct bilashonge_answer, refusal) == 0);
     CHECK(offsetof(struct bilashonge_answer, yes) == 24);
+    CHECK(sizeof(struct bilashonge_weekday) == 32);
+    CHECK(offsetof(struct bilashonge_weekday, refusal) == 0);
+    CHECK(offsetof(struct bilashonge_weekday, weekday) == 24);
     CHECK(sizeof(struct bilashonge_request) == 48);
     CHECK(offsetof(struct bilashonge_request, code) == 0);
     CHECK(offsetof(struct bilashonge_request, kind) == 8);
@@ -670,8 +683,10 @@ static void asked_of_no_date(void)
         {UINT32_MAX, 1, 1}, {2024, UINT32_MAX, 1}, {2024, 1, UINT32_MAX},
         {UINT32_MAX, UINT32_MAX, UINT32_MAX},
     };
-    for (size_t k = 0; k < sizeof dates / sizeof dates[0]; k++)
+    for (size_t k = 0; k < sizeof dates / sizeof dates[0]; k++) {
         CHECK(no_answer(bilashonge_seasoned(CLOCK, dates[k][0], dates[k][1], dates[k][2]), 16));
+        CHECK(no_weekday(bilashonge_weekday_of(dates[k][0], dates[k][1], dates[k][2])));
+    }
 }
 
 /* An armed change of season hides the tier, but not whether a record stands. */
@@ -969,6 +984,60 @@ static void seasoned_changes_nothing(void)
     CHECK(SAME(description, clock_description) && SAME(image, clock_image));
 }
 
+/* ---------------------------------------------------------------------------------------------- weekdays */
+
+/* Worked out from 1 January 2000, a Saturday. Every date is in weekdays.c. */
+static void weekdays_at_the_ends(void)
+{
+    CHECK(is_weekday(bilashonge_weekday_of(1990, 1, 1), 1));
+    CHECK(is_weekday(bilashonge_weekday_of(2089, 12, 31), 6));
+    CHECK(is_weekday(bilashonge_weekday_of(1999, 12, 31), 5));
+    CHECK(is_weekday(bilashonge_weekday_of(2000, 1, 1), 6));
+    CHECK(no_weekday(bilashonge_weekday_of(1989, 12, 31)));
+    CHECK(no_weekday(bilashonge_weekday_of(2090, 1, 1)));
+}
+
+/* Where a year has a leap day, it takes its place between 28 February and 1 March. */
+static void weekdays_round_leap_days(void)
+{
+    static const struct {
+        uint32_t year;
+        uint64_t last; /* 28 February's */
+        bool leap;
+    } years[] = {{1992, 5, true}, {2000, 1, true}, {2023, 2, false}, {2024, 3, true}, {2088, 6, true}};
+    for (size_t k = 0; k < sizeof years / sizeof years[0]; k++) {
+        uint32_t year = years[k].year;
+        uint64_t last = years[k].last;
+        struct bilashonge_weekday leap_day = bilashonge_weekday_of(year, 2, 29);
+        CHECK(is_weekday(bilashonge_weekday_of(year, 2, 28), last));
+        CHECK(years[k].leap ? is_weekday(leap_day, (last + 1) % 7) : no_weekday(leap_day));
+        CHECK(is_weekday(bilashonge_weekday_of(year, 3, 1), (last + (years[k].leap ? 2 : 1)) % 7));
+        CHECK(no_weekday(bilashonge_weekday_of(year, 2, 30)));
+    }
+}
+
+/* The first of each month, of a common year and of a leap year; and the last, with the day behind it. */
+static void weekdays_of_months(void)
+{
+    static const struct {
+        uint32_t year;
+        uint32_t lengths[12];
+        uint64_t firsts[12];
+    } years[] = {
+        {2023, {31, 28, 31, 30, 31, 30, 31, 31, 30, 31, 30, 31}, {0, 3, 3, 6, 1, 4, 6, 2, 5, 0, 3, 5}},
+        {2024, {31, 29, 31, 30, 31, 30, 31, 31, 30, 31, 30, 31}, {1, 4, 5, 1, 3, 6, 1, 4, 0, 2, 5, 0}},
+    };
+    for (size_t k = 0; k < sizeof years / sizeof years[0]; k++)
+        for (uint32_t month = 1; month <= 12; month++) {
+            uint32_t length = years[k].lengths[month - 1];
+            uint64_t first = years[k].firsts[month - 1];
+            CHECK(no_weekday(bilashonge_weekday_of(years[k].year, month, 0)));
+            CHECK(is_weekday(bilashonge_weekday_of(years[k].year, month, 1), first));
+            CHECK(is_weekday(bilashonge_weekday_of(years[k].year, month, length), (first + length - 1) % 7));
+            CHECK(no_weekday(bilashonge_weekday_of(years[k].year, month, length + 1)));
+        }
+}
+
 /* ---------------------------------------------------------------------------------------------- overlaps */
 
 /* The description stands inside the image, past its tables: each reply is as of copies. */
@@ -1077,6 +1146,15 @@ static void two_descriptions_in_turn(void)
     }
 }
 
+static void weekdays_in_turn(void)
+{
+    for (int turn = 0; turn < 3; turn++) {
+        CHECK(is_weekday(bilashonge_weekday_of(2024, 2, 29), 4));
+        CHECK(no_weekday(bilashonge_weekday_of(2024, 2, 30)));
+        CHECK(is_weekday(bilashonge_weekday_of(2024, 12, 25), 3));
+    }
+}
+
 /* What was put into a room is read where it stands, and its data are lent on from there. */
 static void messages_passed_on(void)
 {
@@ -1177,12 +1255,16 @@ int main(void)
     seasoned_without_tables();
     seasoned_of_wrong_size();
     seasoned_changes_nothing();
+    weekdays_at_the_ends();
+    weekdays_round_leap_days();
+    weekdays_of_months();
     description_in_image();
     description_as_image();
     other_overlaps();
     messages_in_description();
     two_images_in_turn();
     two_descriptions_in_turn();
+    weekdays_in_turn();
     messages_passed_on();
     image_changed_in_place();
     written_and_read();

@@ -1,6 +1,6 @@
 #!/usr/bin/env bash
-# tests/c/check.sh [COUNT]: the library as C sees it. Compiles the header alone; calls every function from C (calls.c, messages.c, lines.c) and compares with replies written by hand
-# and with the second program, on COUNT random requests of each kind (20,000 unless told otherwise). Last, misdeeds done on purpose must be caught.
+# tests/c/check.sh [COUNT]: the library as C sees it. Compiles the header alone; calls every function from C (calls.c, messages.c, weekdays.c, lines.c) and compares with replies written by hand,
+# with the C library's calendar and with the second program, on COUNT random requests of each kind (20,000 unless told otherwise). Last, misdeeds done on purpose must be caught.
 # Builds the archive by `make`, unless the environment variable BILASHONGE_ARCHIVE names one. Prints a line for each part.
 set -euo pipefail
 count=${1:-20000}
@@ -53,6 +53,9 @@ echo "calls: $told"
 compile_c "$work/messages" tests/c/messages.c tests/c/lend.c "$archive" -Iinclude "${sanitizers[@]}"
 told=$(run_c "$work/messages")
 echo "messages: $told"
+compile_c "$work/weekdays" tests/c/weekdays.c "$archive" -Iinclude "${sanitizers[@]}"
+told=$(run_c "$work/weekdays")
+echo "weekdays: $told"
 cat >"$work/plus.cpp" <<'END'
 #include "bilashonge.h"
 int main() {
@@ -92,7 +95,7 @@ cp tests/second/examples.txt "$work/examples"
 compare examples tests/second/examples.expected
 write_odd_lines "$work"
 for what in odd long octets; do compare_with_second "$what"; done
-for kind in check places access calendar messages; do
+for kind in check places access calendar messages weekdays; do
     "$work/gen" 1 "$count" "$kind" >"$work/$kind"
     compare_with_second "$kind"
 done
@@ -113,6 +116,7 @@ fi
 wraps=$(awk 'NF >= 3 && $2 == "T" { printf ",--wrap=%s", $3 }' "$work/names")
 compile_c "$work/misdeeds" "${lines[@]}" tests/c/misdeeds.c "$archive" -Iinclude -pthread -static "-Wl$wraps"
 compile_c "$work/misdeeds-messages" tests/c/messages.c tests/c/lend.c tests/c/misdeeds.c "$archive" -Iinclude -static "-Wl$wraps"
+compile_c "$work/misdeeds-weekdays" tests/c/weekdays.c tests/c/misdeeds.c "$archive" -Iinclude -static "-Wl$wraps"
 # What the misdeeds are tried on: the examples, and some messages that fit their rooms and some that don't.
 { cat "$work/examples" && "$work/gen" 2 1000 messages; } >"$work/tried"
 "$work/second" <"$work/tried" >"$work/expected"
@@ -128,9 +132,9 @@ caught() {
 caught 0 0 'octets of stack'
 same_replies 'no misdeed' "$work/tried" "$work/expected" "$work/replies"
 for misdeed in 1 2 3 4 6 11 14 18 19 20 25 26 27 28 34 41 45 47 54 59 60; do caught $misdeed 2 "memory touched that wasn't lent, or written that is lent to be read"; done
-for misdeed in 5 22; do caught $misdeed 2 'another reply when asked again'; done
+for misdeed in 5 22 69; do caught $misdeed 2 'another reply when asked again'; done
 for misdeed in 7 23; do caught $misdeed 2 "a place that isn't inside the image"; done
-for misdeed in 8 21 24 39 42 52 55 65; do caught $misdeed 2 'refused, but not every value is 0'; done
+for misdeed in 8 21 24 39 42 52 55 65 67; do caught $misdeed 2 'refused, but not every value is 0'; done
 caught 9 2 'image, at the end: an octet beside what was lent has been written'
 caught 10 2 'image, at the start: an octet beside what was lent has been written'
 for misdeed in 12 16 37 50 63; do caught $misdeed 2 'other octets written when asked again'; done
@@ -138,22 +142,27 @@ for misdeed in 13 17 29 36 49 62; do caught $misdeed 2 'refused, but lent octets
 caught 15 2 'a call has taken more stack than it may'
 for misdeed in 35 48 61; do caught $misdeed 2 'room written past the message'; done
 for misdeed in 38 51 64; do caught $misdeed 2 "a message that isn't inside its room"; done
-for misdeed in 40 53 57 66; do caught $misdeed 2 'a refusal that reports an item or an octet'; done
+for misdeed in 40 53 57 66 68; do caught $misdeed 2 'a refusal that reports an item or an octet'; done
 for misdeed in 43 56 58; do caught $misdeed 2 "data that aren't inside the message"; done
 # These touch nothing that they may not: the replies tell.
-for misdeed in 30 31 32 33 44 46; do
+for misdeed in 30 31 32 33 44 46 70 71; do
     caught $misdeed 0 'octets of stack'
     if told=$(same_replies "misdeed $misdeed" "$work/tried" "$work/expected" "$work/replies"); then
         echo "misdeed $misdeed: every reply is as expected"
         exit 1
     fi
 done
-# By hand every misdeed of messages is told, by a check that fails or by the memory.
-run_c "$work/misdeeds-messages" >"$work/replies"
-for misdeed in {23..66}; do
-    if MISDEED=$misdeed run_c "$work/misdeeds-messages" >"$work/replies" 2>"$work/errors" || ! grep -qE 'not so|lent' "$work/errors"; then
-        echo "misdeed $misdeed: not told by messages.c: $(head -c 300 "$work/errors")"
-        exit 1
-    fi
-done
-echo 'must be caught: another number in the header, another reply, and 66 misdeeds, 44 of them by hand too: all told'
+# NAME NUMBER..: by hand, in NAME.c, each of these misdeeds is told, by a check that fails or by the memory.
+caught_by_hand() {
+    local misdeed
+    run_c "$work/misdeeds-$1" >"$work/replies"
+    for misdeed in "${@:2}"; do
+        if MISDEED=$misdeed run_c "$work/misdeeds-$1" >"$work/replies" 2>"$work/errors" || ! grep -qE 'not so|lent' "$work/errors"; then
+            echo "misdeed $misdeed: not told by $1.c: $(head -c 300 "$work/errors")"
+            exit 1
+        fi
+    done
+}
+caught_by_hand messages {23..66}
+caught_by_hand weekdays {67..71}
+echo 'must be caught: another number in the header, another reply, and 71 misdeeds, 49 of them by hand too: all told'

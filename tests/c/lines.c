@@ -361,6 +361,14 @@ static struct reply ask_seasoned(const struct request *request, const struct len
     return reply_of(answer.refusal, answer.yes, 0);
 }
 
+/* Nothing is lent. */
+static struct reply ask_weekday(const struct request *request, const struct lent *lent)
+{
+    struct bilashonge_weekday weekday = bilashonge_weekday_of(request->year, request->month, request->day);
+    (void)lent;
+    return reply_of(weekday.refusal, weekday.weekday, 0);
+}
+
 static struct reply ask_matrix(const struct request *request, const struct lent *lent)
 {
     return reply_of(bilashonge_matrix(LENT_DESCRIPTION, LENT_IMAGE, lent->cells), 0, 0);
@@ -442,16 +450,21 @@ static void tell_refusal(const struct outcome *outcome)
     put_refusal(&outcome->reply.refusal);
 }
 
+static void tell_value(const struct outcome *outcome, size_t value)
+{
+    printf(" %" PRIu64, outcome->reply.values[value]);
+}
+
 static void tell_one_value(const struct outcome *outcome)
 {
     put_refusal(&outcome->reply.refusal);
-    printf(" %" PRIu64, outcome->reply.values[0]);
+    tell_value(outcome, 0);
 }
 
 static void tell_two_values(const struct outcome *outcome)
 {
     tell_one_value(outcome);
-    printf(" %" PRIu64, outcome->reply.values[1]);
+    tell_value(outcome, 1);
 }
 
 /* The octets at a place, none where it is refused. */
@@ -493,13 +506,19 @@ static void tell_range(const struct outcome *outcome)
     tell_part(outcome);
 }
 
-/* Of messages a refusal is its number alone. */
+/* Of weekdays and messages a refusal is its number alone. */
 static void tell_number(const struct outcome *outcome)
 {
     const struct bilashonge_refusal *refusal = &outcome->reply.refusal;
     if (refusal->item != 0 || refusal->octet != 0)
         violation("a refusal that reports an item or an octet");
     printf("%" PRIu64, refusal->number);
+}
+
+static void tell_weekday(const struct outcome *outcome)
+{
+    tell_number(outcome);
+    tell_value(outcome, 0);
 }
 
 static void tell_message(const struct outcome *outcome)
@@ -579,6 +598,7 @@ static const struct question questions[] = {
     {"writenumber", read_element_and_value, ask_write_number, tell_image, D_M_S, M},
     {"tier", read_moment, ask_tier, tell_two_values, D_M, 0},
     {"seasoned", read_date, ask_seasoned, tell_one_value, D_M, 0},
+    {"weekday", read_date, ask_weekday, tell_weekday, 0, 0},
     {"matrix", read_nothing, ask_matrix, tell_cells, D_M | MATRIX, MATRIX},
     {"readrange", read_range_to_read, ask_range, tell_range, D_M, 0},
     {"serve", read_room_and_message, ask_serve, tell_served, D_M | R | TO_FILL, M | TO_FILL},

@@ -1,7 +1,8 @@
 /*
  * What lines.c is there to catch, done on purpose. Linked with it by --wrap, each function here stands before
  * the library's function of that name, calls it, and does the misdeed whose number the environment variable
- * MISDEED has. check.sh wants each of them told; those of messages, 23 and on, by messages.c too.
+ * MISDEED has. check.sh wants each of them told; those of messages, 23 to 66, by messages.c too, and those of
+ * weekdays, 67 and on, by weekdays.c.
  */
 #include "bilashonge.h"
 
@@ -286,4 +287,22 @@ WRAPPED(bilashonge_total, bilashonge_write_reply, uint64_t kind, uint64_t code, 
         write_to((uintptr_t)data, data[0]);
     spoil_room(60, &total, room, room_length, first);
     return total;
+}
+
+WRAPPED(bilashonge_weekday, bilashonge_weekday_of, uint32_t year, uint32_t month, uint32_t day)
+{
+    static const struct bilashonge_weekday no_date = {{BILASHONGE_NOT_A_DATE, 0, 0}, 0};
+    static uint64_t calls;
+    struct bilashonge_weekday weekday = __real_bilashonge_weekday_of(year, month, day);
+    if (does(67) && weekday.refusal.number != 0)
+        weekday.weekday = 1;
+    if (does(68) && weekday.refusal.number != 0)
+        weekday.refusal.item = 1;
+    if (does(69) && weekday.refusal.number == 0) /* the next at each call, whatever the date */
+        weekday.weekday = calls++ % 7;
+    if (does(70) && weekday.refusal.number == 0) /* 0 for Monday */
+        weekday.weekday = (weekday.weekday + 6) % 7;
+    if (does(71) && year == 2000 && month == 2 && day == 29) /* no leap day in 2000 */
+        weekday = no_date;
+    return weekday;
 }

@@ -1,9 +1,10 @@
 /*
- * one QUESTION ITEMS: a single call of the C interface, for tests/instructions to count. Fails where it isn't answered, or otherwise than meant.
+ * one QUESTION ITEMS [RECORDS]: a single call of the C interface, for tests/instructions to count. Fails where it isn't answered, or otherwise than meant.
  *
  * The description has ITEMS items. Table 00, marked writable, holds UINTs of an octet: a dimension in each slot, as far as there are UINTs for it, but the last UINT is none;
- * that is the element asked for and written. For tier_at, seasoned and matrix the last four items are tables 51 and 54, of a BLOCK each. serve answers an offset write of that
- * element's octet; read_request, write_request, read_reply and write_reply know of no description, so of them ITEMS is how many data octets the message has.
+ * that is the element asked for and written. For tier_at, seasoned and matrix the last four items are tables 51 and 54, of a BLOCK each; Table 54 has RECORDS season records, one
+ * unless told otherwise. serve answers an offset write of that element's octet; read_request, write_request, read_reply and write_reply know of no description, so of them ITEMS is
+ * how many data octets the message has. weekday_of knows of nothing but the date.
  */
 #include "bilashonge.h"
 
@@ -14,15 +15,37 @@
 
 enum { MOST = 512, WRITTEN = 0x5a };
 
-/* Tables 51 and 54, and their octets, the most significant first: a record selects season 0 from 1 January 2024 on; each day of it has schedule 1, which switches at 00:00 to
- * tier 0 and at 07:30 to tier 2. */
-static const uint32_t calendar[] = {0x10330001, 0x30090000, 0x10360001, 0x300c0000};
-static const uint8_t calendar_octets[] = {
-    0x00, 0x00, 0x01, 0x01, 0x00, 0x00, 0x02, 0x00, 0x00,                   /* Table 51 */
-    0x08, 0x98, 0x03, 0x00, 0x00, 0x01, 0x3b, 0xc2, 0x01, 0x01, 0x01, 0x01, /* Table 54 */
-};
+/* Tables 51 and 54, and their octets, the most significant first: each record selects season 0, the first of them from 1 January 2024 on, the others from dates of all years and
+ * months; each day of season 0 has schedule 1, which switches at 00:00 to tier 0 and at 07:30 to tier 2. */
+enum { TABLE_51 = 9, RECORD = 3, MOST_RECORDS = 255, SEASON_0 = 3 };
+static const uint8_t flags_to_dates[] = {0x00, 0x00, 0x01};
+static const uint8_t recurring_to_size[] = {0x00, 0x00, 0x02, 0x00, 0x00};
+static const uint8_t switches_and_row[] = {0x00, 0x00, 0x01, 0x3b, 0xc2, 0x01, 0x01, 0x01, 0x01};
+enum { MOST_CALENDAR = TABLE_51 + RECORD * MOST_RECORDS + sizeof switches_and_row };
 
-static uint8_t description[4 * MOST], image[MOST + sizeof calendar_octets];
+static uint8_t *put(uint8_t *at, const uint8_t *octets, size_t count)
+{
+    memcpy(at, octets, count);
+    return at + count;
+}
+
+/* Puts the octets of both tables, and returns how many there are. */
+static size_t put_calendar(uint8_t *octets, size_t records)
+{
+    uint8_t *at = put(octets, flags_to_dates, sizeof flags_to_dates);
+    *at++ = (uint8_t)records;
+    at = put(at, recurring_to_size, sizeof recurring_to_size);
+    for (size_t k = 0; k < records; k++) {
+        size_t year = (24 + k) % 90, month = 1 + k % 12, day = 1 + k % 28, date = year | month << 7 | day << 11;
+        *at++ = (uint8_t)(date >> 8);
+        *at++ = (uint8_t)date;
+        *at++ = SEASON_0;
+    }
+    at = put(at, switches_and_row, sizeof switches_and_row);
+    return (size_t)(at - octets);
+}
+
+static uint8_t description[4 * MOST], image[MOST + MOST_CALENDAR];
 
 /* Messages: an offset write of table 0, of so many octets WRITTEN from that offset on; and the reply to a read of as many. */
 enum { HEAD = 8, REPLY_HEAD = 3 };
@@ -46,10 +69,11 @@ static void set_item(size_t i, uint32_t word)
 
 int main(int arguments, char **argument)
 {
-    const char *question = arguments == 3 ? argument[1] : "";
-    size_t items = arguments == 3 ? strtoul(argument[2], NULL, 10) : 0;
+    const char *question = arguments >= 3 ? argument[1] : "";
+    size_t items = arguments >= 3 ? strtoul(argument[2], NULL, 10) : 0;
+    size_t records = arguments >= 4 ? strtoul(argument[3], NULL, 10) : 1;
     bool dated = strcmp(question, "tier_at") == 0 || strcmp(question, "seasoned") == 0 || strcmp(question, "matrix") == 0;
-    if (items < 8 || items > MOST)
+    if (items < 8 || items > MOST || records > MOST_RECORDS)
         return 2;
 
     /* Item `last` is the last of table 00, octet `last - 1` of the image. Octet 0, DATA_ORDER, is 1: the most significant octet first. */
@@ -60,10 +84,11 @@ int main(int arguments, char **argument)
     image[0] = 1;
     size_t used = last;
     if (dated) {
+        size_t count = put_calendar(image + last, records);
+        const uint32_t calendar[] = {0x10330001, 0x30000000 | TABLE_51 << 16, 0x10360001, 0x30000000 | (uint32_t)(count - TABLE_51) << 16};
         for (size_t k = 0; k < 4; k++)
             set_item(last + 1 + k, calendar[k]);
-        memcpy(image + last, calendar_octets, sizeof calendar_octets);
-        used += sizeof calendar_octets;
+        used += count;
     }
     size_t length = 4 * items;
 
@@ -128,6 +153,10 @@ int main(int arguments, char **argument)
         struct bilashonge_answer reply = bilashonge_seasoned(description, length, image, used, 2024, 3, 5);
         refusal = reply.refusal;
         meant = reply.yes == 1;
+    } else if (strcmp(question, "weekday_of") == 0) {
+        struct bilashonge_weekday reply = bilashonge_weekday_of(2089, 12, 31);
+        refusal = reply.refusal;
+        meant = reply.weekday == 6;
     } else if (strcmp(question, "matrix") == 0) {
         uint8_t cells[BILASHONGE_MATRIX_ROWS][BILASHONGE_MATRIX_COLUMNS];
         memset(cells, WRITTEN, sizeof cells);

@@ -47,6 +47,10 @@ fn name(words: &[&str]) -> String {
     format!("(record {{ item = {}; count = {}; subscripts = {} }})", words[0], words[1], word_list(&words[2..6]))
 }
 
+fn date(words: &[&str]) -> String {
+    format!("(record {{ year = {}; month = {}; day = {} }})", words[0], words[1], words[2])
+}
+
 // Whether an item is an ARRAY whose count has more than three bits: kind 5, width less 1 in bits 16..12.
 fn counts_far(description: &str) -> bool {
     octets(description).chunks_exact(4).any(|item| {
@@ -79,10 +83,7 @@ fn question(words: &[&str]) -> Option<(String, usize, bool, bool)> {
             (format!("tier {} {}", moment, asked), 5, false, false)
         }
         "matrix" => ("matrix".to_string(), 3, true, false),
-        "seasoned" => {
-            let date = format!("(record {{ year = {}; month = {}; day = {} }})", words[3], words[4], words[5]);
-            (format!("seasoned {}", date), 4, false, false)
-        }
+        "seasoned" => (format!("seasoned {}", date(&words[3..])), 4, false, false),
         "readrange" => (format!("readRange {} (record {{ 0 = {} }}) {}", table(), words[5], words[6]), 5, true, false),
         _ => return None,
     })
@@ -103,6 +104,11 @@ fn table_equations(words: &[&str], values: &[&str]) -> Vec<String> {
         found.push(format!("imageAfter {} ≡ {}", on, hex_list(values[count])));
     }
     found
+}
+
+// The weekday of a date, by the question about no table.
+fn weekday_equations(words: &[&str], values: &[&str]) -> Vec<String> {
+    vec![format!("numbersOf 4 (replyTo (weekday {}) [] []) ≡ ({} ∷ 0 ∷ 0 ∷ {} ∷ [])", date(&words[1..]), values[0], values[1])]
 }
 
 // A message put into a room: its number of octets and the room afterwards, by the two definitions that say these of `what` in a room; the reply has the refusal's
@@ -161,6 +167,9 @@ fn equations(request: &str, reply: &str) -> Vec<String> {
     if reply == "?" || request.len() > LONGEST {
         return Vec::new();
     }
+    if words[0] == "weekday" {
+        return weekday_equations(&words, &values);
+    }
     let found = table_equations(&words, &values);
     if found.is_empty() { message_equations(&words, &values) } else { found }
 }
@@ -174,7 +183,7 @@ use Rattle.meaning.specs.declared.Quantity.{Quantity}
 use Rattle.meaning.specs.declared.ReplyTold.{ReplyTold}
 use Rattle.meaning.specs.declared.RequestTold.{RequestTold}
 use Rattle.meaning.specs.Refusals.{numbersOf}
-use Rattle.meaning.specs.Questions.{check, layout, tablePlace, tablePart, elementPlace, elementPart, elementNumber, writeRange, writeOctets, writeNumber, tier, matrix, seasoned, readRange, replyTo, octetsTo, imageAfter}
+use Rattle.meaning.specs.Questions.{check, layout, tablePlace, tablePart, elementPlace, elementPart, elementNumber, writeRange, writeOctets, writeNumber, tier, matrix, seasoned, weekday, readRange, replyTo, octetsTo, imageAfter}
 use Rattle.meaning.specs.Messages.{requestIn, requestedBy, requestData, requestTold, replyIn, heardBy, replyData, replyTold, requestOf, requestSent, requestRoom, replyOf, replySent, replyRoom, serveReply, serveRoom, serveImage}
 
 abbrev requestNumbers : RequestTold → List ℕ

@@ -14,7 +14,8 @@ checked="-C debug-assertions=on -C overflow-checks=on"
 "$RUSTC" --edition 2021 --test $checked "$here/src/main.rs" -o "$out/second-tests"
 "$RUSTC" --edition 2021 -O "$here/gen.rs" -o "$out/gen"
 "$RUSTC" --edition 2021 --test -O $checked "$here/gen.rs" -o "$out/gen-tests"
-"$RUSTC" --edition 2021 -O "$here/reached_messages.rs" -o "$out/reached-messages"
+"$RUSTC" --edition 2021 -O "$here/reached_messages.rs" -o "$out/reached_messages"
+"$RUSTC" --edition 2021 -O "$here/reached_weekdays.rs" -o "$out/reached_weekdays"
 
 "$out/second-tests" --test-threads=1 -q
 "$out/gen-tests" --test-threads=1 -q
@@ -24,7 +25,7 @@ cmp "$out/replies" "$here/examples.expected"
 echo "examples: $(wc -l < "$here/examples.txt") lines, all as written by hand"
 
 # The debug build stops on any overflow; both builds answer every line alike.
-for kind in check places access calendar messages lines all; do
+for kind in check places access calendar messages weekdays lines all; do
     "$out/gen" 2026 20000 "$kind" > "$out/requests"
     "$out/second-debug" < "$out/requests" > "$out/debug-replies"
     "$out/second" < "$out/requests" > "$out/replies"
@@ -32,10 +33,15 @@ for kind in check places access calendar messages lines all; do
     test "$(wc -l < "$out/replies")" -eq 20000
     echo "$kind: 20000 lines answered"
 done
-# The messages reach every case that is wanted.
-"$out/gen" 2026 100000 messages > "$out/requests"
-"$out/second" < "$out/requests" > "$out/replies"
-LC_ALL=C paste -d '\t' "$out/requests" "$out/replies" | "$out/reached-messages"
+# reaches KIND COUNT: so many requests of the kind reach every case that is
+# wanted.
+reaches() {
+    "$out/gen" 2026 "$2" "$1" > "$out/requests"
+    "$out/second" < "$out/requests" > "$out/replies"
+    LC_ALL=C paste -d '\t' "$out/requests" "$out/replies" | "$out/reached_$1"
+}
+reaches messages 100000
+reaches weekdays 60000
 # Octets of every kind, line feeds among them: a program.
 head -c 2000000 "$out/second-debug" > "$out/noise"
 "$out/second-debug" < "$out/noise" > "$out/replies"

@@ -6,8 +6,8 @@
 //! KIND is check, places (layout, table, where), access (tablepart, octets,
 //! number and the writes), calendar (tier, seasoned, matrix;
 //! gen_calendar.rs), messages (serve, readrange, and the reading and writing of
-//! requests and replies; gen_messages.rs), lines (malformed and odd lines) or
-//! all.
+//! requests and replies; gen_messages.rs), weekdays (weekday; gen_weekdays.rs),
+//! lines (malformed and odd lines) or all.
 //!
 //! Build with plain rustc; it shares the second program's reading of
 //! descriptions and layouts, only so as to choose cases near the edges. What
@@ -24,6 +24,7 @@ mod refusal;
 
 mod gen_calendar;
 mod gen_messages;
+mod gen_weekdays;
 
 #[cfg(test)]
 #[path = "src/access.rs"]
@@ -1400,6 +1401,7 @@ fn odd_line(rng: &mut Rng) -> Vec<u8> {
                 "tier 1000000120100000 00 2024 3 5 7 30 0",
                 "seasoned 1000000120100000 00 2024 3 5",
                 "matrix 1000000120100000 00",
+                "weekday 2024 3 5",
             ]);
             question.as_bytes().to_vec()
         }
@@ -1468,6 +1470,7 @@ fn spoiled(rng: &mut Rng, mut line: Vec<u8>) -> Vec<u8> {
                     "18446744073709551615", "18446744073709551616", "018446744073709551615",
                     "99999999999999999999", "000000000000000000000000000000", "abcdef", "ABCDEF",
                     "abc", "0g", "2047", "2048", "check", "matrix", "seasoned",
+                    "weekday",
                 ])
                 .as_bytes()
                 .to_vec();
@@ -1480,6 +1483,8 @@ fn spoiled(rng: &mut Rng, mut line: Vec<u8>) -> Vec<u8> {
                     "Check -", "checks -", "chec -", "layout - -", "table - - 0 0", "matrix - -",
                     "seasoned", "seasoned - -", "seasoned - - 2024 3", "seasoned - - 2024 3 5",
                     "seasoned - - 2024 3 5 7", "seasoned - - 4294967296 3 5", "season - - 2024 3 5",
+                    "weekday", "weekday 2024 3", "weekday 2024 3 5", "weekday 2024 3 5 0",
+                    "weekday - - 2024 3 5", "weekday 2024 3 4294967296", "week 2024 3 5",
                 ])
                 .as_bytes()
                 .to_vec();
@@ -1526,25 +1531,28 @@ fn request(rng: &mut Rng, kind: &str) -> Vec<u8> {
         "access" => access_request(rng).into_bytes(),
         "calendar" => calendar_request(rng).into_bytes(),
         "messages" => gen_messages::request(rng, 0),
+        "weekdays" => gen_weekdays::any_request(rng),
         "lines" => odd_line(rng),
         _ => {
             let kind = rng.pick(&[
                 "check", "check", "places", "places", "access", "access", "access", "calendar",
-                "calendar", "messages", "messages", "lines",
+                "calendar", "messages", "messages", "weekdays", "lines",
             ]);
             request(rng, kind)
         }
     }
 }
 
+const KINDS: [&str; 8] =
+    ["check", "places", "access", "calendar", "messages", "weekdays", "lines", "all"];
+
 fn main() {
     let arguments: Vec<String> = std::env::args().collect();
-    let kinds = ["check", "places", "access", "calendar", "messages", "lines", "all"];
     let read = || -> Option<(u64, u64, &str)> {
         let seed = arguments.get(1)?.parse().ok()?;
         let count = arguments.get(2)?.parse().ok()?;
         let kind = arguments.get(3)?.as_str();
-        if arguments.len() == 4 && kinds.contains(&kind) {
+        if arguments.len() == 4 && KINDS.contains(&kind) {
             Some((seed, count, kind))
         } else {
             None
@@ -1553,7 +1561,7 @@ fn main() {
     let (seed, count, kind) = match read() {
         Some(read) => read,
         None => {
-            eprintln!("usage: gen SEED N check|places|access|calendar|messages|lines|all");
+            eprintln!("usage: gen SEED N {}", KINDS.join("|"));
             std::process::exit(2);
         }
     };
@@ -1565,6 +1573,7 @@ fn main() {
         let mut line = match kind {
             "calendar" => gen_calendar::request(&mut rng, k).into_bytes(),
             "messages" => gen_messages::request(&mut rng, k),
+            "weekdays" => gen_weekdays::request(&mut rng, k),
             _ => request(&mut rng, kind),
         };
         line.push(b'\n');
@@ -1625,7 +1634,7 @@ mod tests {
             let once = gen_messages::request(&mut Rng(k << 20), k);
             assert_eq!(once, gen_messages::request(&mut Rng(k << 20), k));
         }
-        for kind in ["check", "places", "access", "calendar", "messages", "lines", "all"] {
+        for kind in KINDS {
             for seed in 0..50 {
                 let once = request(&mut Rng(seed), kind);
                 assert_eq!(once, request(&mut Rng(seed), kind));

@@ -12,10 +12,10 @@ use super::*;
 /// The days from 1 January 1990 to 31 December 2089.
 pub const DAYS: u64 = 36_525;
 
-const MOST: u64 = u32::MAX as u64;
+pub const MOST: u64 = u32::MAX as u64;
 
 /// Of the years from 1990 to 2089 every fourth is a leap year, 2000 too.
-fn days_in_month(year: u64, month: u64) -> u64 {
+pub fn days_in_month(year: u64, month: u64) -> u64 {
     match month {
         2 if year % 4 == 0 => 29,
         2 => 28,
@@ -25,7 +25,7 @@ fn days_in_month(year: u64, month: u64) -> u64 {
 }
 
 /// A day by its number, from 0 for 1 January 1990.
-fn day_numbered(number: u64) -> Day {
+pub fn day_numbered(number: u64) -> Day {
     let (mut year, mut month, mut left) = (1990, 1, number);
     while left >= days_in_month(year, month) {
         left -= days_in_month(year, month);
@@ -394,7 +394,7 @@ fn described(
 }
 
 /// A day that isn't: 16.
-fn unreal_day(rng: &mut Rng, day: &mut Day) {
+pub fn unreal_day(rng: &mut Rng, day: &mut Day) {
     match rng.below(10) {
         0 | 1 => day.year = rng.pick(&[1989, 2090, 0, MOST, 24, 99, 2100, 1889]),
         2 => day.year += rng.pick(&[1 << 8, 1 << 16, 100, 1 << 31]),

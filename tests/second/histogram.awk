@@ -11,7 +11,7 @@ BEGIN { FS = "\t" }
     split($1, q, " ")
     split($NF, r, " ")
     question = q[1]
-    if (question !~ /^(check|layout|table|tablepart|where|octets|number|writerange|writeoctets|writenumber|tier|seasoned|matrix|serve|readrequest|writerequest|readreply|writereply|readrange)$/)
+    if (question !~ /^(check|layout|table|tablepart|where|octets|number|writerange|writeoctets|writenumber|tier|seasoned|matrix|serve|readrequest|writerequest|readreply|writereply|readrange|weekday)$/)
         question = "(other)"
     answer = r[1]
     if (answer != "?" && (question == "tablepart" || question == "octets"))

@@ -29,7 +29,6 @@ use cases::Cases;
 use description::{after, Item};
 use layout::{lay_out, Layout};
 use std::collections::HashSet;
-use std::io::{self, BufRead};
 
 /// So many requests are to reach every case.
 const ENOUGH: u64 = 150_000;
@@ -498,7 +497,6 @@ fn table<'a>(laid: &'a Layout, image: &'a [u8], wanted: u64) -> Option<(&'a [Ite
 }
 
 struct Counts {
-    lines: u64,
     days: HashSet<Day>,
     answered: HashSet<Day>,
     actions: [u64; 32],
@@ -843,9 +841,7 @@ impl Counts {
 }
 
 fn main() {
-    let all = std::env::args().nth(1).as_deref() == Some("all");
     let mut counts = Counts {
-        lines: 0,
         days: HashSet::new(),
         answered: HashSet::new(),
         actions: [0; 32],
@@ -858,21 +854,6 @@ fn main() {
         seasoned: Cases::new("seasoned"),
         slips: Cases::new("slips that would show"),
     };
-    for line in io::stdin().lock().lines() {
-        let line = line.unwrap_or_default();
-        counts.lines += 1;
-        let found = match line.split_once('\t') {
-            Some((request, reply)) => counts.request(request, reply),
-            None => Err(String::from("no reply")),
-        };
-        if let Err(message) = found {
-            println!("reached: line {}: {message}: {:.120}", counts.lines, line);
-            std::process::exit(1);
-        }
-    }
-    if counts.lines < ENOUGH && !all {
-        println!("what so few requests reach isn't asked");
-    } else if !counts.report(all) && counts.lines >= ENOUGH {
-        std::process::exit(1);
-    }
+    let lines = cases::each_request(|request, reply| counts.request(request, reply));
+    cases::judge(lines, ENOUGH, |all| counts.report(all));
 }

@@ -28,7 +28,6 @@ use description::Item;
 use layout::{lay_out, Layout};
 use refusal::Refusal;
 use std::collections::HashSet;
-use std::io::{self, BufRead};
 
 /// So many requests are to reach every case.
 const ENOUGH: u64 = 100_000;
@@ -680,7 +679,6 @@ fn numbers(words: &[&str]) -> Vec<u64> {
 // ------------------------------------------------------------------ counts
 
 struct Counts {
-    lines: u64,
     unknown: HashSet<u8>,
     last: (String, String),
     replies: Cases,
@@ -1469,23 +1467,12 @@ impl Counts {
             &self.no_form,
             &self.slips,
         ];
-        let mut reached = true;
-        let mut cases_there = 0;
-        for cases in groups {
-            reached = cases.report(all) && reached;
-            cases_there += cases.number();
-        }
-        if cases_there != CASES {
-            println!("{cases_there} cases came to be counted, {CASES} are wanted");
-        }
-        reached && cases_there == CASES
+        cases::report_groups(&groups, CASES, all)
     }
 }
 
 fn main() {
-    let all = std::env::args().nth(1).as_deref() == Some("all");
     let mut counts = Counts {
-        lines: 0,
         unknown: HashSet::new(),
         last: (String::new(), String::new()),
         replies: Cases::new("replies"),
@@ -1499,23 +1486,6 @@ fn main() {
         no_form: Cases::new("lines of no form"),
         slips: Cases::new("slips that would show"),
     };
-    for line in io::stdin().lock().split(b'\n') {
-        // Spoiled lines have octets of any value, tabs among them.
-        let line = line.unwrap_or_default();
-        let line = String::from_utf8_lossy(&line);
-        counts.lines += 1;
-        let found = match line.rsplit_once('\t') {
-            Some((request, reply)) => counts.request(request, reply),
-            None => Err(String::from("no reply")),
-        };
-        if let Err(message) = found {
-            println!("reached: line {}: {message}: {:.120}", counts.lines, line);
-            std::process::exit(1);
-        }
-    }
-    if counts.lines < ENOUGH && !all {
-        println!("what so few requests reach isn't asked");
-    } else if !counts.report(all) && counts.lines >= ENOUGH {
-        std::process::exit(1);
-    }
+    let lines = cases::each_request(|request, reply| counts.request(request, reply));
+    cases::judge(lines, ENOUGH, |all| counts.report(all));
 }

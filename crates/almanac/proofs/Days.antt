@@ -1,18 +1,20 @@
 -- The calendar's definitions case by case: leap years, months, what makes a date real, the days counted. Assumes nothing.
-use Prim.Native.Nat.{ℕ, zero, suc, _+_, _*_, _<_, _≤_}
-use mathlib.Core.Path.{_≡_, refl, ap}
+use Prim.Native.Nat.{ℕ, zero, suc, _+_, _*_, _%_, _<_, _≤_}
+use mathlib.Core.Path.{_≡_, refl, sym, ap, _∙_}
 use mathlib.Core.Logic.{⊎-elim}
-use mathlib.Core.Bool.{Bool, true, cond, _&&_}
+use mathlib.Core.Bool.{Bool, true, false, cond, not, _&&_, _||_, and-true}
 use mathlib.Core.List.{List, [], _∷_}
 use native.Mathlib.Nat.{le-of-suc-le-suc, not-suc-le-zero}
 use native.Mathlib.Numerals.{add-one}
 use native.Mathlib.Omega.{arith}
-use borrow.Author.Tests.{leb-true, ltb-true, le-leb, lt-ltb}
-use lib.Dec.{leb, ltb}
+use borrow.Author.Tests.{leb-true, ltb-true, le-leb, lt-ltb, eqb-true, eqb-false}
+use lib.Dec.{leb, ltb, eqb}
 use lib.ListN.{length, getD, List·getD-eq-default}
+use Rattle.meaning.specs.Basics.{build}
 use Rattle.meaning.specs.Calendar.{leap, monthLength, realDate, yearDays, monthDays}
-use Rattle.almanac.specs.Days.{Real}
+use Rattle.almanac.specs.Days.{Real, everyFourth, EveryFourth}
 use Rattle.almanac.proofs.Tests.{lt-or-ge, both-true, all-four, cond-most}
+use Rattle.almanac.proofs.Build.{build-at}
 use Rattle.meaning.proofs.Either.{tested}
 
 -- MONTHS
@@ -83,10 +85,6 @@ unfolding realDate
 is-real {y} {m} {d} r = rw (le-leb 1990 y (r .from), le-leb y 2089 (r .to), lt-ltb 0 d (r .first), le-leb d (monthLength y m) (r .last))
 
 -- THE DAYS COUNTED
-pub months-zero : (y : ℕ) → 0 ≡ monthDays y 0
-unfolding monthDays
-months-zero y = refl
-
 pub months-more : (y k : ℕ) → monthDays y k + monthLength y k ≡ monthDays y (k + 1)
 unfolding monthDays
 months-more y k = rw (add-one k)
@@ -96,10 +94,6 @@ unfolding monthDays
 months-most y zero = omega arith
 months-most y (suc m) = omega (arith, months-most y m, month-most y m)
 
-pub years-zero : 0 ≡ yearDays 0
-unfolding yearDays
-years-zero = refl
-
 pub years-more : (k : ℕ) (b : Bool) → leap (1990 + k) ≡ b → yearDays k + cond b 366 365 ≡ yearDays (k + 1)
 unfolding yearDays
 years-more k b e = rw (add-one k, e)
@@ -108,3 +102,48 @@ pub years-most : (n : ℕ) → yearDays n ≤ 366 * n
 unfolding yearDays
 years-most zero = omega arith
 years-most (suc n) = omega (arith, years-most n, cond-most (leap (1990 + n)) 366 365 (omega arith))
+
+-- AND WORKED OUT AT ONCE
+-- how many days of a common year come before each month
+abbrev pub daysBefore : List ℕ
+daysBefore = 0 ∷ 0 ∷ 31 ∷ 59 ∷ 90 ∷ 120 ∷ 151 ∷ 181 ∷ 212 ∷ 243 ∷ 273 ∷ 304 ∷ 334 ∷ []
+
+-- in a leap year one more from March on
+abbrev beforeMonth : (isLeap : Bool) → (m : ℕ) → ℕ
+beforeMonth b m = getD daysBefore m 0 + cond (ltb 2 m && b) 1 0
+
+each-month : (y : ℕ) (b : Bool) → leap y ≡ b → build 13 (beforeMonth b) ≡ build 13 (monthDays y)
+unfolding build monthDays monthLength
+each-month y true e = rw e
+each-month y false e = rw e
+
+pub months-at-once : (y m : ℕ) (b : Bool) → m ≤ 12 → (ltb 2 m && leap y) ≡ b → getD daysBefore m 0 + cond b 1 0 ≡ monthDays y m
+months-at-once y m b h e =
+    let below : m < 13 = omega arith in
+    ap (λ (x : Bool). getD daysBefore m 0 + cond x 1 0) (sym e)
+    ∙ sym (build-at 13 (beforeMonth (leap y)) m 0 below)
+    ∙ ap (λ (days : List ℕ). getD days m 0) (each-month y (leap y) refl)
+    ∙ build-at 13 (monthDays y) m 0 below
+
+-- from 1990 to 2099 every fourth year is a leap year: of the hundreds there is 2000 alone
+fourth : (n : ℕ) → n < 110 → leap (1990 + n) ≡ eqb ((1990 + n) % 4) 0
+unfolding leap
+fourth n h = go (eqb ((1990 + n) % 100) 0) refl
+  where
+    go : (b : Bool) → eqb ((1990 + n) % 100) 0 ≡ b → (eqb ((1990 + n) % 4) 0 && (not b || eqb ((1990 + n) % 400) 0)) ≡ eqb ((1990 + n) % 4) 0
+    go true e = let ten : n ≡ 10 = omega (arith, eqb-true ((1990 + n) % 100) 0 e) in rw ten
+    go false e = and-true (eqb ((1990 + n) % 4) 0)
+
+-- so the days of years are known at once, up to the end of 2099
+pub years-at-once : (n : ℕ) → n ≤ 110 → everyFourth n ≡ yearDays n
+unfolding everyFourth yearDays
+years-at-once zero h = refl
+years-at-once (suc n) h =
+    rw (fourth n h, ← years-at-once n (omega arith))
+    (tested (λ days. everyFourth (suc n) ≡ everyFourth n + days) (eqb ((1990 + n) % 4) 0) 366 365
+    (λ e. omega (arith, eqb-true ((1990 + n) % 4) 0 e))
+    (λ e. omega (arith, eqb-false ((1990 + n) % 4) 0 e)))
+
+pub every-fourth : EveryFourth
+unfolding everyFourth yearDays leap
+every-fourth = record { inside = years-at-once; outside = refl }

@@ -1,12 +1,12 @@
 -- DAYS AND WEEKDAYS: what a real date is, the day after it, and what day numbers and weekdays then say of the calendar. Assumes nothing.
 -- Wrong answers ruled out: 29 February 2023 counted as a day, where 1 March has the number after 28 February's; a week that starts anew each year.
-use Prim.Native.Nat.{ℕ, _+_, _%_, _<_, _≤_}
+use Prim.Native.Nat.{ℕ, _+_, _*_, _/_, _%_, _<_, _≤_}
 use mathlib.Core.Path.{_≡_}
 use mathlib.Core.Logic.{_⊎_}
 use mathlib.Core.Bool.{true}
 use Rattle.meaning.specs.Basics.{if_then_else_, _<?_}
 use Rattle.meaning.specs.declared.Date.{Date}
-use Rattle.meaning.specs.Calendar.{monthLength, realDate, dayNumber, weekdayOf}
+use Rattle.meaning.specs.Calendar.{monthLength, realDate, yearDays, dayNumber, weekdayOf}
 
 -- what makes a date real
 pub record Real (year month day : ℕ) : Type 0 where
@@ -47,6 +47,15 @@ pub record Numbered (n : ℕ) : Type 0 where
   pub date : Date
   pub real : IsReal date
   pub number : numberOf date ≡ n
+
+-- 2100 TAKEN FOR A LEAP YEAR: days of years counted as if every fourth year were one. Up to the end of 2099 the count is right, so in a date of 1990 to 2089 nobody can tell; the year
+-- after it is wrong
+unfoldable pub everyFourth : (years : ℕ) → ℕ
+everyFourth n = 365 * n + (n + 1) / 4
+
+pub record EveryFourth : Type 0 where
+  pub inside : (n : ℕ) → n ≤ 110 → everyFourth n ≡ yearDays n
+  pub outside : everyFourth 111 ≡ yearDays 111 + 1
 
 -- ALL OF IT. 1 January 2000 was a Saturday, and every day's weekday follows the day's before it. Day numbers keep the order of dates, no two dates share one, and
 -- each of the 36,525 is a date's

@@ -11,6 +11,7 @@ use Rattle.bilashonge.specs.declared.Place.{Place}
 use Rattle.bilashonge.specs.declared.Number.{Number}
 use Rattle.bilashonge.specs.declared.Tier.{Tier}
 use Rattle.bilashonge.specs.declared.Answer.{Answer}
+use Rattle.bilashonge.specs.declared.Weekday.{Weekday}
 
 -- WHAT AN ANSWER IS IN C: what its reply tells in numbers (`Told`, crate meaning), field by field. A refusal is a struct of that crate
 abbrev pub inTotal : Told → Total
@@ -27,6 +28,9 @@ inTier t = record { refusal = t .refusal; none = t .first; tier = t .second }
 
 abbrev pub inAnswer : Told → Answer
 inAnswer t = record { refusal = t .refusal; yes = t .first }
+
+abbrev pub inWeekday : Told → Weekday
+inWeekday t = record { refusal = t .refusal; weekday = t .first }
 
 -- WHAT IS ASKED FROM C
 -- an element: its item and the subscripts lent. Four places; with more subscripts the count says so, and names no element

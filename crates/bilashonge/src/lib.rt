@@ -23,7 +23,7 @@ ghost use Rattle.meaning.specs.Questions as ask;
 ghost use Rattle.meaning.specs.Questions.{toldTo, imageAfter};
 ghost use Rattle.meaning.specs.Messages.{requestIn, requestedBy, requestTold, replyIn, heardBy, replyTold, requestOf, requestSent, requestRoom, replyOf, replySent, replyRoom, serveReply, serveImage, serveRoom};
 ghost use Rattle.replies.specs.Asked.{quantityOf};
-ghost use Rattle.bilashonge.specs.Interface.{inTotal, inPlace, inNumber, inTier, inAnswer, elementNamed, momentOf, dateOf};
+ghost use Rattle.bilashonge.specs.Interface.{inTotal, inPlace, inNumber, inTier, inAnswer, inWeekday, elementNamed, momentOf, dateOf};
 
 // The total of octets used, of the image or of the room for a message, 0 on refusal.
 #[repr(C)]
@@ -60,6 +60,13 @@ pub struct Tier {
 pub struct Answer {
     pub refusal: Refusal,
     pub yes: u64,
+}
+
+// 0 for Sunday to 6 for Saturday, 0 on refusal.
+#[repr(C)]
+pub struct Weekday {
+    pub refusal: Refusal,
+    pub weekday: u64,
 }
 
 // Subscript k of those lent, 0 past the last.
@@ -304,6 +311,24 @@ pub extern "C" fn bilashonge_seasoned(
     Answer {
         refusal,
         yes: told.first,
+    }
+}
+
+// The weekday of a date.
+#[no_mangle]
+pub extern "C" fn bilashonge_weekday_of(year: u32, month: u32, day: u32) -> Weekday
+    ensures { λ r. ⌜ r ≡ inWeekday (toldTo (ask.weekday (dateOf year month day)) [] []) ⌝ }
+{
+    let date = Date {
+        year: year,
+        month: month,
+        day: day,
+    };
+    let told = replies::told(dates::weekday_of(date));
+    let refusal = told.refusal;
+    Weekday {
+        refusal,
+        weekday: told.first,
     }
 }
 

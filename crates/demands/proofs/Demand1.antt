@@ -37,6 +37,7 @@ reply-numbered (Reply.Tier t) h = refl
 reply-numbered Reply.NoneYet h = refl
 reply-numbered Reply.Yes h = refl
 reply-numbered Reply.No h = refl
+reply-numbered (Reply.Weekday w) h = refl
 
 -- EACH QUESTION: its refusals are document 01's, and where it is refused no octet changes
 record Kept (d img : List ℕ) (q : Question) : Type 0 where
@@ -82,6 +83,7 @@ kept d img ask.matrix = record { known = after d img _ (four-known _ _ _ _ _ _ _
 kept d img (ask.seasoned t) =
     record { known = after d img _ (every-append KnownIn _ _ (four-known _ _ _ _ _ _ _ _ refl refl refl refl) (one-known _ _ refl)); unchanged = λ r e. refl }
 kept d img (ask.readRange m k o n) = record { known = after d img _ (two-known _ _ _ _ refl refl); unchanged = λ r e. refl }
+kept d img (ask.weekday t) = record { known = one-known _ _ refl; unchanged = λ r e. refl }
 
 -- THE REPLIES THAT ARE OCTETS
 part-none : (img : List ℕ) (x : Place) (r : Refusal) → x ≡ Place.Refused r → placePart img x ≡ []

@@ -17,6 +17,7 @@ use Rattle.almanac.proofs.NextDay.{days}
 use Rattle.demands.specs.Demand2.{Reads, Calendar, Demand2}
 use Rattle.demands.specs.Replies.{octetsAt, ours}
 use Rattle.demands.proofs.Calendar.{tier-says, seasoned-says, matrix-says}
+use Rattle.demands.proofs.Weekdays.{weekdays-say}
 use Rattle.demands.proofs.RangeWrites.{range-writes}
 use Rattle.demands.proofs.ElementWrites.{octets-writes, number-writes}
 
@@ -46,7 +47,16 @@ reads d img =
     }
 
 calendar : (d img : List ℕ) → Calendar ours d img
-calendar d img = record { tier = tier-says d img; matrix = matrix-says d img; seasoned = seasoned-says d img; days = days; season = season-says; special = special-says }
+calendar d img =
+    record {
+      tier = tier-says d img;
+      matrix = matrix-says d img;
+      seasoned = seasoned-says d img;
+      weekdays = weekdays-say;
+      days = days;
+      season = season-says;
+      special = special-says;
+    }
 
 pub demand-2 : (d img : List ℕ) → Demand2 ours d img
 demand-2 d img =

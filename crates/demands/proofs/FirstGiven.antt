@@ -28,7 +28,7 @@ use Rattle.meaning.specs.Refusals.{elementIn, placedPlace, elementPlaceIn, elem
 use Rattle.meaning.specs.Refusals.{writable, anyDimension, allowed, rangeOf, rangeIn, rangePlace, writeRangeReply, fitting, allowedAt, octetsPlaceIn}
 use Rattle.meaning.specs.Refusals.{writeOctetsReply, numberPlaceIn, writeNumberReply, tableAround}
 use Rattle.meaning.specs.Calendar.{Found, found, missing, realDate, realTime, controlsOf, table54Size, missingSpecial}
-use Rattle.meaning.specs.Calendar.{tierFrom, sized, seatOctets, seatsFound, calendarIn, calendar, tierOn, tierDay, tierIn, tierReply, seasonStands, seasonedIn, seasonedReply}
+use Rattle.meaning.specs.Calendar.{tierFrom, sized, seatOctets, seatsFound, calendarIn, calendar, tierOn, tierDay, tierIn, tierReply, seasonStands, seasonedIn, seasonedReply, weekdayReply}
 use Rattle.meaning.specs.Calendar.{matrixVerdictIn, matrixVerdict}
 use Rattle.meaning.specs.Calendar.{tierBySchedule, datesOf}
 use Rattle.meaning.proofs.Either.{tested}
@@ -203,6 +203,11 @@ date-first o c b t = test-first refusalIn (not (realDate (t .year) (t .month) (t
     unrefused : (x : Bool) → refusalIn (if x then Reply.Yes else Reply.No) ≡ firstOf []
     unrefused x = tested (λ r. refusalIn r ≡ firstOf []) x _ _ (λ e. none-given) (λ e. none-given)
 
+-- of a date alone
+weekday-first : (t : Date) → refusalIn (weekdayReply t) ≡ firstOf (sixteen t)
+unfolding refusalIn weekdayReply sixteen
+weekday-first t = fails-first refusalIn (realDate (t .year) (t .month) (t .day)) notADate _ _ [] refl none-given
+
 -- what is asked of a calendar that is found: the calendar's refusal where there is one, else the question's own
 module _ (img : List ℕ) (reply : Found → Reply) (absent : (r : Refusal) → refusalIn (reply (missing r)) ≡ some r) (rest : ℕ → Controls → List ℕ → List (Option Refusal))
     (own : (o : ℕ) (c : Controls) (t : List ℕ) → refusalIn (reply (found o c t)) ≡ firstOf (rest o c t)) where
@@ -281,6 +286,7 @@ module _ (d img : List ℕ) (r : Refusal) (e : openImage d img ≡ refused r) (f
   refused-first ask.matrix = rw e
   refused-first (ask.seasoned t) = rw e
   refused-first (ask.readRange m k p l) = rw e
+  refused-first (ask.weekday t) = weekday-first t
 
 -- none of them given: the question's own tests
 module _ {d img : List ℕ} {ts : List Seat} {es : List Placed} {s : Slots} {n : ℕ} (o : Opens d img ts es s n) where
@@ -382,6 +388,7 @@ module _ {d img : List ℕ} {ts : List Seat} {es : List Placed} {s : Slots} {n :
   opened-first ask.matrix = matrix-opened
   opened-first (ask.seasoned t) = seasoned-opened t
   opened-first (ask.readRange m k p l) = read-opened m k p l
+  opened-first (ask.weekday t) = weekday-first t
 
 -- each case of opening the image, with what 1 to 9 then are
 pub first-given : (d img : List ℕ) (q : Question) → FirstGiven d img q

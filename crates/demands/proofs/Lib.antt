@@ -31,6 +31,7 @@ pub mod OnlyOrder
 pub mod OnlyPlaces
 pub mod OnlyReads
 pub mod OnlyTiles
+pub mod OnlyWeekdays
 pub mod OnlyWrites
 pub mod Outcomes
 pub mod Pieces
@@ -47,7 +48,9 @@ pub mod Told
 pub mod Undoing
 pub mod Walked
 pub mod Walking
+pub mod Weekdays
 pub mod Writable
 pub mod Writes
 pub mod Wrong
 pub mod WrongMessages
+pub mod WrongWeekdays

@@ -21,6 +21,7 @@ use Rattle.demands.proofs.OnlyCalendar as kinds
 use Rattle.demands.proofs.OnlyCalendar.{TierKind, SeasonedKind, had-only, matrix-only, cells-only, tier-only, seasoned-only}
 use Rattle.demands.proofs.OnlyImages.{range-image-only, octets-image-only, number-image-only}
 use Rattle.demands.proofs.OnlyReads.{Counted, check-only, layout-only, table-only, table-part-only, read-only, read-part-only, element-only, element-part-only, number-only}
+use Rattle.demands.proofs.OnlyWeekdays.{weekday-only}
 use Rattle.demands.proofs.OnlyWrites.{range-only, octets-only, number-write-only}
 
 -- OURS
@@ -86,4 +87,5 @@ only R r o =
       seasoned = λ d img t. seasoned-only R ours r o d img (layout d img) (part d img) t (seasoned-kind d img t);
       readRange = read-only R ours r o;
       rangePart = read-part-only R ours r o;
+      weekday = weekday-only R ours r o;
     }

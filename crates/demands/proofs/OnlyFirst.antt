@@ -37,6 +37,7 @@ reply-refused (reply.Tier t) r e = clash (cc)
 reply-refused reply.NoneYet r e = clash (cc)
 reply-refused reply.Yes r e = clash (cc)
 reply-refused reply.No r e = clash (cc)
+reply-refused (reply.Weekday w) r e = clash (cc)
 
 place-refused : (x : Place) (r : Refusal) → refusalIn (placeReply x) ≡ some r → x ≡ Place.Refused r
 unfolding refusalIn placeReply

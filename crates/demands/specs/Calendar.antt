@@ -1,8 +1,8 @@
 -- THE CALENDAR over the octets of tables 51 and 54, in the words of document 01's section of that name and of document 02's E1: which record chooses what, up to the tier, whether a season
--- record stands, and the matrix cell by cell.
+-- record stands, and the matrix cell by cell. And the weekday of a date, document 02's E3, which needs no table.
 -- What a table's octets say is read by `controlsOf`, `datesOf` and `switchesOf` (crate meaning, specs/Calendar), which record is chosen is said by crate almanac. proofs/Calendar.antt proves
 -- the statements of our replies, for every description and image. Assumes nothing.
-use Prim.Native.Nat.{ℕ, _+_, _*_, _<_}
+use Prim.Native.Nat.{ℕ, _+_, _*_, _%_, _<_}
 use mathlib.Core.Path.{_≡_}
 use mathlib.Core.Bool.{true, false}
 use mathlib.Core.List.{List}
@@ -16,7 +16,7 @@ use Rattle.meaning.specs.declared.Triple.{Triple}
 use Rattle.meaning.specs.declared.Verdict.{Verdict}
 use Rattle.meaning.specs.Calendar.{realDate, realTime, dayNumber, weekdayOf, controlsOf, matrixAt, dayColumns, rowWidth, datesOf, switchesOf, dayColumn}
 use Rattle.meaning.specs.Passed.{Exactly}
-use Rattle.almanac.specs.Days.{IsReal, numberOf}
+use Rattle.almanac.specs.Days.{IsReal, numberOf, next}
 use Rattle.almanac.specs.Latest.{_among_}
 use Rattle.almanac.specs.Choices.{SeasonChosen, SeasonStands, SelectsSpecial, SpecialChosen, Switches, SwitchChosen}
 use Rattle.almanac.specs.Matrix.{Fifteen, Shown}
@@ -97,3 +97,18 @@ pub record MatrixSays (o : ℕ) (table51 table54 : List ℕ) (had : Verdict) (ma
   pub fifteen : Fifteen matrix
   pub shown : had ≡ Verdict.Passed → Shown (controlsOf o table51) table54 matrix
   pub written : had ≡ Verdict.Passed → (lent : List (List ℕ)) → lentAfter lent ≡ matrix
+
+-- THE WEEKDAY OF A DATE, 0 for Sunday to 6 for Saturday, said from each day to the next and not by a count: one day's weekday is known, and every other real date is reached from it. Which
+-- dates are real and which comes after which is said by crate almanac, that any other date gets 16 by specs/Demand1
+-- one of the seven
+pub record OneOfSeven (reply : Reply) : Type 0 where
+  pub day : ℕ
+  pub below : day < 7
+  pub is : reply ≡ Reply.Weekday day
+
+pub record WeekdaysSay (weekday : Date → Reply) : Type 0 where
+  pub each : (t : Date) → IsReal t → OneOfSeven (weekday t)
+  -- 1 January 2000 was a Saturday
+  pub saturday : weekday (record { year = 2000; month = 1; day = 1 }) ≡ Reply.Weekday 6
+  -- the day after has the weekday after, and after Saturday comes Sunday
+  pub next : (t : Date) → IsReal t → IsReal (next t) → (w : ℕ) → weekday t ≡ Reply.Weekday w → weekday (next t) ≡ Reply.Weekday ((w + 1) % 7)

@@ -159,6 +159,7 @@ refusalsOf R (ask.tier w q) d img = refusalIn (R .layout d img) ∷ ofCalendar R
 refusalsOf R ask.matrix d img = refusalIn (R .layout d img) ∷ ofCalendar R d img
 refusalsOf R (ask.seasoned t) d img = refusalIn (R .layout d img) ∷ ofCalendar R d img ++ sixteen t
 refusalsOf R (ask.readRange m k o n) d img = refusalIn (R .layout d img) ∷ ten d m k ∷ twelve (placeLength (R .tablePlace d img m k)) (o .0) n ∷ []
+refusalsOf R (ask.weekday t) d img = sixteen t
 
 -- AN ANSWER OR ONE OF THE NUMBERED REFUSALS: number, item and octet; then the answer's own values, 0 on refusal
 -- the numbers of the table; 2 to 7 report the item, 9 the item and octet, others nothing more

@@ -25,7 +25,7 @@ use Rattle.meaning.specs.Layout.{dataOrder, numberAt}
 use Rattle.meaning.specs.Refusals.{writable}
 use Rattle.almanac.specs.Choices.{SeasonSays, SpecialSays}
 use Rattle.almanac.specs.Days.{Days}
-use Rattle.demands.specs.Calendar.{TierSays, SeasonedSays, MatrixSays}
+use Rattle.demands.specs.Calendar.{TierSays, SeasonedSays, MatrixSays, WeekdaysSay}
 use Rattle.demands.specs.Demand3.{Holds, InBody}
 use Rattle.demands.specs.Replies.{Replies, octetsAt}
 
@@ -117,14 +117,15 @@ pub record Reads (R : Replies) (d img : List ℕ) : Type 0 where
       → R .readRange d img m k o n ≡ octetsAt (p + o .0) n
   pub rangePart : (m k : ℕ) (o : TableOffset) (n p l : ℕ) → R .readRange d img m k o n ≡ octetsAt p l → R .rangePart d img m k o n ≡ part img p l
 
--- THE CALENDAR: the tier, by the octets of tables 51 and 54 as the tables' parts give them, and whether a season record stands and the matrix by the same; days and weekdays, and which
--- record chooses season and special schedule, by which refusal 19 goes (crate almanac, specs/)
+-- THE CALENDAR: the tier, by the octets of tables 51 and 54 as the tables' parts give them, and whether a season record stands and the matrix by the same; the weekday of every date, whatever
+-- description and image are; days and weekdays as they are numbered, and which record chooses season and special schedule, by which refusal 19 goes (crate almanac, specs/)
 pub record Calendar (R : Replies) (d img : List ℕ) : Type 0 where
   pub tier : (w : Moment) (q : Quantity)
       → TierSays (dataOrder img) (R .tablePart d img 0 51) (R .tablePart d img 0 54) (R .matrixVerdict d img) w q (R .tier d img w q)
   pub matrix : MatrixSays (dataOrder img) (R .tablePart d img 0 51) (R .tablePart d img 0 54) (R .matrixVerdict d img) (R .matrix d img) (R .matrixCells d img)
   pub seasoned : (t : Date)
       → SeasonedSays (dataOrder img) (R .tablePart d img 0 51) (R .tablePart d img 0 54) (R .matrixVerdict d img) t (R .seasoned d img t)
+  pub weekdays : WeekdaysSay (R .weekday)
   pub days : Days
   pub season : (day : ℕ) (dates : List Triple) → SeasonSays day dates
   pub special : (day : ℕ) (dates : List Triple) → SpecialSays day dates

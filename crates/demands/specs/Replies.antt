@@ -13,7 +13,7 @@ use Rattle.meaning.specs.declared.Verdict.{Verdict}
 use Rattle.meaning.specs.Description.{checkReply}
 use Rattle.meaning.specs.Refusals.{verdictReply, placeReply, layoutReply, tablePlaceReply, elementPlaceReply, tablePartReply, elementPartReply, readRangeReply, readRangePart, elementNumberReply}
 use Rattle.meaning.specs.Refusals.{writeRangeReply, writeRangeImage, writeOctetsReply, writeOctetsImage, writeNumberReply, writeNumberImage}
-use Rattle.meaning.specs.Calendar.{tierReply, seasonedReply, matrixReply, matrixVerdict, cellsAfter}
+use Rattle.meaning.specs.Calendar.{tierReply, seasonedReply, weekdayReply, matrixReply, matrixVerdict, cellsAfter}
 use Rattle.meaning.specs.Questions as ask
 use Rattle.meaning.specs.Questions.{Question, Outcome, outcome}
 
@@ -39,6 +39,7 @@ pub record Replies : Type 0 where
   pub seasoned : (description image : List ℕ) → Date → Reply
   pub readRange : (description image : List ℕ) → (manufacturer number : ℕ) → TableOffset → (length : ℕ) → Place
   pub rangePart : (description image : List ℕ) → (manufacturer number : ℕ) → TableOffset → (length : ℕ) → List ℕ
+  pub weekday : Date → Reply
 
 abbrev pub ours : Replies
 ours =
@@ -63,6 +64,7 @@ ours =
       seasoned = seasonedReply;
       readRange = readRangeReply;
       rangePart = readRangePart;
+      weekday = weekdayReply;
     }
 
 -- WHAT A QUESTION COMES TO in a family: its reply, the octets that it tells, the image afterwards
@@ -81,6 +83,7 @@ outcomeBy R (ask.tier w q) d img = outcome (R .tier d img w q) [] img
 outcomeBy R ask.matrix d img = outcome (verdictReply (R .matrixVerdict d img)) (flatten (R .matrix d img)) img
 outcomeBy R (ask.seasoned t) d img = outcome (R .seasoned d img t) [] img
 outcomeBy R (ask.readRange m k o n) d img = outcome (placeReply (R .readRange d img m k o n)) (R .rangePart d img m k o n) img
+outcomeBy R (ask.weekday t) d img = outcome (R .weekday t) [] img
 
 -- A PLACE: n octets from octet p on
 abbrev pub octetsAt : (p n : ℕ) → Place

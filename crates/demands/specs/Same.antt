@@ -33,6 +33,7 @@ pub record Same (R S : Replies) : Type 0 where
   pub seasoned : (d img : List ℕ) (t : Date) → R .seasoned d img t ≡ S .seasoned d img t
   pub readRange : (d img : List ℕ) (m k : ℕ) (o : TableOffset) (n : ℕ) → R .readRange d img m k o n ≡ S .readRange d img m k o n
   pub rangePart : (d img : List ℕ) (m k : ℕ) (o : TableOffset) (n : ℕ) → R .rangePart d img m k o n ≡ S .rangePart d img m k o n
+  pub weekday : (t : Date) → R .weekday t ≡ S .weekday t
 
 -- messages: everything that is read, replied and left in the image; what is left in the room, where the octets that go into it are octets
 pub record SameMessages (M N : Messages) : Type 0 where

@@ -1,7 +1,8 @@
 -- WRONG PROGRAMS, each with the clause that it breaks: those that document 01 lists where it says how full a statement it expects, and some more. A wrong program is any family of
 -- replies or of messages that does what is said of it, on whatever description or image; the clause that refutes it is said of the example D and its first image, with what the
--- clause leans on. proofs/Wrong.antt proves each. Assumes nothing.
-use Prim.Native.Nat.{ℕ, _+_, _%_, _<_}
+-- clause leans on; of weekdays, which need no description and no image, it is the whole of `WeekdaysSay` and nothing besides. proofs/Wrong.antt proves 1 to 13,
+-- proofs/WrongMessages.antt 14 to 18, proofs/WrongWeekdays.antt 19 to 22. Assumes nothing.
+use Prim.Native.Nat.{ℕ, _+_, _-_, _*_, _/_, _%_, _<_}
 use mathlib.Core.Path.{_≡_}
 use mathlib.Core.List.{List, [], _∷_}
 use lib.ListN.{length, getD}
@@ -15,10 +16,11 @@ use Rattle.meaning.specs.declared.Reply.{Reply}
 use Rattle.meaning.specs.declared.Verdict.{Verdict}
 use Rattle.meaning.specs.Examples.{D, D-writable, first, at, offset, clock, clock-image, moment, date}
 use Rattle.meaning.specs.Messages.{fullWrite, sumOf}
-use Rattle.meaning.specs.Numbers.{noElement}
+use Rattle.meaning.specs.Numbers.{noElement, notADate}
 use Rattle.meaning.specs.Layout.{dataOrder}
 use Rattle.meaning.specs.Refusals.{tablePartReply}
-use Rattle.demands.specs.Calendar.{TierSays, SeasonedSays}
+use Rattle.almanac.specs.Days.{IsReal}
+use Rattle.demands.specs.Calendar.{TierSays, SeasonedSays, WeekdaysSay}
 use Rattle.demands.specs.Demand2.{Reads, RangeWrites, OctetsWrites, NumberWrites}
 use Rattle.demands.specs.Demand3.{PassedExactly, Passed, TotalExactly, ElementsStand}
 use Rattle.demands.specs.Bench.{Messages}
@@ -177,3 +179,33 @@ pub record WrongMessages (M : Messages) : Type 0 where
   pub modulo : Modulo M → OverD M read-5 ten-zeros → OverD M read-2053 ten-zeros → ⊥
   pub writesAnyway : WritesAnyway M → OverD M write-5 [] → OverD M write-5 (0 ∷ []) → ⊥
   pub thirteenFirst : ThirteenFirst M → OverD M write-0 (0 ∷ []) → ⊥
+
+-- WEEKDAYS. Worked out directly with the months counted from March, where January and February stand last in the year and the year isn't taken one earlier for them: right from March to
+-- December, Monday on 1 January 2000
+abbrev pub fromMarch : Date → ℕ
+fromMarch t =
+    (365 * t .year + t .year / 4 - t .year / 100 + t .year / 400 + (153 * ((t .month + 9) % 12) + 2) / 5 + (t .day - 1) + 3) % 7
+
+module _ (R : Replies) where
+  -- 19. MONTHS COUNTED FROM MARCH WITHOUT THE SHIFT OF THE YEAR breaks "1 January 2000 was a Saturday"
+  pub record Unshifted : Type 0 where
+    pub told : (t : Date) → IsReal t → R .weekday t ≡ Reply.Weekday (fromMarch t)
+
+  -- 20. ONE OFF AFTER FEBRUARY, where a leap year's 29 February has no day of its own, breaks "the day after has the weekday after"
+  pub record OneOff : Type 0 where
+    pub same : R .weekday (date 2024 3 1) ≡ R .weekday (date 2024 2 29)
+
+  -- 21. 2000 TAKEN FOR A COMMON YEAR breaks "one of the seven" on every real date
+  pub record CommonYear : Type 0 where
+    pub unreal : R .weekday (date 2000 2 29) ≡ Reply.Refused notADate
+
+  -- 22. A WEEK THAT STARTS WITH MONDAY AS 0, so that Sunday is 6, breaks what 19 does
+  pub record MondayFirst : Type 0 where
+    pub five : R .weekday (date 2000 1 1) ≡ Reply.Weekday 5
+
+-- ALL OF THEM
+pub record WrongWeekdays (R : Replies) : Type 0 where
+  pub unshifted : Unshifted R → WeekdaysSay (R .weekday) → ⊥
+  pub oneOff : OneOff R → WeekdaysSay (R .weekday) → ⊥
+  pub commonYear : CommonYear R → WeekdaysSay (R .weekday) → ⊥
+  pub mondayFirst : MondayFirst R → WeekdaysSay (R .weekday) → ⊥

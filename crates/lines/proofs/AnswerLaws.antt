@@ -19,7 +19,7 @@ use Rattle.words.proofs.LineLaws.{count-of, word-of}
 use Rattle.lines.specs.declared.rows.Form.{Form}
 use Rattle.lines.specs.declared.read.Part.{Part}
 use Rattle.lines.specs.declared.read.Asked.{Asked}
-use Rattle.lines.specs.Answer.{nth, Row, tableRows, messageRows, rows, noRow, rowAt, kindOf, formOf, Within, wordIf, isKind, takes}
+use Rattle.lines.specs.Answer.{nth, Row, tableRows, messageRows, dateRows, rows, noRow, rowAt, kindOf, formOf, Within, wordIf, isKind, takes}
 use Rattle.lines.specs.Answer.{noForm, rowText, replyText, answerAs, answerWords, answerText, roomFor, Replied}
 use Rattle.lines.specs.Read.{OfSeven, PartRead, AskedRead}
 use Rattle.lines.proofs.OctetLaws.{partFrom, part-read}
@@ -92,7 +92,7 @@ pub record RowFits (kind : ℕ) : Type 0 where
   pub part : kind < 14 → (kind ≡ 3 → ⊥) → (kind ≡ 5 → ⊥) → (kind ≡ 11 → ⊥) → (kind ≡ 13 → ⊥) → formOf kind .part ≡ false
 
 pub row-fits : (kind : ℕ) → kind < length rows → RowFits kind
-unfolding tableRows messageRows rows rowAt formOf knows fits allFrom
+unfolding tableRows messageRows dateRows rows rowAt formOf knows fits allFrom
 row-fits kind h =
     let f : Form = formOf kind in
     let lent = and-eq-true-iff (leb (f .lent) 2) _ .0 (rw (zero-add kind) at (all-at fits 0 rows refl kind h)) in
@@ -116,7 +116,7 @@ no-kinds [] x e = refl
 no-kinds (k ∷ ks) x e = absurd (omega arith)
 
 pub any-kind : (kind : ℕ) (numbers : List ℕ) → kind < length rows → (kind ≡ 16 → ⊥) → (kind ≡ 18 → ⊥) → true ≡ takes kind numbers
-unfolding tableRows messageRows rows rowAt noKinds allFrom takes
+unfolding tableRows messageRows dateRows rows rowAt noKinds allFrom takes
 any-kind kind numbers h a b =
     no-kinds (rowAt kind .kinds) (getD numbers 0 0) (eqb-true _ _ (rw (zero-add kind, ne-eqb kind 16 a, ne-eqb kind 18 b) at (all-at noKinds 0 rows refl kind h)))
 

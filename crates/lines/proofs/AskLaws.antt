@@ -1,6 +1,6 @@
 -- What asking leans on: the numbers of a row, what they name, and what a row's reply has. Assumes nothing.
 use mathlib.Core.Path.{_≡_, refl, sym, ap, _∙_}
-use mathlib.Core.List.{List, [], _∷_, map}
+use mathlib.Core.List.{List, [], _∷_, _++_, map}
 use mathlib.Core.Bool.{true, false, true≢false}
 use Prim.Native.Nat.{ℕ, _+_, _*_, _≤_, _<_, zero-le}
 use native.Mathlib.Omega.{arith}
@@ -8,12 +8,15 @@ use lib.ListN.{length, getD, take, length-take, length-drop}
 use Rattle.meaning.specs.Basics.{part}
 use Rattle.meaning.specs.declared.Place.{Place}
 use Rattle.meaning.specs.declared.Told.{Told}
-use Rattle.meaning.specs.Refusals.{toldNumbers, placePart}
+use Rattle.meaning.specs.Refusals.{toldBy, toldNumbers, placePart}
+use Rattle.meaning.specs.Calendar.{weekdayReply}
+use Rattle.meaning.specs.Questions.{toldTo, replyTo, outcomeOf}
 use Rattle.words.specs.Hex.{hexText}
 use Rattle.words.specs.Number.{decimalText}
 use Rattle.words.specs.Put.{IsPut}
 use Rattle.lines.specs.declared.rows.Form.{Form}
-use Rattle.lines.specs.Answer.{Said, lineOf, tableRows, messageRows, rows, formOf, limits, said, Within, behind, addWords, hexBehind, replyWords, rowText, roomFor, Replied}
+use Rattle.lines.specs.Answer.{Said, dateOf, tableRows, messageRows, dateRows, rows, rowAt, formOf, limits, said, Within}
+use Rattle.lines.specs.Answer.{lineOf, behind, addWords, hexIf, hexBehind, replyWords, rowText, roomFor, Replied}
 use Rattle.lines.specs.declared.message.Answered.{Answered}
 use Rattle.lines.specs.Ask.{Asks, Parted, MessageAsked}
 use Rattle.lines.proofs.AnswerLaws.{row-fits}
@@ -34,22 +37,23 @@ asks {kind} k e t i o =
     let n : ℕ = formOf kind .told in
     record { told = ap (take n) (rw e t); image = rw e i; octets = rw e o }
 
--- a row that none of those before is
-pub past : (k kind : ℕ) → k ≤ kind → (kind ≡ k → ⊥) → k + 1 ≤ kind
-past k kind h e = omega arith
-
-pub beyond : {A : Type 0} {kind : ℕ} → kind < length tableRows → length tableRows ≤ kind → A
-beyond l h = absurd (omega arith)
+-- the last of seven rows, where it is none of the others
+pub seventh : {kind : ℕ} → kind < 7 → (kind ≡ 0 → ⊥) → (kind ≡ 1 → ⊥) → (kind ≡ 2 → ⊥) → (kind ≡ 3 → ⊥) → (kind ≡ 4 → ⊥) → (kind ≡ 5 → ⊥) → kind ≡ 6
+seventh h a b c d e f = omega arith
 
 -- a row that tells no numbers: the parts of the image
 pub asks-none : {kind : ℕ} {d m numbers new : List ℕ} {r : Told} (k : ℕ) → kind ≡ k → formOf k .told ≡ 0 → m ≡ said k d m numbers new .image
     → said k d m numbers [] .octets ≡ said k d m numbers new .octets → Asks kind d m numbers new r m
 asks-none k e t i o = record { told = rw (e, t); image = rw e i; octets = rw e o }
 
--- a row of tables is a row
+-- a row of tables is a row, and so is one of messages
 pub in-rows : {kind : ℕ} → kind < length tableRows → kind < length rows
-unfolding tableRows messageRows rows
+unfolding tableRows messageRows dateRows rows
 in-rows h = omega arith
+
+pub message-in-rows : {kind : ℕ} → kind < length (tableRows ++ messageRows) → kind < length rows
+unfolding tableRows messageRows dateRows rows
+message-in-rows h = omega arith
 
 -- a row that tells octets, and one that doesn't
 module _ {kind : ℕ} {d m numbers out : List ℕ} {at : ℕ} where
@@ -142,3 +146,17 @@ module _ {kind : ℕ} {d m numbers new out part later : List ℕ} {f : Form} {t 
         → Replied out (rowText kind d m numbers new) last r
     unfolding rowText
     message-whole = whole (said kind d m numbers new) (t .numbers) is-form inside message-told (a .image) (omega arith) p₁ (a .octets) (λ e. omega (arith, message-short)) message-put
+
+-- of a date's weekday: numbers alone, and D, M and DATA have no part in it
+pub weekday-put : (numbers : List ℕ) {out now last : List ℕ} {at r : ℕ} {t : Told} → t ≡ toldBy (weekdayReply (dateOf numbers)) → roomFor [] ≤ length out
+    → IsPut out 0 (addWords [] (map decimalText (t .refusal .number ∷ t .first ∷ []))) now at → IsPut now at (10 ∷ []) last r
+    → Replied out (rowText 19 [] [] numbers []) last r
+unfolding tableRows messageRows dateRows rows rowAt formOf said toldTo replyTo outcomeOf rowText replyWords hexBehind
+weekday-put numbers {now = now} {at = at} {t = t} e h p q =
+    let told : List ℕ = t .refusal .number ∷ t .first ∷ [] in
+    let none : IsPut now at [] now at = put-nothing now at (omega (arith, part-room [] [] [] told 2 false false (omega arith) h (λ f. zero-le) zero-le p)) in
+    rw (← e) (reply-put [] [] [] told 2 false false (omega arith) h (λ f. zero-le) zero-le p none none q)
+
+pub weekday-text : {kind : ℕ} (d m numbers new : List ℕ) → kind ≡ 19 → rowText 19 [] [] numbers [] ≡ rowText kind d m numbers new
+unfolding tableRows messageRows dateRows rows rowAt formOf said toldTo replyTo outcomeOf rowText replyWords hexIf
+weekday-text d m numbers new e = rw e

@@ -1,13 +1,12 @@
 -- What holding a line's octets leans on. Assumes nothing.
 use mathlib.Core.Path.{_≡_, sym, ap, _∙_}
 use mathlib.Core.List.{List, _++_}
-use Prim.Native.Nat.{ℕ, _+_, _-_, _*_, _≤_, min}
+use Prim.Native.Nat.{ℕ, _+_, _-_, _≤_, min}
 use native.Mathlib.Omega.{arith}
-use lib.ListN.{length, take, replicate, length-append, length-replicate}
+use lib.ListN.{length, take, length-append}
 use lib.Seq.{take-at, take-take, take-append-add, length-take-le}
 use Rattle.words.specs.Put.{IsPut, laid}
 use Rattle.words.proofs.PutLaws.{put-next, put-memory}
-use Rattle.lines.specs.Answer.{Memory}
 use Rattle.lines.specs.Input.{Held}
 
 -- of m octets xs the first n are put, all of them or as many as there is room for
@@ -29,10 +28,3 @@ held-is line later xs m n held r hm hl e p =
           ∙ take-at (take held line ++ take n xs) _ r d
           ∙ sym (rw (q, f, take-append-add (take held line) (take m xs) n, take-take n m xs (omega arith)));
     }
-
--- memory of these lengths is enough, by their numbers: no list of so many octets is computed
-pub memory-of : (o d i g : ℕ) → 4 * i + 300110 ≤ o → d ≡ 150000 → 150000 ≤ i → 150000 ≤ g
-    → Memory (replicate o 0) (replicate d 0) (replicate i 0) (replicate g 0)
-memory-of o d i g h₀ h₁ h₂ h₃ =
-    let long : (n : ℕ) → length (replicate {A = ℕ} n 0) ≡ n = λ n. length-replicate {A = ℕ} n 0 in
-    record { reply = omega (arith, long o, long i); items = omega (arith, long d); tables = omega (arith, long i); new = omega (arith, long g) }

@@ -14,7 +14,7 @@ use Rattle.meaning.specs.Numbers.{noRoom}
 use Rattle.meaning.specs.Refusals.{toldBy, toldNumbers}
 use Rattle.meaning.specs.Messages.{Request, MeterReply, requestIn, requestFits, requestOctets, replyFits, replyOctets, sent, sentReply, sentRoom, requestSent, requestRoom, replySent, replyRoom, answerTo, serveReply, serveRoom, serveImage}
 use Rattle.lines.specs.declared.message.Answered.{Answered}
-use Rattle.lines.specs.Answer.{Said, tableRows, messageRows, rows, said, inRoom, roomOf, among}
+use Rattle.lines.specs.Answer.{Said, tableRows, messageRows, said, inRoom, roomOf, among}
 use Rattle.lines.specs.Ask.{ReadAs, MessageAsked}
 
 -- DATA COPIED
@@ -81,9 +81,9 @@ module _ (d m xs : List ℕ) where
 pub room-long : (n : ℕ) (part : List ℕ) → n ≤ length part → length (take n part) ≡ length (roomOf n)
 room-long n part h = length-take-le n part h ∙ sym (length-replicate {A = ℕ} n 0)
 
--- the last row
-pub last-row : {kind : ℕ} → (length tableRows ≤ kind) × (kind < length rows) → (kind ≡ 14 → ⊥) → (kind ≡ 15 → ⊥) → (kind ≡ 16 → ⊥) → (kind ≡ 17 → ⊥) → kind ≡ 18
-unfolding tableRows messageRows rows
+-- the last row of messages
+pub last-row : {kind : ℕ} → (length tableRows ≤ kind) × (kind < length (tableRows ++ messageRows)) → (kind ≡ 14 → ⊥) → (kind ≡ 15 → ⊥) → (kind ≡ 16 → ⊥) → (kind ≡ 17 → ⊥) → kind ≡ 18
+unfolding tableRows messageRows
 last-row h a b c d = omega (arith, h .0, h .1)
 
 -- a message that was put there

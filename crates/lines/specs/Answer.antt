@@ -14,6 +14,7 @@ use Rattle.meaning.specs.declared.Moment.{Moment}
 use Rattle.meaning.specs.declared.Reply.{Reply}
 use Rattle.meaning.specs.declared.ReplyTold.{ReplyTold}
 use Rattle.meaning.specs.declared.RequestTold.{RequestTold}
+use Rattle.meaning.specs.declared.Told.{Told}
 use Rattle.meaning.specs.Refusals.{toldNumbers, toldBy}
 use Rattle.meaning.specs.Messages.{requestIn, requestedBy, requestData, requestTold, replyIn, heardBy, replyData, replyTold, requestOf, requestSent, requestRoom, replyOf, replySent, replyRoom, serveReply, serveImage, serveRoom}
 use Rattle.meaning.specs.Questions as ask
@@ -165,6 +166,13 @@ abbrev pub ofWrittenReply : (d m numbers new : List ℕ) → Said
 ofWrittenReply d m n new =
     inRoom (replySent (replyOf (getD n 0 0) (getD n 1 0) new) (roomOf (getD n 2 0))) (replyRoom (replyOf (getD n 0 0) (getD n 1 0) new) (roomOf (getD n 2 0))) m
 
+-- a date's weekday: the refusal's number, and the answer's own
+abbrev pub ofWeekday : (d m numbers new : List ℕ) → Said
+ofWeekday d m n new = record { numbers = weekdayNumbers (toldTo (ask.weekday (dateOf n)) d m); octets = []; image = m }
+  where
+    weekdayNumbers : Told → List ℕ
+    weekdayNumbers t = t .refusal .number ∷ t .first ∷ 0 ∷ 0 ∷ 0 ∷ []
+
 -- THE TABLE. A row: the question's name; the form of its lines and of its reply; what it comes to, by the octets of D and M, its numbers and the octets of DATA
 pub record Row : Type 0 where
   pub name : List ℕ
@@ -231,8 +239,12 @@ messageRows =
     ∷ kindRow "writereply" (1 ∷ 2 ∷ 3 ∷ []) (form 0 replyLimits true 1 true false) ofWrittenReply
     ∷ []
 
+-- a date alone. Its refusal, too, has a number alone
+unfoldable pub dateRows : List Row
+dateRows = row "weekday" (form 0 dateLimits false 2 false false) ofWeekday ∷ []
+
 unfoldable pub rows : List Row
-rows = tableRows ++ messageRows
+rows = tableRows ++ (messageRows ++ dateRows)
 
 -- the row of a name, by its place in the table; how many rows there are where it is none of them
 unfoldable pub kindOf : (name : List ℕ) → ℕ

@@ -8,7 +8,7 @@ use offsets::TableOffset;
 ghost use Prim.Native.Nat.{_+_, _*_, _≤_, _<_};
 ghost use lib.ListN.{length};
 ghost use Rattle.lines.specs.Answer.{tableRows, Within};
-ghost use Rattle.lines.specs.Ask.{Asks, Parted};
+ghost use Rattle.lines.specs.Ask.{Asks, Tells, Parted};
 
 // A part of the image tells no numbers.
 fn nothing_told() -> Told {
@@ -19,11 +19,11 @@ fn nothing_told() -> Told {
     }
 }
 
-// What a question tells, and a write done in m.
-pub fn ask(kind: usize, d: &[u8], m: &mut [u8], numbers: [u64; 7], given: &[u8]) -> Told
-    requires { ⌜ kind < length tableRows ⌝ }
+// What the rows before those that write tell, of the description and of places in the image.
+fn ask_places(kind: usize, d: &[u8], m: &[u8], numbers: [u64; 7]) -> Told
+    requires { ⌜ kind < 7 ⌝ }
     requires { ⌜ Within kind numbers ⌝ }
-    ensures { λ r. ⌜ Asks kind (now (d .entry)) (now (m .entry)) numbers (now (given .entry)) r (now (m .exit)) ⌝ }
+    ensures { λ r. ⌜ Tells kind (now (d .entry)) (now (m .entry)) numbers r ⌝ }
 {
     if kind == rows::CHECK {
         return replies::verdict_told(sound::check(d));
@@ -44,9 +44,15 @@ pub fn ask(kind: usize, d: &[u8], m: &mut [u8], numbers: [u64; 7], given: &[u8])
     if kind == rows::OCTETS {
         return nothing_told();
     }
-    if kind == rows::NUMBER {
-        return replies::told(access::element_number(d, m, read::element(numbers)));
-    }
+    replies::told(access::element_number(d, m, read::element(numbers)))
+}
+
+// What the rows that write tell, and the write done in m.
+fn ask_write(kind: usize, d: &[u8], m: &mut [u8], numbers: [u64; 7], given: &[u8]) -> Told
+    requires { ⌜ (7 ≤ kind) × (kind < 10) ⌝ }
+    requires { ⌜ Within kind numbers ⌝ }
+    ensures { λ r. ⌜ Asks kind (now (d .entry)) (now (m .entry)) numbers (now (given .entry)) r (now (m .exit)) ⌝ }
+{
     if kind == rows::WRITERANGE {
         let t = read::table(numbers);
         let offset = TableOffset::new(numbers[2] as usize);
@@ -62,10 +68,16 @@ pub fn ask(kind: usize, d: &[u8], m: &mut [u8], numbers: [u64; 7], given: &[u8])
     if kind == rows::WRITEOCTETS {
         return replies::verdict_told(access::write_octets(d, m, read::element(numbers), given));
     }
-    if kind == rows::WRITENUMBER {
-        let value = numbers[6];
-        return replies::verdict_told(access::write_number(d, m, read::element(numbers), value));
-    }
+    let value = numbers[6];
+    replies::verdict_told(access::write_number(d, m, read::element(numbers), value))
+}
+
+// What the rows of the calendar tell.
+fn ask_calendar(kind: usize, d: &[u8], m: &[u8], numbers: [u64; 7]) -> Told
+    requires { ⌜ (10 ≤ kind) × (kind < 13) ⌝ }
+    requires { ⌜ Within kind numbers ⌝ }
+    ensures { λ r. ⌜ Tells kind (now (d .entry)) (now (m .entry)) numbers r ⌝ }
+{
     if kind == rows::TIER {
         let quantity = replies::quantity(numbers[5]);
         return replies::told(calendar::tier(d, m, read::moment(numbers), quantity));
@@ -73,23 +85,36 @@ pub fn ask(kind: usize, d: &[u8], m: &mut [u8], numbers: [u64; 7], given: &[u8])
     if kind == rows::MATRIX {
         return replies::verdict_told(calendar::matrix_verdict(d, m));
     }
-    if kind == rows::SEASONED {
-        return replies::told(calendar::seasoned(d, m, read::date(numbers)));
+    replies::told(calendar::seasoned(d, m, read::date(numbers)))
+}
+
+// Where a range of a table is.
+fn ask_range(d: &[u8], m: &[u8], numbers: [u64; 7]) -> Told
+    requires { ⌜ Within 13 numbers ⌝ }
+    ensures { λ r. ⌜ Tells 13 (now (d .entry)) (now (m .entry)) numbers r ⌝ }
+{
+    let t = read::table(numbers);
+    let offset = TableOffset::new(numbers[2] as usize);
+    let length = numbers[3] as usize;
+    replies::place_told(access::range_place(d, m, t.manufacturer, t.number, offset, length))
+}
+
+// What a question tells, and a write done in m.
+pub fn ask(kind: usize, d: &[u8], m: &mut [u8], numbers: [u64; 7], given: &[u8]) -> Told
+    requires { ⌜ kind < length tableRows ⌝ }
+    requires { ⌜ Within kind numbers ⌝ }
+    ensures { λ r. ⌜ Asks kind (now (d .entry)) (now (m .entry)) numbers (now (given .entry)) r (now (m .exit)) ⌝ }
+{
+    if kind < rows::WRITERANGE {
+        return ask_places(kind, d, m, numbers);
     }
-    if kind == rows::READRANGE {
-        let t = read::table(numbers);
-        let offset = TableOffset::new(numbers[2] as usize);
-        let length = numbers[3] as usize;
-        return replies::place_told(access::range_place(
-            d,
-            m,
-            t.manufacturer,
-            t.number,
-            offset,
-            length,
-        ));
+    if kind < rows::TIER {
+        return ask_write(kind, d, m, numbers, given);
     }
-    nothing_told()
+    if kind < rows::READRANGE {
+        return ask_calendar(kind, d, m, numbers);
+    }
+    ask_range(d, m, numbers)
 }
 
 // The octets that a question tells, as a word of the reply: a part of the image, or the matrix's

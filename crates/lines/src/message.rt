@@ -3,11 +3,11 @@
 use crate::rows;
 use meaning::Reply;
 ghost use mathlib.Core.Path.{_≡_};
-ghost use mathlib.Core.List.{[]};
+ghost use mathlib.Core.List.{[], _++_};
 ghost use Prim.Native.Nat.{_≤_, _<_};
 ghost use lib.ListN.{length};
 ghost use Rattle.meaning.specs.Refusals.{toldBy, toldNumbers};
-ghost use Rattle.lines.specs.Answer.{tableRows, rows, Within, ofRequest, ofReply};
+ghost use Rattle.lines.specs.Answer.{tableRows, messageRows, Within, ofRequest, ofReply};
 ghost use Rattle.lines.specs.Ask.{ReadAs, MessageAsked};
 
 // What a row told: its numbers, and how many octets.
@@ -60,7 +60,7 @@ pub fn ask(
     given: &[u8],
     part: &mut [u8],
 ) -> Answered
-    requires { ⌜ (length tableRows ≤ kind) × (kind < length rows) ⌝ }
+    requires { ⌜ (length tableRows ≤ kind) × (kind < length (tableRows ++ messageRows)) ⌝ }
     requires { ⌜ Within kind numbers ⌝ }
     requires { ⌜ (length (now d) ≤ 150000) × (length (now part) ≡ 150000) ⌝ }
     ensures { λ r. ⌜ MessageAsked kind (now (d .entry)) (now (m .entry)) numbers (now (given .entry)) r (now (part .exit)) (now (m .exit)) ⌝ }

@@ -1,13 +1,15 @@
 // What a line is answered: its first word tells the row of the table, the row the form that the line
 // must have, and both the reply.
 use crate::ask;
+use crate::memory;
 use crate::message;
 use crate::put;
 use crate::read;
 use crate::rows;
 ghost use Prim.Native.Nat.{_≤_, _<_};
+ghost use mathlib.Core.List.{[], _++_};
 ghost use lib.ListN.{length};
-ghost use Rattle.lines.specs.Answer.{tableRows, rows, answerText, replyText, rowText, Within, roomFor, Memory, Replied};
+ghost use Rattle.lines.specs.Answer.{tableRows, messageRows, rows, answerText, replyText, rowText, Within, roomFor, Memory, Replied};
 
 // The longest line that is taken.
 const LONGEST: usize = 300000;
@@ -35,9 +37,6 @@ fn reply_tables(
     words::put_octet(out, last, b'\n')
 }
 
-// The octets that a message may have.
-const MESSAGE: usize = 150000;
-
 // The reply to a row of messages, likewise.
 fn reply_message(
     kind: usize,
@@ -47,20 +46,32 @@ fn reply_message(
     given: &[u8],
     out: &mut [u8],
 ) -> usize
-    requires { ⌜ (length tableRows ≤ kind) × (kind < length rows) ⌝ }
+    requires { ⌜ (length tableRows ≤ kind) × (kind < length (tableRows ++ messageRows)) ⌝ }
     requires { ⌜ roomFor (now m) ≤ length (now out) ⌝ }
     requires { ⌜ Within kind numbers ⌝ }
     requires { ⌜ length (now d) ≤ 150000 ⌝ }
     ensures { λ r. ⌜ Replied (now (out .entry)) (rowText kind (now (d .entry)) (now (m .entry)) numbers (now (given .entry))) (now (out .exit)) r ⌝ }
 {
     let form = rows::form_of(kind);
-    let mut part = [0u8; MESSAGE];
+    let mut part = memory::octets();
     let answered = message::ask(kind, d, m, numbers, given, &mut part);
     let told = answered.numbers;
     let count = answered.count;
     let first = put::put_numbers(out, told, form.told);
     let second = put::put_octets_if(out, first, form.part, &part[..count]);
     let last = put::put_octets_if(out, second, form.after, m);
+    words::put_octet(out, last, b'\n')
+}
+
+// The reply to a date's weekday: the refusal's number, and the answer's own.
+fn reply_weekday(numbers: [u64; 7], out: &mut [u8]) -> usize
+    requires { ⌜ Within 19 numbers ⌝ }
+    requires { ⌜ roomFor [] ≤ length (now out) ⌝ }
+    ensures { λ r. ⌜ Replied (now (out .entry)) (rowText 19 [] [] numbers []) (now (out .exit)) r ⌝ }
+{
+    let told = replies::told(dates::weekday_of(read::date(numbers)));
+    let refusal = told.refusal;
+    let last = put::put_numbers(out, [refusal.number, told.first, 0, 0, 0], 2);
     words::put_octet(out, last, b'\n')
 }
 
@@ -85,7 +96,10 @@ fn reply(
     if kind < rows::MESSAGES {
         return reply_tables(kind, d, m, numbers, given, out);
     }
-    reply_message(kind, d, m, numbers, given, out)
+    if kind < rows::WEEKDAY {
+        return reply_message(kind, d, m, numbers, given, out);
+    }
+    reply_weekday(numbers, out)
 }
 
 // Puts the reply to a line, and the line feed that ends it, at the start of out, and answers how

@@ -47,7 +47,10 @@ pub const READREPLY: usize = 17;
 
 pub const WRITEREPLY: usize = 18;
 
-pub const ROWS: usize = 19;
+// The row of a date alone stands last.
+pub const WEEKDAY: usize = 19;
+
+pub const ROWS: usize = 20;
 
 // The form of a line: how many words it has; how many of octets stand behind the name, none, D, or D
 // and M; how many numbers stand behind those, and the most that each may come to; whether DATA stands
@@ -112,12 +115,12 @@ pub fn kind_of(name: &[u8]) -> usize
 {
     words::index_of(
         name,
-        b"check layout table tablepart where octets number writerange writeoctets writenumber tier matrix seasoned readrange serve readrequest writerequest readreply writereply",
+        b"check layout table tablepart where octets number writerange writeoctets writenumber tier matrix seasoned readrange serve readrequest writerequest readreply writereply weekday",
     )
 }
 
 // How many numbers a reply tells: none, a refusal's, or one or two of the answer's own behind those;
-// of a message that was written the refusal's number, of one that was read three or five.
+// of a message that was written the refusal's number, of one that was read three or five, of a weekday two.
 const NOTHING: usize = 0;
 
 const REFUSAL: usize = 3;
@@ -149,6 +152,7 @@ const TABLE_ROWS: [Row; ROWS] = [
     Row(7, 0, 5, REQUEST_MOST, true, 1, true, false),
     Row(2, 1, 0, NONE, false, 3, true, false),
     Row(5, 0, 3, REPLY_MOST, true, 1, true, false),
+    Row(4, 0, 3, DATE_MOST, false, 2, false, false),
 ];
 
 // The form of the lines that ask the question of a row, and its reply.

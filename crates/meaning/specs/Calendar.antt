@@ -275,6 +275,11 @@ seasonedIn t (found o c b) =
 unfoldable pub seasonedReply : (description image : List ℕ) → Date → Reply
 seasonedReply d img t = seasonedIn t (calendar d img)
 
+-- THE WEEKDAY OF A DATE (document 02, E3), 0 for Sunday to 6 for Saturday; or 16 alone. It needs no table
+unfoldable pub weekdayReply : Date → Reply
+weekdayReply t =
+    if realDate (t .year) (t .month) (t .day) then Reply.Weekday (weekdayOf (dayNumber (t .year) (t .month) (t .day))) else Reply.Refused notADate
+
 -- THE MATRIX: fifteen rows of twenty-two; cells stand as in Table 54's rows, unused ones are 0
 unfoldable pub matrixCell : Controls → (table54 : List ℕ) → (row column : ℕ) → ℕ
 matrixCell c t row column = if row <? c .seasons && column <? rowWidth c then cellAt c t row column else 0

@@ -10,7 +10,7 @@ use Rattle.meaning.specs.declared.ElementName.{ElementName}
 use Rattle.meaning.specs.declared.Quantity.{Quantity}
 use Rattle.meaning.specs.Description.{checkReply}
 use Rattle.meaning.specs.Refusals.{numbersOf, verdictReply, placeReply, layoutReply, tablePlaceReply, elementPlaceReply, elementNumberReply, tablePartReply, elementPartReply, readRangeReply, readRangePart, writeRangeReply, writeRangeImage, writeOctetsReply, writeOctetsImage, writeNumberReply, writeNumberImage}
-use Rattle.meaning.specs.Calendar.{tierReply, seasonedReply, matrixReply, matrixVerdict, weekdayOf, dayNumber}
+use Rattle.meaning.specs.Calendar.{leap, tierReply, seasonedReply, weekdayReply, matrixReply, matrixVerdict, weekdayOf, dayNumber}
 use Rattle.meaning.specs.Messages.{Request, fullRead, offsetRead, fullWrite, offsetWrite, isRequest, notRequest, MeterReply, holds, done, refuses}
 use Rattle.meaning.specs.Messages.{checkOctet, requestOctets, requestFits, requestIn, requestedBy, requestTold, replyOctets, replyFits, replyIn, heardBy, replyTold}
 use Rattle.meaning.specs.Messages.{writeRequestReply, writeRequestRoom, writeReplyReply, writeReplyRoom, requestOf, requestSent, replyOf, replySent, serveReply, serveRoom, serveImage}
@@ -250,6 +250,13 @@ by-second action =
 abbrev pub short-51 : List ℕ
 short-51 = items (0x10000001 ∷ 0x20100000 ∷ 0x10330001 ∷ 0x30080000 ∷ 0x10360001 ∷ 0x300C0000 ∷ [])
 
+-- the weekday of a date; no such date
+abbrev pub weekday : (year month day : ℕ) → List ℕ
+weekday y m d = numbersOf 4 (weekdayReply (date y m d))
+
+abbrev pub no-date : List ℕ
+no-date = refusal 16 0 0 (0 ∷ [])
+
 pub record CalendarCareful : Type 0 where
   -- 1 January 2000 was a Saturday
   pub saturday : weekdayOf (dayNumber 2000 1 1) ≡ 6
@@ -316,6 +323,22 @@ pub record CalendarCareful : Type 0 where
   pub new-meter : numbersOf 5 (tierReply (clock 9) (new-image 1 (0x01 ∷ 0x01 ∷ 0x01 ∷ [])) (moment 1990 1 1 7 30) Quantity.Summations) ≡ tier 2
   pub no-seasons : numbersOf 5 (tierReply (clock 6) (new-image 0 []) (moment 2024 3 5 7 30) Quantity.Summations) ≡ no-tier 19
   pub new-stands : numbersOf 4 (seasonedReply (clock 9) (new-image 1 (0x01 ∷ 0x01 ∷ 0x01 ∷ [])) (date 2089 12 31)) ≡ no
+  -- document 02, E3: the weekday of the first day; round the end of February, in leap years and in others; no real dates
+  pub first-monday : weekday 1990 1 1 ≡ gives (1 ∷ [])
+  pub tuesday-2000 : weekday 2000 2 29 ≡ gives (2 ∷ [])
+  pub march-2000 : weekday 2000 3 1 ≡ gives (3 ∷ [])
+  pub february-2023 : weekday 2023 2 28 ≡ gives (2 ∷ [])
+  pub march-2023 : weekday 2023 3 1 ≡ gives (3 ∷ [])
+  pub thursday-2024 : weekday 2024 2 29 ≡ gives (4 ∷ [])
+  pub friday-2024 : weekday 2024 3 1 ≡ gives (5 ∷ [])
+  pub sunday-2023 : weekday 2023 12 31 ≡ gives (0 ∷ [])
+  pub leap-day-2023 : weekday 2023 2 29 ≡ no-date
+  pub weekday-1989 : weekday 1989 12 31 ≡ no-date
+  pub weekday-2090 : weekday 2090 1 1 ≡ no-date
+  pub month-0 : weekday 2024 0 1 ≡ no-date
+  -- 2000 is a leap year; 2100, of which no reply tells, isn't
+  pub leap-2000 : leap 2000 ≡ true
+  pub leap-2100 : leap 2100 ≡ false
   -- special schedules 0 and 11 without a column; 31 is no special schedule
   pub special-0 : by-second 19 ≡ no-tier 19
   pub special-11 : by-second 30 ≡ no-tier 19

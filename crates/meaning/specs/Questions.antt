@@ -15,7 +15,7 @@ use Rattle.meaning.specs.declared.Told.{Told}
 use Rattle.meaning.specs.Description.{checkReply}
 use Rattle.meaning.specs.Refusals.{toldBy, verdictReply, placeReply, layoutReply, tablePlaceReply, elementPlaceReply, tablePartReply, elementPartReply, readRangeReply, readRangePart, elementNumberReply}
 use Rattle.meaning.specs.Refusals.{writeRangeReply, writeRangeImage, writeOctetsReply, writeOctetsImage, writeNumberReply, writeNumberImage}
-use Rattle.meaning.specs.Calendar.{tierReply, seasonedReply, matrixReply, matrixVerdict}
+use Rattle.meaning.specs.Calendar.{tierReply, seasonedReply, weekdayReply, matrixReply, matrixVerdict}
 
 pub data Question : Type 0 where
   -- is this description sound
@@ -40,6 +40,8 @@ pub data Question : Type 0 where
   seasoned : Date → Question
   -- document 02, E2: a range of a table, and where it is
   readRange : (manufacturer number : ℕ) → TableOffset → (length : ℕ) → Question
+  -- document 02, E3: the weekday of a date, whatever description and image are
+  weekday : Date → Question
 
 -- WHAT A QUESTION COMES TO: the reply; the octets that it tells, row by row where they are cells, none where it tells none; the image afterwards
 pub record Outcome : Type 0 where
@@ -66,6 +68,7 @@ outcomeOf (tier w q) d img = outcome (tierReply d img w q) [] img
 outcomeOf matrix d img = outcome (verdictReply (matrixVerdict d img)) (flatten (matrixReply d img)) img
 outcomeOf (seasoned t) d img = outcome (seasonedReply d img t) [] img
 outcomeOf (readRange m k o n) d img = outcome (placeReply (readRangeReply d img m k o n)) (readRangePart d img m k o n) img
+outcomeOf (weekday t) d img = outcome (weekdayReply t) [] img
 
 unfoldable pub replyTo : Question → (description image : List ℕ) → Reply
 replyTo q d img = outcomeOf q d img .reply
@@ -90,6 +93,7 @@ refusalIn (Reply.Tier t) = none
 refusalIn Reply.NoneYet = none
 refusalIn Reply.Yes = none
 refusalIn Reply.No = none
+refusalIn (Reply.Weekday w) = none
 
 unfoldable pub refusalTo : Question → (description image : List ℕ) → Option Refusal
 refusalTo q d img = refusalIn (replyTo q d img)

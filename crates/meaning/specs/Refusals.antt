@@ -39,6 +39,8 @@ toldBy Reply.NoneYet = answered 1 0
 -- 1 for yes, 0 for no
 toldBy Reply.Yes = answered 1 0
 toldBy Reply.No = answered 0 0
+-- the weekday, 0 for Sunday
+toldBy (Reply.Weekday w) = answered w 0
 
 -- one after another: a refusal's, then the answer's own
 abbrev pub refusalNumbers : Refusal → List ℕ

@@ -224,6 +224,8 @@ pub enum Reply {
     // A question of yes or no.
     Yes,
     No,
+    // A date's, 0 for Sunday to 6 for Saturday.
+    Weekday(u32),
 }
 
 // A reply in numbers, for callers that know no enum: the refusal, and two numbers of the answer's own, 0 where it has fewer or is refused.

@@ -86,6 +86,7 @@ pub fn told(reply: Reply) -> Told
         Reply::NoneYet => answered(1, 0),
         Reply::Yes => answered(1, 0),
         Reply::No => answered(0, 0),
+        Reply::Weekday(w) => answered(w as u64, 0),
     }
 }
 

@@ -46,6 +46,7 @@ use Rattle.access.proofs.write_octets as access-write-octets
 use Rattle.access.proofs.write_number as access-write-number
 use Rattle.dates.proofs.day_of as dates-day-of
 use Rattle.dates.proofs.weekday as dates-weekday
+use Rattle.dates.proofs.weekday_of as dates-weekday-of
 use Rattle.dates.proofs.is_time as dates-is-time
 use Rattle.records.proofs.latest as records-latest
 use Rattle.calendar.proofs.tier as calendar-tier
@@ -88,6 +89,7 @@ use Rattle.bilashonge.proofs.bilashonge_write_octets as bilashonge-write-octets
 use Rattle.bilashonge.proofs.bilashonge_write_number as bilashonge-write-number
 use Rattle.bilashonge.proofs.bilashonge_tier_at as bilashonge-tier-at
 use Rattle.bilashonge.proofs.bilashonge_seasoned as bilashonge-seasoned
+use Rattle.bilashonge.proofs.bilashonge_weekday_of as bilashonge-weekday-of
 use Rattle.bilashonge.proofs.bilashonge_matrix as bilashonge-matrix
 use Rattle.bilashonge.proofs.bilashonge_serve as bilashonge-serve
 use Rattle.bilashonge.proofs.bilashonge_read_request as bilashonge-read-request
@@ -229,6 +231,9 @@ one-dates-day-of κs a x y later other p q = (p ∙ sym q, refl)
 pub one-dates-weekday : OneReply _ dates-weekday.Kinds.ps dates-weekday.Kinds.r dates-weekday.Reads.Learnt
 one-dates-weekday κs a x y later other p q = (p ∙ sym q, refl)
 
+pub one-dates-weekday-of : OneReply _ dates-weekday-of.Kinds.ps dates-weekday-of.Kinds.r dates-weekday-of.Reads.Learnt
+one-dates-weekday-of κs a x y later other p q = (p ∙ sym q, refl)
+
 pub one-dates-is-time : OneReply _ dates-is-time.Kinds.ps dates-is-time.Kinds.r dates-is-time.Reads.Learnt
 one-dates-is-time κs a x y later other p q = (p ∙ sym q, refl)
 
@@ -360,6 +365,9 @@ one-bilashonge-tier-at κs a x y later other p q = (p ∙ sym q, refl)
 
 pub one-bilashonge-seasoned : OneReply _ bilashonge-seasoned.Kinds.ps bilashonge-seasoned.Kinds.r bilashonge-seasoned.Reads.Learnt
 one-bilashonge-seasoned κs a x y later other p q = (p ∙ sym q, refl)
+
+pub one-bilashonge-weekday-of : OneReply _ bilashonge-weekday-of.Kinds.ps bilashonge-weekday-of.Kinds.r bilashonge-weekday-of.Reads.Learnt
+one-bilashonge-weekday-of κs a x y later other p q = (p ∙ sym q, refl)
 
 pub one-bilashonge-matrix : OneReply _ bilashonge-matrix.Kinds.ps bilashonge-matrix.Kinds.r bilashonge-matrix.Reads.Learnt
 one-bilashonge-matrix κs a x y later other p q = (p .0 ∙ sym (q .0), λ i. (tt, (tt, ((p .1 ∙ sym (q .1)) i, tt))))

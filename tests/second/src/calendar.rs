@@ -420,6 +420,13 @@ pub fn seasoned(d: &[u8], image: &[u8], day: Date) -> Result<bool, Refusal> {
         .any(|record| season_of(record.action).is_some() && record.date <= day))
 }
 
+/// The question of document 02, E3: the weekday of a date. It takes neither
+/// description nor image, so 16 is its only refusal.
+pub fn weekday_of(day: Date) -> Result<u32, Refusal> {
+    need_real(day)?;
+    Ok(weekday(day))
+}
+
 /// "fifteen rows of twenty-two"
 pub type Matrix = [[u8; 22]; 15];
 

@@ -97,6 +97,12 @@ impl<'a> Words<'a> {
         Some(number(self.word()?, u64::from(u32::MAX))? as u32)
     }
 
+    /// `year month day`
+    fn date(&mut self) -> Option<Date> {
+        let (year, month, day) = (self.short()?, self.short()?, self.short()?);
+        Some(Date { year, month, day })
+    }
+
     /// "`mfr` and `what` to 1"
     fn bit(&mut self) -> Option<bool> {
         Some(number(self.word()?, 1)? == 1)
@@ -263,11 +269,10 @@ fn answer_request(line: &[u8]) -> Option<String> {
         }
         b"tier" => {
             let (d, m) = (words.octets()?, words.octets()?);
-            let (year, month, day) = (words.short()?, words.short()?, words.short()?);
+            let date = words.date()?;
             let (hour, minute) = (words.short()?, words.short()?);
             let what = if words.bit()? { What::Demands } else { What::Summations };
             words.end()?;
-            let date = Date { year, month, day };
             let found = calendar::tier(&d, &m, date, hour, minute, what);
             reply(
                 found.map(|tier| match tier {
@@ -280,10 +285,20 @@ fn answer_request(line: &[u8]) -> Option<String> {
         // Document 02, E1.
         b"seasoned" => {
             let (d, m) = (words.octets()?, words.octets()?);
-            let (year, month, day) = (words.short()?, words.short()?, words.short()?);
+            let date = words.date()?;
             words.end()?;
-            let found = calendar::seasoned(&d, &m, Date { year, month, day });
+            let found = calendar::seasoned(&d, &m, date);
             reply(found.map(|yes| String::from(if yes { "1" } else { "0" })), "0")
+        }
+        // Document 02, E3.
+        b"weekday" => {
+            let date = words.date()?;
+            words.end()?;
+            // This line tells no item and no octet.
+            match calendar::weekday_of(date) {
+                Ok(weekday) => format!("0 {}", weekday),
+                Err(refusal) => format!("{} 0", refusal.no),
+            }
         }
         b"matrix" => {
             let (d, m) = (words.octets()?, words.octets()?);

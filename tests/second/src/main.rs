@@ -1,5 +1,5 @@
 //! The second program: the questions about meter tables, asked in lines of
-//! text and answered from documents 01 and 02 (its requests E1 and E2) alone.
+//! text and answered from documents 01 and 02 (its requests E1 to E3) alone.
 //! See the README beside this directory.
 
 mod access;

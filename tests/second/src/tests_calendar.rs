@@ -180,6 +180,90 @@ fn weekdays() {
     }
 }
 
+/// `weekday` of each date gives the reply.
+fn weekday_holds(dates: &[(u32, u32, u32)], reply: &str) {
+    for (year, month, day) in dates {
+        holds(&format!("weekday {year} {month} {day}"), reply);
+    }
+}
+
+#[test]
+fn weekdays_from_history() {
+    // "1 January 2000 was a Saturday" (document 01); 5 March 2024 and 20 March
+    // 2016 are dates of documents 01 and 02, the others of known events. All were
+    // worked out by the doomsday rule too, see the README.
+    weekday_holds(&[(2000, 1, 1), (1991, 8, 24), (2004, 5, 1)], "0 6");
+    weekday_holds(&[(2016, 3, 20), (2004, 12, 26)], "0 0");
+    weekday_holds(&[(1990, 1, 1), (2008, 9, 15)], "0 1");
+    weekday_holds(&[(2001, 9, 11), (2024, 3, 5), (2009, 1, 20)], "0 2");
+    weekday_holds(&[(1990, 10, 3), (1999, 8, 11)], "0 3");
+    weekday_holds(&[(2016, 6, 23)], "0 4");
+    weekday_holds(&[(1999, 1, 1), (1999, 12, 31), (2008, 8, 8)], "0 5");
+}
+
+#[test]
+fn weekdays_round_leap_days() {
+    // 28 February, 29 February and 1 March; by the doomsday rule, see the README.
+    for (year, first) in [(1992, 5), (2000, 1), (2004, 6), (2024, 3), (2088, 6)] {
+        weekday_holds(&[(year, 2, 28)], &format!("0 {first}"));
+        weekday_holds(&[(year, 2, 29)], &format!("0 {}", (first + 1) % 7));
+        weekday_holds(&[(year, 3, 1)], &format!("0 {}", (first + 2) % 7));
+        weekday_holds(&[(year, 2, 30)], "16 0");
+    }
+    for (year, last) in [(1990, 3), (1999, 0), (2023, 2), (2089, 1)] {
+        weekday_holds(&[(year, 2, 28)], &format!("0 {last}"));
+        weekday_holds(&[(year, 2, 29)], "16 0");
+        weekday_holds(&[(year, 3, 1)], &format!("0 {}", (last + 1) % 7));
+    }
+}
+
+#[test]
+fn weekdays_at_the_ends_of_the_range() {
+    weekday_holds(&[(1990, 1, 2)], "0 2");
+    weekday_holds(&[(2089, 12, 30)], "0 5");
+    weekday_holds(&[(2089, 12, 31)], "0 6");
+    weekday_holds(&[(1989, 12, 31), (1989, 1, 1), (2090, 1, 1), (2090, 12, 31)], "16 0");
+}
+
+#[test]
+fn no_weekday_where_the_date_is_not_real() {
+    let most = u32::MAX;
+    weekday_holds(&[(0, 0, 0), (0, 1, 1), (24, 3, 5), (99, 3, 5), (most, 1, 1)], "16 0");
+    weekday_holds(&[(1900, 2, 28), (1900, 2, 29), (2100, 2, 28), (2100, 2, 29)], "16 0");
+    weekday_holds(&[(2000, 0, 1), (2000, 13, 1), (2000, most, 1), (2000, 257, 1)], "16 0");
+    weekday_holds(&[(2000, 1, 0), (2000, 1, 32), (2000, 1, most), (2000, 1, 257)], "16 0");
+    weekday_holds(&[(2000, 4, 31), (2000, 6, 31), (2000, 9, 31), (2000, 11, 31)], "16 0");
+    // Numbers that end as a real date's.
+    weekday_holds(&[(2000 + 65_536, 1, 1), (2000, 1 + 65_536, 1), (2000, 1, 1 + 65_536)], "16 0");
+    weekday_holds(&[(most, most, most)], "16 0");
+}
+
+#[test]
+fn every_date_has_the_weekday_after_the_one_before() {
+    let lengths = [31, 28, 31, 30, 31, 30, 31, 31, 30, 31, 30, 31];
+    let (mut dates, mut next) = (0, 1);
+    for year in 1989..=2090 {
+        for month in 0..=13u32 {
+            // Every fourth year of the range is a leap year.
+            let length = match month {
+                0 | 13 => 0,
+                2 if year % 4 == 0 => 29,
+                _ => lengths[month as usize - 1],
+            };
+            for day in 0..=32 {
+                if (1990..=2089).contains(&year) && (1..=length).contains(&day) {
+                    weekday_holds(&[(year, month, day)], &format!("0 {next}"));
+                    dates += 1;
+                    next = (next + 1) % 7;
+                } else {
+                    weekday_holds(&[(year, month, day)], "16 0");
+                }
+            }
+        }
+    }
+    assert_eq!(dates, 36_525);
+}
+
 #[test]
 fn dates_of_records() {
     assert_eq!(read_date(0x0898), Some(Date { year: 2024, month: 1, day: 1 }));

@@ -31,6 +31,12 @@ fn words_and_spaces() {
         "seasoned", "seasoned - -", "seasoned - - 2024 3", "seasoned - - 2024 3 5 7",
         "seasoned - - 2024 3 5 7 30 0", "seasoned - - 2024 3 -5", "Seasoned - - 2024 3 5",
         "season - - 2024 3 5", "seasoned  - - 2024 3 5", "seasoned - - 2024 3 5 ",
+        "weekday", "weekday ", "weekday 2024", "weekday 2024 3", "weekday 2024 3 ",
+        "weekday 2024  5", "weekday  2024 3 5", "weekday 2024 3 5 ", "weekday 2024 3 5 0",
+        " weekday 2024 3 5", "weekday - - 2024 3 5", "weekday 2024 3 -", "weekday 2024 -3 5",
+        "weekday +2024 3 5", "weekday 0x7e8 3 5", "weekday 7e8 3 5", "weekday 2024 3 5.",
+        "weekday 2024-3-5", "weekday 2024\t3 5", "weekday 2024 3 5\r", "Weekday 2024 3 5",
+        "WEEKDAY 2024 3 5", "weekdays 2024 3 5", "weekda 2024 3 5", "weekday 2024 March 5",
     ] {
         holds(line, "?");
     }
@@ -92,6 +98,21 @@ fn numbers_at_the_ends_of_their_types() {
         words[place] = "004294967295";
         holds(&format!("seasoned {D} {FIRST} {}", words.join(" ")), "10 0 0 0");
     }
+    for place in 0..3u32 {
+        let real = [2024, 3, 5][place as usize];
+        let with = |word: String| -> String {
+            let mut words = ["2024", "3", "5"].map(String::from);
+            words[place as usize] = word;
+            ask(&format!("weekday {}", words.join(" ")))
+        };
+        assert_eq!(with(format!("{}{real}", "0".repeat(40))), "0 2");
+        assert_eq!(with(String::from("4294967295")), "16 0");
+        assert_eq!(with(String::from("004294967295")), "16 0");
+        assert_eq!(with(String::from("4294967296")), "?");
+        // Numbers that end as the real one's in 32 and in 64 bits.
+        assert_eq!(with(((1u64 << 32) + real).to_string()), "?");
+        assert_eq!(with(((1u128 << 64) + u128::from(real)).to_string()), "?");
+    }
 }
 
 #[test]
@@ -109,11 +130,11 @@ fn a_bad_later_word_is_seen_before_the_answer() {
 #[test]
 fn counts_of_words() {
     // One word less and one more than each question takes.
-    let forms: [(&str, usize); 17] = [
+    let forms: [(&str, usize); 18] = [
         ("check", 1), ("layout", 2), ("table", 4), ("tablepart", 4), ("where", 8), ("octets", 8),
         ("number", 8), ("writerange", 6), ("writeoctets", 9), ("writenumber", 9), ("tier", 8),
         ("seasoned", 5), ("matrix", 2), ("serve", 4), ("readrequest", 1), ("readreply", 1),
-        ("readrange", 6),
+        ("readrange", 6), ("weekday", 3),
     ];
     for (question, count) in forms {
         for words in 0..12 {

@@ -1,33 +1,35 @@
--- `dates::month_days`: the days of the months passed. Assumes nothing.
-use Prim.Native.Nat.{_-_, _≤_}
-use mathlib.Core.Path.{_≡_, ap, _∙_}
-use native.Mathlib.Nat.{le-antisymm}
+-- `dates::month_days`: the table's days, and a leap year's one more from March on. Assumes nothing.
+use Prim.Native.Nat.{ℕ, _+_, _≤_}
+use mathlib.Core.Path.{_≡_}
+use mathlib.Core.Bool.{Bool, true, false, cond, _&&_}
 use native.Mathlib.Omega.{arith}
+use lib.Dec.{ltb}
+use lib.ListN.{getD}
+use Rattle.meaning.specs.Calendar.{leap, monthDays}
+use Rattle.almanac.proofs.Days.{daysBefore, months-most, months-at-once}
 use borrow.Author.Needs.{needs}
-use Rattle.meaning.specs.Calendar.{monthDays}
-use Rattle.almanac.proofs.Days.{month-most, months-zero, months-more, months-most}
 use Rattle.dates.proofs.month_days.Statement.{statement}
 use Rattle.dates.proofs.month_days.Tie as tie
 
-abbrev Inv-loop : tie.InvT-loop
-Inv-loop year month days₀ k₀ days k = (k ≤ month) × (days ≡ monthDays year k)
-
-abbrev μ-loop : tie.MeasureT-loop
-μ-loop year month days₀ k₀ days k = month - k
+-- the two tests of the code, and what they come to together
+by-tests : (y m : ℕ) {isLeap joined : Bool} (b : Bool) → m ≤ 12 → isLeap ≡ leap y → joined ≡ (ltb 2 m && isLeap) → joined ≡ b
+    → getD daysBefore m 0 + cond b 1 0 ≡ monthDays y m
+by-tests y m b h p q e = months-at-once y m b h (rw (← p, ← q) e)
 
 pub month-days-spec : {M : Type 1} → statement M
 month-days-spec =
     tie.close
     (tie.spec
-    Inv-loop
-    μ-loop
-    (λ c. (omega arith, months-zero _))
+    (λ c. search needs)
+    (λ c. omega arith)
+    (λ c κs. search needs)
     (λ c κs. search needs)
     (λ c.
-    let k = c .before .before .loop .k in
-    let y = c .before .before .before .args .year in
-    omega (arith, c .month-length .ensures, month-most y k, months-most y k))
-    (λ c. omega arith)
-    (λ c. omega arith)
-    (λ c. (omega arith, rw (c .before .before .loop .inv .1, c .month-length .ensures) (months-more _ _)))
-    (λ c. c .before .loop .inv .1 ∙ ap (monthDays _) (le-antisymm (c .before .loop .inv .0) (c .loop-test .left))))
+    let a = c .before .before .before .args in
+    let days = by-tests (a .year) (a .month) true (omega arith) (c .before .before .is-leap .ensures) (c .before .both .ensures) (c .if1 .taken) in
+    omega (arith, days, months-most (a .year) (a .month)))
+    (λ c. by-tests _ _ true (omega arith) (c .before .before .is-leap .ensures) (c .before .both .ensures) (c .if1 .taken))
+    (λ c.
+    let a = c .before .before .before .args in
+    let days = by-tests (a .year) (a .month) false (omega arith) (c .before .before .is-leap .ensures) (c .before .both .ensures) (c .if1 .left) in
+    omega (arith, days)))

@@ -5,13 +5,13 @@ use lib.ListN.{length}
 use borrow.Author.Needs.{needs}
 use Rattle.meaning.specs.Refusals.{tablePartReply, elementPartReply, readRangePart}
 use Rattle.meaning.specs.Questions.{toldTo, replyTo, octetsTo, imageAfter, outcomeOf}
-use Rattle.lines.specs.Answer.{tableRows, messageRows, rows, rowAt, formOf, limits, said}
+use Rattle.lines.specs.Answer.{tableRows, rows, rowAt, formOf, limits, said}
 use Rattle.lines.proofs.AskLaws.{parted, not-parted, place-short, fits-at}
 use Rattle.lines.proofs.ask.put_part.Statement.{statement}
 use Rattle.lines.proofs.ask.put_part.Tie as tie
 
 pub put-part-spec : {M : Type 1} → statement M
-unfolding tableRows messageRows rows rowAt formOf limits said toldTo replyTo octetsTo imageAfter outcomeOf tablePartReply elementPartReply readRangePart
+unfolding tableRows rows rowAt formOf limits said toldTo replyTo octetsTo imageAfter outcomeOf tablePartReply elementPartReply readRangePart
 put-part-spec =
     tie.close
     (tie.spec

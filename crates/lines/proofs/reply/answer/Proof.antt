@@ -4,13 +4,13 @@ use native.Mathlib.Omega.{arith}
 use lib.Seq.{length-take-le}
 use borrow.Author.Tests.{not-true, not-false}
 use borrow.Author.Needs.{needs}
-use Rattle.lines.specs.Answer.{tableRows, messageRows, rows}
+use Rattle.lines.specs.Answer.{tableRows, messageRows, dateRows, rows}
 use Rattle.lines.proofs.AnswerLaws.{put-as, word-at, row-fits, too-long, unknown, asked-reply, asked-none, asked-room, asked-within, asked-few}
 use Rattle.lines.proofs.reply.answer.Statement.{statement}
 use Rattle.lines.proofs.reply.answer.Tie as tie
 
 reply-requires : tie.Need-reply-requires
-unfolding tableRows messageRows rows
+unfolding tableRows messageRows dateRows rows
 reply-requires c κs =
     let form-of = c .before .before .before .before .before .before .before .before .before .before .before .before .before .before .before .before .before .form-of in
     let kind-of = c .before .before .before .before .before .before .before .before .before .before .before .before .before .before .before .before .before .before .before .kind-of in
@@ -28,7 +28,7 @@ reply-requires c κs =
     )
 
 pub answer-spec : {M : Type 1} → statement M
-unfolding tableRows messageRows rows
+unfolding tableRows messageRows dateRows rows
 answer-spec =
     tie.close
     (tie.spec

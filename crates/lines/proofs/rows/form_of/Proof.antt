@@ -4,7 +4,7 @@ use lib.ListN.{List·getD-map}
 use borrow.Author.Needs.{needs}
 use Rattle.lines.specs.declared.rows.Form.{Form}
 use Rattle.lines.specs.declared.rows.Row.{Row as Columns}
-use Rattle.lines.specs.Answer.{Row, tableRows, messageRows, rows, noRow, rowAt, formOf}
+use Rattle.lines.specs.Answer.{Row, tableRows, messageRows, dateRows, rows, noRow, rowAt, formOf}
 use Rattle.lines.proofs.rows.form_of.Statement.{statement}
 use Rattle.lines.proofs.rows.form_of.Tie as tie
 
@@ -16,5 +16,5 @@ abbrev columns : Row → Columns
 columns r = let f = r .form in (f .words, f .lent, f .numbers, f .most, f .given, f .told, f .part, f .after)
 
 pub form-of-spec : {M : Type 1} → statement M
-unfolding tableRows messageRows rows rowAt formOf
+unfolding tableRows messageRows dateRows rows rowAt formOf
 form-of-spec = tie.close (tie.spec (λ c. search needs) (λ c. search needs) (λ c. ap named (List·getD-map columns rows (c .before .before .args .kind) noRow)))
