@@ -207,32 +207,21 @@ static struct bilashonge_weekday weekday_of(const struct day *day) {
     return bilashonge_weekday_of(day->year, day->month, day->day);
 }
 
-static bool is_real(const struct day *day) {
-    return answered(weekday_of(day).refusal);
-}
-
-/* Behind the last day of a month comes the first of the next, and behind December another year. */
-static struct day day_after(const struct day *day) {
-    struct day after = {day->year, day->month, day->day + 1};
-    if (!is_real(&after))
-        after = (struct day){day->year, day->month + 1, 1};
-    if (!is_real(&after))
-        after = (struct day){day->year + 1, 1, 1};
-    return after;
-}
-
-/* Its day is 0 where the library knows no day of that month. */
-static struct day last_of_month(uint32_t year, uint32_t month) {
-    struct day last = {year, month, LONGEST_MONTH};
-    while (last.day > 0 && !is_real(&last))
+/* The last day of that day's month: the library refuses those behind it. 0 where it knows no day of the month,
+ * before 1990 and after 2089. */
+static uint32_t last_of_month(const struct day *day) {
+    struct day last = {day->year, day->month, LONGEST_MONTH};
+    while (last.day > 0 && !answered(weekday_of(&last).refusal))
         last.day--;
-    return last;
+    return last.day;
 }
 
-static struct day day_before(const struct day *day) {
-    if (day->day > 1)
-        return (struct day){day->year, day->month, day->day - 1};
-    return day->month > 1 ? last_of_month(day->year, day->month - 1) : last_of_month(day->year - 1, 12);
+static struct day month_before(const struct day *day) {
+    return day->month > 1 ? (struct day){day->year, day->month - 1, 1} : (struct day){day->year - 1, 12, 1};
+}
+
+static struct day month_after(const struct day *day) {
+    return day->month < 12 ? (struct day){day->year, day->month + 1, 1} : (struct day){day->year + 1, 1, 1};
 }
 
 /* ITS CALENDAR */
@@ -375,18 +364,27 @@ static bool is_special(const struct meter *meter, const struct day *day) {
     }
 }
 
-/* From the Sunday at or before this day on, each day in the column that the library tells. A place stays empty
- * where the library knows no such day, before 1990 and after 2089. */
+/* From the Sunday at or before the first of a month on, each day in the column that the library tells: 42
+ * weekdays are asked for, and besides how long the months are. A place stays empty where the library knows no
+ * such day, before 1990 and after 2089. */
 static void fill_weeks(struct day day, struct day weeks[WEEKS][WEEK_DAYS]) {
+    struct day before = month_before(&day);
+    uint32_t place = (uint32_t)weekday_of(&day).weekday, last = last_of_month(&before);
     memset(weeks, 0, WEEKS * sizeof weeks[0]);
-    /* A refusal has 0 for its weekday, so this ends before 1990 as well. */
-    while (weekday_of(&day).weekday != SUNDAY)
-        day = day_before(&day);
-    for (int place = 0; place < WEEKS * WEEK_DAYS; place++) {
+    if (place > SUNDAY && last > 0) {
+        day = (struct day){before.year, before.month, last + 1 - place};
+        place = SUNDAY;
+    } else {
+        last = last_of_month(&day);
+    }
+    for (; place < WEEKS * WEEK_DAYS; place++) {
         struct bilashonge_weekday weekday = weekday_of(&day);
         if (answered(weekday.refusal))
             weeks[place / WEEK_DAYS][weekday.weekday] = day;
-        day = day_after(&day);
+        if (day.day++ == last) {
+            day = month_after(&day);
+            last = last_of_month(&day);
+        }
     }
 }
 

@@ -52,7 +52,7 @@ fn is_real(year: u32, month: u32, day: u32) -> bool
 }
 
 // The days of so many years from 1990 on. Every fourth has one more: 1992 is the first of them, and 2000
-// is one of them. 2100 would be the first that isn't, so no year after it may be asked for.
+// is one of them. 2100 would be the first that isn't, so 1990 to 2099 are as far as this goes.
 fn year_days(years: u32) -> u32
     requires { ⌜ years ≤ 110 ⌝ }
     ensures { λ r. ⌜ r ≡ yearDays years ⌝ }
