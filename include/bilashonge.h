@@ -67,10 +67,34 @@ extern "C" {
 #endif
 
 /*
- * Why a question is refused. Of all that apply, a question gives the first in this order: 1 to 9,
- * then 10 to 15; a question about the calendar 1 to 9, 10, 20, 16, 18, 19. A message gives 21 or 43
- * alone. 2 to 7 report the first item that breaks a rule, with the lowest number of those that it
- * breaks. 17 is reserved: it was given for a day before every season record, which is now in season 0.
+ * Why a question is refused. Of all that apply, a question gives the first in this order: about a
+ * table or a range 1 to 9, 10, 12, 13, 14; about an element 1 to 9, 22, 26, 24, then 23 or 25, then
+ * 13, 14, 15; about the calendar 1 to 9, 10, 20, 16, 18, 19. A message gives 21 or 43 alone. 2 to 7
+ * report the first item that breaks a rule, with the lowest number of those that it breaks. 11 and 17
+ * are reserved. 11 was given for any of 22 to 26; 17 was given for a day before every season record,
+ * which is now in season 0.
+ *
+ * 22 to 26 say why there is no such element. What stands round an element is judged from the outside
+ * in, and the first in the way is told: 23 for an IF, 25 for an ARRAY. So a subscript that is too
+ * large gives 25 even where a branch inside that ARRAY isn't chosen, and a branch that isn't chosen
+ * gives 23 even where a subscript inside it is too large. With 25, depth is the place of that
+ * subscript: 0 for the outermost ARRAY, 1 for the ARRAY inside it, at most 3. IFs aren't counted in it.
+ *
+ *   no.  what it means                                  what to tell a crew
+ *   22   The item isn't an element: it is a TABLE, an   The description has no entry of that number.
+ *        ARRAY or an IF, or past the last item.         Check that the description is the one for
+ *                                                       this meter.
+ *   23   The element stands in a branch of an IF that   This meter is set up without this entry. Go
+ *        isn't chosen.                                  on without it; ask the office if it should
+ *                                                       be there.
+ *   24   There are fewer or more subscripts than        Too few or too many places were given for
+ *        ARRAYs round the element; over four are        this entry. Give one for each list that it
+ *        always too many.                               stands in.
+ *   25   A subscript isn't below its ARRAY's count,     The list (depth 0 is the outermost) has no
+ *        and depth tells which. Where that count is 0,  such place. Look at it again: it may be
+ *        every subscript is too large.                  shorter now.
+ *   26   A number is read or written, and the element   This entry holds octets and isn't a number.
+ *        is a BLOCK or a SET.                           Read or write its octets instead.
  */
 enum bilashonge_refusal_number {
     BILASHONGE_ANSWERED = 0,             /* not refused */
@@ -84,7 +108,7 @@ enum bilashonge_refusal_number {
     BILASHONGE_IMAGE_TOO_LONG = 8,       /* image over 65,535 octets */
     BILASHONGE_IMAGE_SHORT = 9,          /* image ends inside item, which starts at octet */
     BILASHONGE_NO_TABLE = 10,            /* no such table */
-    BILASHONGE_NO_ELEMENT = 11,          /* no such element, or a number asked of a BLOCK or SET */
+    BILASHONGE_RESERVED_11 = 11,         /* no longer given */
     BILASHONGE_OUTSIDE_TABLE = 12,       /* offset + length over the table's size */
     BILASHONGE_NOT_WRITABLE = 13,        /* table not marked writable */
     BILASHONGE_HOLDS_DIMENSION = 14,     /* what would be written holds an octet of a dimension */
@@ -95,15 +119,22 @@ enum bilashonge_refusal_number {
     BILASHONGE_NO_ROW_OR_COLUMN = 19,    /* season or special schedule without a row or column; no seasons at all */
     BILASHONGE_NOT_A_CALENDAR = 20,      /* Table 51 isn't 9 octets, or Table 54 not of the size it says */
     BILASHONGE_NO_ROOM = 21,             /* message longer than room; a number or a kind that its field can't hold */
+    BILASHONGE_NOT_AN_ELEMENT = 22,      /* item that is a TABLE, ARRAY or IF, or past the last item */
+    BILASHONGE_BRANCH_NOT_CHOSEN = 23,   /* element in a branch that isn't chosen */
+    BILASHONGE_SUBSCRIPT_COUNT = 24,     /* fewer or more subscripts than ARRAYs round the element, or over four */
+    BILASHONGE_SUBSCRIPT_TOO_LARGE = 25, /* subscript not below its ARRAY's count; depth tells which */
+    BILASHONGE_NOT_A_NUMBER = 26,        /* number read or written of a BLOCK or SET */
     BILASHONGE_NOT_A_REPLY = 43          /* octets that are no reply of a meter */
 };
 
 /* number: of enum bilashonge_refusal_number. item: of the description, with 2 to 7 and 9. octet: of
- * the image, with 9. All that a refusal doesn't report is 0; all three are 0 where it is answered. */
+ * the image, with 9. depth: the place of the subscript that is too large, with 25; 0 is that of the
+ * outermost ARRAY. All that a refusal doesn't report is 0; all four are 0 where it is answered. */
 struct bilashonge_refusal {
     uint64_t number;
     uint64_t item;
     uint64_t octet;
+    uint64_t depth;
 };
 
 /* total: of octets used: of an image, from octet 0 to the end of the last table; of a room, by the
@@ -231,9 +262,9 @@ struct bilashonge_place bilashonge_range_place(
     size_t offset, size_t length);
 
 /*
- * WHERE IS THIS ELEMENT? Its octets are image + start, length of them; or 1 to 9 and 11. An element
- * is a UINT, BLOCK or SET of the description, named by its item and one subscript for each ARRAY
- * round it, outermost first. More than four subscripts name no element.
+ * WHERE IS THIS ELEMENT? Its octets are image + start, length of them; or 1 to 9 and 22 to 25. An
+ * element is a UINT, BLOCK or SET of the description, named by its item and one subscript for each
+ * ARRAY round it, outermost first.
  */
 struct bilashonge_place bilashonge_element_place(
     const uint8_t *description, size_t description_length,
@@ -241,7 +272,7 @@ struct bilashonge_place bilashonge_element_place(
     size_t item, const size_t *subscripts, size_t subscript_count);
 
 /*
- * THE ELEMENT'S NUMBER, of a UINT, read in the image's DATA_ORDER; or 1 to 9 and 11.
+ * THE ELEMENT'S NUMBER, of a UINT, read in the image's DATA_ORDER; or 1 to 9 and 22 to 26.
  */
 struct bilashonge_number bilashonge_element_number(
     const uint8_t *description, size_t description_length,
@@ -260,7 +291,7 @@ struct bilashonge_refusal bilashonge_write_range(
     size_t offset, const uint8_t *data, size_t data_length);
 
 /*
- * WRITE AN ELEMENT'S OCTETS, as many as it has. Refused by 1 to 9, 11, 13, 14, 15.
+ * WRITE AN ELEMENT'S OCTETS, as many as it has. Refused by 1 to 9, 22 to 25, 13, 14, 15.
  */
 struct bilashonge_refusal bilashonge_write_octets(
     const uint8_t *description, size_t description_length,
@@ -269,7 +300,8 @@ struct bilashonge_refusal bilashonge_write_octets(
     const uint8_t *data, size_t data_length);
 
 /*
- * WRITE AN ELEMENT'S NUMBER, of a UINT, in the image's DATA_ORDER. Refused by 1 to 9, 11, 13, 14, 15.
+ * WRITE AN ELEMENT'S NUMBER, of a UINT, in the image's DATA_ORDER. Refused by 1 to 9, 22 to 26, 13,
+ * 14, 15.
  */
 struct bilashonge_refusal bilashonge_write_number(
     const uint8_t *description, size_t description_length,

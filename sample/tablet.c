@@ -33,7 +33,6 @@ static const char *const words[] = {
     [8] = "This is more than a meter's tables can hold. Read the meter again.",
     [9] = "The tables end too early for their own counts. Read the meter again; if it stays so, report it.",
     [10] = "This meter has no such table. Check that the description is the one for this meter.",
-    [11] = "This meter has no such entry, or it isn't a number. Look at the list again: it may be shorter now.",
     [12] = "That would write past the table's end. Nothing was written; check where it is to go.",
     [13] = "This table may only be read. Nothing was written; ask the office if it must be changed.",
     [14] = "The tables are laid out by this count, so it stays. Nothing was written; ask the office.",
@@ -42,10 +41,15 @@ static const char *const words[] = {
     [18] = "This meter changes season at a demand reset. Its tables don't tell the tier: read its display.",
     [19] = "The calendar chooses a season or special day that it has no schedule for. Report the calendar.",
     [20] = "Tables 51 and 54 don't make a calendar together. Read both again; if it stays so, report it.",
+    [22] = "The description has no entry of that number. Check that the description is the one for this meter.",
+    [23] = "This meter is set up without this entry. Go on without it; ask the office if it should be there.",
+    [24] = "Too few or too many places were given for this entry. Give one for each list that it stands in.",
+    [25] = "The list (depth 0 is the outermost) has no such place. Look at it again: it may be shorter now.",
+    [26] = "This entry holds octets and isn't a number. Read or write its octets instead.",
 };
 
 static const char *in_words(struct bilashonge_refusal refusal) {
-    /* A later library may know more numbers than this table; 17 is reserved. */
+    /* A later library may know more numbers than this table; 11 and 17 are reserved, and 21 is of messages. */
     if (refusal.number >= sizeof words / sizeof words[0] || words[refusal.number] == NULL)
         return "Refused, and this tablet can't say why. Update it.";
     return words[refusal.number];
@@ -55,13 +59,15 @@ static bool answered(struct bilashonge_refusal refusal) {
     return refusal.number == BILASHONGE_ANSWERED;
 }
 
-/* 2 to 7 report an item, 9 an item and an octet. */
+/* 2 to 7 report an item, 9 an item and an octet, 25 a depth, also where it is 0. */
 static void print_refusal(struct bilashonge_refusal refusal) {
     char reported[48] = "";
     if (refusal.number == BILASHONGE_IMAGE_SHORT)
         snprintf(reported, sizeof reported, "item %" PRIu64 ", octet %" PRIu64, refusal.item, refusal.octet);
     else if (refusal.number >= BILASHONGE_MALFORMED_ITEM && refusal.number <= BILASHONGE_BAD_REFERENCE)
         snprintf(reported, sizeof reported, "item %" PRIu64, refusal.item);
+    else if (refusal.number == BILASHONGE_SUBSCRIPT_TOO_LARGE)
+        snprintf(reported, sizeof reported, "depth %" PRIu64, refusal.depth);
     printf("%2" PRIu64 "  %-15s  ", refusal.number, reported);
 }
 
@@ -173,8 +179,7 @@ static void print_tables(struct meter *meter, uint64_t total) {
 /* The arrays of Table 54, in their order. */
 enum { DATES = 1, RECURRING_DATES, SWITCHES };
 
-/* The first item in that array. 0 where there is none: item 0 is a TABLE, so the library knows no element by
- * it. */
+/* The first item in that array. 0 where there is none: item 0 is a TABLE, which the library refuses by 22. */
 static size_t find_item(const struct meter *meter, int array) {
     bool in_table_54 = false;
     int arrays = 0;
@@ -350,7 +355,7 @@ static bool is_date_of(uint32_t date, const struct day *day) {
 }
 
 /* Behind a date's number stands its action, which may select a special schedule. Behind the last date the
- * library says 11. */
+ * library says 25. */
 static bool is_special(const struct meter *meter, const struct day *day) {
     size_t item = find_item(meter, DATES);
     for (size_t subscript = 0;; subscript++) {
@@ -430,7 +435,7 @@ static uint32_t moved_to(uint32_t number, uint32_t minute) {
     return bits(number, 4, 0) | minute % 60 << 5 | minute / 60 << 11;
 }
 
-/* The first switch at that minute, or the refusal that comes behind the last switch: 11. */
+/* The first switch at that minute, or the refusal that comes behind the last switch: 25. */
 static struct bilashonge_number find_switch(const struct meter *meter, size_t item, uint32_t minute,
                                             size_t *subscript) {
     for (*subscript = 0;; ++*subscript) {
@@ -451,6 +456,7 @@ static void move_switch(struct meter *meter) {
         refusal = bilashonge_write_number(LENT(meter), item, &subscript, 1, number);
     printf("\nSWITCH MOVED: 07:00 to 06:30\n");
     if (!answered(refusal)) {
+        print_refusal(refusal);
         puts(in_words(refusal));
         return;
     }
@@ -475,6 +481,12 @@ static struct bilashonge_refusal write_entry(struct meter *meter, uint32_t entry
     return bilashonge_write_number(LENT(meter), 5, &subscript, 1, number);
 }
 
+/* A number to entry 2 of row 1; of these two subscripts so many are lent. */
+static struct bilashonge_refusal write_in_rows(struct meter *meter, uint32_t item, uint32_t count) {
+    const size_t row_and_entry[] = {1, 2};
+    return bilashonge_write_number(LENT(meter), item, row_and_entry, count, 7);
+}
+
 static struct bilashonge_refusal tier_in_2024(struct meter *meter, uint32_t month, uint32_t day) {
     const struct day asked = {2024, month, day};
     return tier_of(meter, &asked, 0).refusal;
@@ -486,6 +498,14 @@ static struct bilashonge_refusal tier_in_2024(struct meter *meter, uint32_t mont
 #define SMALL TABLE_00 "10058003 20200000 50807001 24000000"
 #define ENTRIES "00 02 0a00 0b00"
 #define DAMAGED(items) TABLE_00 items, ENTRIES, write_octet, 5, 1
+
+/* A small meter with a list inside a list. Table 05 is writable. Its first octet has how many rows there are
+ * (bits 0 to 3), how many entries are in each (bits 4 to 6), and whether a date comes first (bit 7). Behind the
+ * date (item 5) stand the rows (item 6): of each its name, two letters (item 7), and a list (item 8) of its
+ * entries, of two octets each (item 9). Here there are two rows of two entries, and no date. */
+#define ROWS                                                                            \
+    TABLE_00 "10058007 20200000 608e0040 24000000 50803003 30020000 50882001 24000000", \
+        "00 22 4d31 0a00 0b00 4d32 0c00 0d00", write_in_rows
 
 /* A small calendar. Table 51: 1 season, 1 date, 2 switches. Table 54: season 0 from 1 March 2024, two switches,
  * a row of three. What can be damaged: Table 51's flags, its count of switches, Table 54's action. */
@@ -510,7 +530,6 @@ static const struct provocation {
     {"an image of 65,536 octets", SMALL, NULL, write_octet, 5, 0},
     {"the count says three entries, and two are there", SMALL, "00 03 0a00 0b00", write_octet, 5, 1},
     {"a write to Table 06, which isn't there", SMALL, ENTRIES, write_octet, 6, 0},
-    {"a number written to entry 2, where there are 0 and 1", SMALL, ENTRIES, write_entry, 2, 7},
     {"an octet written behind the last of Table 05", SMALL, ENTRIES, write_octet, 5, 5},
     {"an octet written to Table 00", SMALL, ENTRIES, write_octet, 0, 0},
     {"an octet written over the count in Table 05", SMALL, ENTRIES, write_octet, 5, 0},
@@ -519,6 +538,11 @@ static const struct provocation {
     {"the tier, where season changes are armed", CALENDAR("08", "02", "03"), 3, 5},
     {"the tier in season 1, where there is season 0 alone", CALENDAR("00", "02", "04"), 3, 5},
     {"the tier, where Table 51 says three switches and Table 54 has two", CALENDAR("00", "03", "03"), 3, 5},
+    {"a number written to item 6, which is a list", ROWS, 6, 0},
+    {"a date written, where the meter is set up without one", ROWS, 5, 0},
+    {"a number written to an entry by its row alone", ROWS, 9, 1},
+    {"a number written to entry 2 of row 1, where there are 0 and 1", ROWS, 9, 2},
+    {"a number written over the name of row 1", ROWS, 7, 1},
 };
 
 /* Returns how many octets the refused question changed. Without an image in hex, all the room is lent. */

@@ -1,7 +1,7 @@
 /*
- * Calls of the C interface with octets and replies written by hand: what the line language can't ask, and the
- * document 01's starred examples. There is more on messages in messages.c, and on weekdays in weekdays.c. Prints
- * how many checks there were; fails where one does.
+ * Calls of the C interface with octets and replies written by hand: what the line language can't ask, document
+ * 01's starred examples, and why there is no such element. There is more on messages in messages.c, and on
+ * weekdays in weekdays.c. Prints how many checks there were; fails where one does.
  */
 #include "bilashonge.h"
 
@@ -153,6 +153,33 @@ static const uint8_t deep_description[] = {
 };
 static const uint8_t deep_image[] = {0x01, 0xaa};
 
+/* A maze. Table 5, not writable, has an ARRAY (item 4) of an IF (item 5). True, it has an ARRAY (item 6) of a
+ * UINT of one octet (item 7) and a BLOCK of one (item 8); false, an ARRAY (item 9) of a SET (item 10), and
+ * behind it a UINT of one octet (item 11). Of slot 2 bits 0 and 1 are the outer count and how many octets the
+ * SET has, bit 2 decides the IF, and bits 3 and 4 are both inner counts. */
+static const uint8_t maze_description[] = {
+    0x10, 0x00, 0x00, 0x02, 0x20, 0x10, 0x00, 0x00, 0x20, 0x20, 0x00, 0x00, 0x10, 0x05, 0x00, 0x08,
+    0x50, 0x80, 0x10, 0x07, 0x60, 0x84, 0x00, 0xc3, 0x50, 0x86, 0x10, 0x02, 0x20, 0x00, 0x00, 0x00,
+    0x30, 0x01, 0x00, 0x00, 0x50, 0x86, 0x10, 0x01, 0x40, 0x80, 0x10, 0x00, 0x20, 0x00, 0x00, 0x00,
+};
+/* Which octet of it has the bits that say whether table 0 and table 5 are writable. */
+enum { MAZE_TABLE_0 = 2, MAZE_TABLE_5 = 14 };
+/* Twice the true branch, of two; twice the false branch, of two and two octets; none outside, which would be
+ * true and of two; none inside the true branch, twice; none inside the false branch, twice. */
+static const uint8_t maze_true[] = {0x00, 0x16, 0x70, 0x80, 0x71, 0x81, 0x72, 0x82, 0x73, 0x83};
+static const uint8_t maze_false[] = {0x00, 0x12, 0xa0, 0xa1, 0xa2, 0xa3, 0xb0, 0xa4, 0xa5, 0xa6, 0xa7, 0xb1};
+static const uint8_t maze_none[] = {0x00, 0x14};
+static const uint8_t maze_true_none[] = {0x00, 0x06};
+static const uint8_t maze_false_none[] = {0x00, 0x02, 0xb0, 0xb1};
+
+/* Table 0, writable: DATA_ORDER, an octet (slot 2), and a UINT of one octet (item 7) inside an IF, an ARRAY, an
+ * IF and an ARRAY, from the outside in. Bit k of slot 2 decides the k-th of them: whether the IF is true, and
+ * how many the ARRAY has. */
+static const uint8_t winding_description[] = {
+    0x10, 0x00, 0x80, 0x07, 0x20, 0x10, 0x00, 0x00, 0x20, 0x20, 0x00, 0x00, 0x60, 0x80, 0x01, 0x00,
+    0x50, 0x82, 0x00, 0x03, 0x60, 0x84, 0x00, 0x80, 0x50, 0x86, 0x00, 0x01, 0x20, 0x00, 0x00, 0x00,
+};
+
 /* Table 5 of the manufacturer, writable, with one UINT of two octets (item 3). */
 static const uint8_t manufacturer_description[] = {
     0x10, 0x00, 0x00, 0x01, 0x20, 0x10, 0x00, 0x00, 0x18, 0x05, 0x80, 0x01, 0x24, 0x00, 0x00, 0x00,
@@ -173,13 +200,19 @@ static const size_t one[] = {1};
 
 static bool is_refusal(struct bilashonge_refusal refusal, uint64_t number, uint64_t item, uint64_t octet)
 {
-    return refusal.number == number && refusal.item == item && refusal.octet == octet;
+    return refusal.number == number && refusal.item == item && refusal.octet == octet && refusal.depth == 0;
+}
+
+/* Refused with a number and a depth. */
+static bool refused_at(struct bilashonge_refusal refusal, uint64_t number, uint64_t depth)
+{
+    return refusal.number == number && refusal.item == 0 && refusal.octet == 0 && refusal.depth == depth;
 }
 
 /* Refused with nothing but a number. */
 static bool refused(struct bilashonge_refusal refusal, uint64_t number)
 {
-    return is_refusal(refusal, number, 0, 0);
+    return refused_at(refusal, number, 0);
 }
 
 static bool answered(struct bilashonge_refusal refusal)
@@ -197,9 +230,14 @@ static bool is_place(struct bilashonge_place place, uint64_t start, uint64_t len
     return answered(place.refusal) && place.start == start && place.length == length;
 }
 
+static bool no_place_at(struct bilashonge_place place, uint64_t number, uint64_t depth)
+{
+    return refused_at(place.refusal, number, depth) && place.start == 0 && place.length == 0;
+}
+
 static bool no_place(struct bilashonge_place place, uint64_t number)
 {
-    return refused(place.refusal, number) && place.start == 0 && place.length == 0;
+    return no_place_at(place, number, 0);
 }
 
 /* Nothing is told of a request but the octet that refuses it. */
@@ -232,9 +270,14 @@ static bool is_number(struct bilashonge_number number, uint64_t value)
     return answered(number.refusal) && number.number == value;
 }
 
+static bool no_number_at(struct bilashonge_number number, uint64_t refusal, uint64_t depth)
+{
+    return refused_at(number.refusal, refusal, depth) && number.number == 0;
+}
+
 static bool no_number(struct bilashonge_number number, uint64_t refusal)
 {
-    return refused(number.refusal, refusal) && number.number == 0;
+    return no_number_at(number, refusal, 0);
 }
 
 static bool is_tier(struct bilashonge_tier tier, uint64_t value)
@@ -273,30 +316,31 @@ static bool no_weekday(struct bilashonge_weekday weekday)
 
 static void structs(void)
 {
-    CHECK(sizeof(struct bilashonge_refusal) == 24);
+    CHECK(sizeof(struct bilashonge_refusal) == 32);
     CHECK(offsetof(struct bilashonge_refusal, number) == 0);
     CHECK(offsetof(struct bilashonge_refusal, item) == 8);
     CHECK(offsetof(struct bilashonge_refusal, octet) == 16);
-    CHECK(sizeof(struct bilashonge_total) == 32);
+    CHECK(offsetof(struct bilashonge_refusal, depth) == 24);
+    CHECK(sizeof(struct bilashonge_total) == 40);
     CHECK(offsetof(struct bilashonge_total, refusal) == 0);
-    CHECK(offsetof(struct bilashonge_total, total) == 24);
-    CHECK(sizeof(struct bilashonge_place) == 40);
+    CHECK(offsetof(struct bilashonge_total, total) == 32);
+    CHECK(sizeof(struct bilashonge_place) == 48);
     CHECK(offsetof(struct bilashonge_place, refusal) == 0);
-    CHECK(offsetof(struct bilashonge_place, start) == 24);
-    CHECK(offsetof(struct bilashonge_place, length) == 32);
-    CHECK(sizeof(struct bilashonge_number) == 32);
+    CHECK(offsetof(struct bilashonge_place, start) == 32);
+    CHECK(offsetof(struct bilashonge_place, length) == 40);
+    CHECK(sizeof(struct bilashonge_number) == 40);
     CHECK(offsetof(struct bilashonge_number, refusal) == 0);
-    CHECK(offsetof(struct bilashonge_number, number) == 24);
-    CHECK(sizeof(struct bilashonge_tier) == 40);
+    CHECK(offsetof(struct bilashonge_number, number) == 32);
+    CHECK(sizeof(struct bilashonge_tier) == 48);
     CHECK(offsetof(struct bilashonge_tier, refusal) == 0);
-    CHECK(offsetof(struct bilashonge_tier, none) == 24);
-    CHECK(offsetof(struct bilashonge_tier, tier) == 32);
-    CHECK(sizeof(struct bilashonge_answer) == 32);
+    CHECK(offsetof(struct bilashonge_tier, none) == 32);
+    CHECK(offsetof(struct bilashonge_tier, tier) == 40);
+    CHECK(sizeof(struct bilashonge_answer) == 40);
     CHECK(offsetof(struct bilashonge_answer, refusal) == 0);
-    CHECK(offsetof(struct bilashonge_answer, yes) == 24);
-    CHECK(sizeof(struct bilashonge_weekday) == 32);
+    CHECK(offsetof(struct bilashonge_answer, yes) == 32);
+    CHECK(sizeof(struct bilashonge_weekday) == 40);
     CHECK(offsetof(struct bilashonge_weekday, refusal) == 0);
-    CHECK(offsetof(struct bilashonge_weekday, weekday) == 24);
+    CHECK(offsetof(struct bilashonge_weekday, weekday) == 32);
     CHECK(sizeof(struct bilashonge_request) == 48);
     CHECK(offsetof(struct bilashonge_request, code) == 0);
     CHECK(offsetof(struct bilashonge_request, kind) == 8);
@@ -304,12 +348,12 @@ static void structs(void)
     CHECK(offsetof(struct bilashonge_request, offset) == 24);
     CHECK(offsetof(struct bilashonge_request, count) == 32);
     CHECK(offsetof(struct bilashonge_request, start) == 40);
-    CHECK(sizeof(struct bilashonge_reply) == 56);
+    CHECK(sizeof(struct bilashonge_reply) == 64);
     CHECK(offsetof(struct bilashonge_reply, refusal) == 0);
-    CHECK(offsetof(struct bilashonge_reply, kind) == 24);
-    CHECK(offsetof(struct bilashonge_reply, code) == 32);
-    CHECK(offsetof(struct bilashonge_reply, count) == 40);
-    CHECK(offsetof(struct bilashonge_reply, start) == 48);
+    CHECK(offsetof(struct bilashonge_reply, kind) == 32);
+    CHECK(offsetof(struct bilashonge_reply, code) == 40);
+    CHECK(offsetof(struct bilashonge_reply, count) == 48);
+    CHECK(offsetof(struct bilashonge_reply, start) == 56);
 }
 
 static void enums(void)
@@ -325,7 +369,7 @@ static void enums(void)
     CHECK(BILASHONGE_IMAGE_TOO_LONG == 8);
     CHECK(BILASHONGE_IMAGE_SHORT == 9);
     CHECK(BILASHONGE_NO_TABLE == 10);
-    CHECK(BILASHONGE_NO_ELEMENT == 11);
+    CHECK(BILASHONGE_RESERVED_11 == 11);
     CHECK(BILASHONGE_OUTSIDE_TABLE == 12);
     CHECK(BILASHONGE_NOT_WRITABLE == 13);
     CHECK(BILASHONGE_HOLDS_DIMENSION == 14);
@@ -336,6 +380,11 @@ static void enums(void)
     CHECK(BILASHONGE_NO_ROW_OR_COLUMN == 19);
     CHECK(BILASHONGE_NOT_A_CALENDAR == 20);
     CHECK(BILASHONGE_NO_ROOM == 21);
+    CHECK(BILASHONGE_NOT_AN_ELEMENT == 22);
+    CHECK(BILASHONGE_BRANCH_NOT_CHOSEN == 23);
+    CHECK(BILASHONGE_SUBSCRIPT_COUNT == 24);
+    CHECK(BILASHONGE_SUBSCRIPT_TOO_LARGE == 25);
+    CHECK(BILASHONGE_NOT_A_NUMBER == 26);
     CHECK(BILASHONGE_NOT_A_REPLY == 43);
     CHECK(BILASHONGE_FULL_READ == 48);
     CHECK(BILASHONGE_OFFSET_READ == 63);
@@ -364,7 +413,7 @@ static void starred_reads(void)
     CHECK(is_total(bilashonge_layout(OCTETS(D), OCTETS(second_image)), 6));
     CHECK(is_number(bilashonge_element_number(OCTETS(D), OCTETS(second_image), 7, SUBSCRIPTS(zero)),
                     0x3412));
-    CHECK(no_place(bilashonge_element_place(OCTETS(D), OCTETS(second_image), 5, NONE), 11));
+    CHECK(no_place(bilashonge_element_place(OCTETS(D), OCTETS(second_image), 5, NONE), 23));
 
     struct bilashonge_total cut = bilashonge_layout(OCTETS(D), first_image, 7);
     CHECK(is_refusal(cut.refusal, 9, 6, 4) && cut.total == 0);
@@ -375,7 +424,7 @@ static void starred_reads(void)
     CHECK(is_place(bilashonge_table_place(OCTETS(D), OCTETS(bare_image), 0, 5), 2, 0));
     static const size_t some[] = {0, 1, 2, 255, 65535, 4294967296, SIZE_MAX};
     for (size_t k = 0; k < sizeof some / sizeof some[0]; k++)
-        CHECK(no_place(bilashonge_element_place(OCTETS(D), OCTETS(bare_image), 7, &some[k], 1), 11));
+        CHECK(no_place_at(bilashonge_element_place(OCTETS(D), OCTETS(bare_image), 7, &some[k], 1), 25, 0));
 }
 
 static void starred_writes(void)
@@ -412,7 +461,7 @@ static void starred_tiers(void)
 
 /* ------------------------------------------------------------------ what the line language can't ask for */
 
-/* Four zeros name the element inside four ARRAYs. A fifth names none, nor do more. */
+/* Four zeros name the element inside four ARRAYs. Fewer name none, nor do five or more. */
 static void many_subscripts(void)
 {
     static const size_t zeros[100] = {0};
@@ -423,13 +472,13 @@ static void many_subscripts(void)
         if (count == 4)
             continue;
         CHECK(no_place(bilashonge_element_place(OCTETS(deep_description), OCTETS(image), 6, zeros, count),
-                       11));
+                       24));
         CHECK(no_number(bilashonge_element_number(OCTETS(deep_description), OCTETS(image), 6, zeros,
-                                                  count), 11));
+                                                  count), 24));
         CHECK(refused(bilashonge_write_octets(OCTETS(deep_description), OCTETS(image), 6, zeros, count,
-                                              OCTETS(data)), 11));
+                                              OCTETS(data)), 24));
         CHECK(refused(bilashonge_write_number(OCTETS(deep_description), OCTETS(image), 6, zeros, count,
-                                              0xbb), 11));
+                                              0xbb), 24));
         CHECK(SAME(image, deep_image));
     }
     CHECK(is_place(bilashonge_element_place(OCTETS(deep_description), OCTETS(image), 6, zeros, 4), 1, 1));
@@ -438,7 +487,7 @@ static void many_subscripts(void)
     CHECK(SAME(image, after));
     static const size_t one_and_zeros[] = {1, 0, 0, 0, 0};
     CHECK(no_place(bilashonge_element_place(OCTETS(D), OCTETS(first_image), 7, SUBSCRIPTS(one_and_zeros)),
-                   11));
+                   24));
 }
 
 /* 0 is a table of the standard, 1 one of the manufacturer; a number past 2^11 or 2^16 is no other table. */
@@ -586,14 +635,357 @@ static void null_subscripts(void)
     memcpy(image, first_image, sizeof image);
     memcpy(small, manufacturer_image, sizeof small);
     CHECK(is_place(bilashonge_element_place(OCTETS(D), OCTETS(image), 5, NONE), 2, 2));
-    CHECK(no_place(bilashonge_element_place(OCTETS(D), OCTETS(image), 7, NONE), 11));
+    CHECK(no_place(bilashonge_element_place(OCTETS(D), OCTETS(image), 7, NONE), 24));
     CHECK(is_number(bilashonge_element_number(OCTETS(D), OCTETS(image), 2, NONE), 0x82));
-    CHECK(no_number(bilashonge_element_number(OCTETS(D), OCTETS(image), 5, NONE), 11));
+    CHECK(no_number(bilashonge_element_number(OCTETS(D), OCTETS(image), 5, NONE), 26));
     CHECK(answered(bilashonge_write_octets(OCTETS(D), OCTETS(image), 5, NONE, OCTETS(data))));
     CHECK(SAME(image, block_after));
     CHECK(answered(bilashonge_write_number(OCTETS(manufacturer_description), OCTETS(small), 3, NONE,
                                            0x0102)));
     CHECK(SAME(small, number_after));
+}
+
+/* -------------------------------------------------------------------------- why there is no such element */
+
+struct cause {
+    uint64_t number, depth;
+};
+
+/* A name of an element, and what it is refused by: where its octets are asked for or written, and where its
+ * number is; all 0 where there is such an element or number. */
+struct name {
+    size_t item, count, subscripts[5];
+    struct cause octets, value;
+};
+
+#define TOP ((size_t)1 << 63)
+
+static const struct name names_true[] = {
+    {7, 2, {1, 1}, {0, 0}, {0, 0}},
+    {8, 2, {0, 1}, {0, 0}, {26, 0}},
+    /* TABLEs, ARRAYs, an IF and what is past the last item, whatever the subscripts */
+    {0, 0, {0}, {22, 0}, {22, 0}},
+    {3, 0, {0}, {22, 0}, {22, 0}},
+    {3, 1, {0}, {22, 0}, {22, 0}},
+    {4, 0, {0}, {22, 0}, {22, 0}},
+    {4, 1, {9}, {22, 0}, {22, 0}},
+    {5, 1, {0}, {22, 0}, {22, 0}},
+    {5, 1, {2}, {22, 0}, {22, 0}},
+    {6, 1, {1}, {22, 0}, {22, 0}},
+    {6, 2, {1, 1}, {22, 0}, {22, 0}},
+    {9, 1, {1}, {22, 0}, {22, 0}},
+    {9, 5, {0}, {22, 0}, {22, 0}},
+    {12, 0, {0}, {22, 0}, {22, 0}},
+    {12, 1, {0}, {22, 0}, {22, 0}},
+    {12, 5, {9, 9, 9, 9, 9}, {22, 0}, {22, 0}},
+    /* a number of the BLOCK or of the SET, with whatever else is wrong with them */
+    {8, 0, {0}, {24, 0}, {26, 0}},
+    {8, 1, {0}, {24, 0}, {26, 0}},
+    {8, 3, {0}, {24, 0}, {26, 0}},
+    {8, 5, {0}, {24, 0}, {26, 0}},
+    {8, 2, {2, 0}, {25, 0}, {26, 0}},
+    {8, 2, {0, 2}, {25, 1}, {26, 0}},
+    {10, 1, {0}, {24, 0}, {26, 0}},
+    {10, 2, {0, 0}, {23, 0}, {26, 0}},
+    {10, 2, {1, 9}, {23, 0}, {26, 0}},
+    {10, 2, {2, 0}, {25, 0}, {26, 0}},
+    /* too few and too many subscripts, also large ones and of a branch that isn't chosen */
+    {1, 1, {0}, {24, 0}, {24, 0}},
+    {2, 1, {9}, {24, 0}, {24, 0}},
+    {2, 5, {0}, {24, 0}, {24, 0}},
+    {7, 0, {0}, {24, 0}, {24, 0}},
+    {7, 1, {0}, {24, 0}, {24, 0}},
+    {7, 1, {9}, {24, 0}, {24, 0}},
+    {7, 3, {0}, {24, 0}, {24, 0}},
+    {7, 3, {9, 9, 9}, {24, 0}, {24, 0}},
+    {7, 4, {0}, {24, 0}, {24, 0}},
+    {7, 5, {1, 1, 1, 1, 1}, {24, 0}, {24, 0}},
+    {11, 0, {0}, {24, 0}, {24, 0}},
+    {11, 2, {0, 0}, {24, 0}, {24, 0}},
+    {11, 5, {9}, {24, 0}, {24, 0}},
+    /* too large: of two the outer one; the IF between them isn't counted; some whose octet would wrap */
+    {7, 2, {2, 0}, {25, 0}, {25, 0}},
+    {7, 2, {3, 0}, {25, 0}, {25, 0}},
+    {7, 2, {0, 2}, {25, 1}, {25, 1}},
+    {7, 2, {1, 3}, {25, 1}, {25, 1}},
+    {7, 2, {2, 2}, {25, 0}, {25, 0}},
+    {7, 2, {SIZE_MAX, SIZE_MAX}, {25, 0}, {25, 0}},
+    {7, 2, {1, SIZE_MAX}, {25, 1}, {25, 1}},
+    {7, 2, {TOP, 0}, {25, 0}, {25, 0}},
+    {7, 2, {TOP / 2, 1}, {25, 0}, {25, 0}},
+    {7, 2, {0, TOP}, {25, 1}, {25, 1}},
+    {7, 2, {1, TOP + 1}, {25, 1}, {25, 1}},
+    /* not chosen, but for an outer subscript that is too large */
+    {11, 1, {0}, {23, 0}, {23, 0}},
+    {11, 1, {1}, {23, 0}, {23, 0}},
+    {11, 1, {2}, {25, 0}, {25, 0}},
+};
+
+static const struct name names_false[] = {
+    {10, 2, {1, 1}, {0, 0}, {26, 0}},
+    {11, 1, {1}, {0, 0}, {0, 0}},
+    {7, 2, {0, 0}, {23, 0}, {23, 0}},
+    {7, 2, {1, 9}, {23, 0}, {23, 0}},
+    {7, 2, {2, 0}, {25, 0}, {25, 0}},
+    {7, 2, {9, 9}, {25, 0}, {25, 0}},
+    {7, 1, {0}, {24, 0}, {24, 0}},
+    {8, 2, {1, 1}, {23, 0}, {26, 0}},
+    {8, 2, {9, 9}, {25, 0}, {26, 0}},
+    {10, 2, {0, 2}, {25, 1}, {26, 0}},
+    {10, 2, {2, 0}, {25, 0}, {26, 0}},
+    {10, 1, {0}, {24, 0}, {26, 0}},
+    {11, 1, {2}, {25, 0}, {25, 0}},
+    {11, 2, {0, 0}, {24, 0}, {24, 0}},
+    {5, 1, {0}, {22, 0}, {22, 0}},
+    {6, 1, {0}, {22, 0}, {22, 0}},
+    {9, 1, {0}, {22, 0}, {22, 0}},
+};
+
+/* No count outside: every subscript is too large, and no branch is asked after. */
+static const struct name names_none[] = {
+    {7, 2, {0, 0}, {25, 0}, {25, 0}},
+    {7, 2, {9, 9}, {25, 0}, {25, 0}},
+    {8, 2, {0, 0}, {25, 0}, {26, 0}},
+    {10, 2, {0, 0}, {25, 0}, {26, 0}},
+    {11, 1, {0}, {25, 0}, {25, 0}},
+    {11, 1, {9}, {25, 0}, {25, 0}},
+    {11, 0, {0}, {24, 0}, {24, 0}},
+    {4, 1, {0}, {22, 0}, {22, 0}},
+};
+
+/* None inside: the same, but where a branch round it isn't chosen. */
+static const struct name names_true_none[] = {
+    {7, 2, {1, 0}, {25, 1}, {25, 1}},
+    {7, 2, {1, 9}, {25, 1}, {25, 1}},
+    {7, 2, {2, 0}, {25, 0}, {25, 0}},
+    {8, 2, {0, 0}, {25, 1}, {26, 0}},
+    {10, 2, {0, 0}, {23, 0}, {26, 0}},
+    {11, 1, {1}, {23, 0}, {23, 0}},
+};
+static const struct name names_false_none[] = {
+    {11, 1, {1}, {0, 0}, {0, 0}},
+    {7, 2, {1, 0}, {23, 0}, {23, 0}},
+    {7, 2, {2, 0}, {25, 0}, {25, 0}},
+    {8, 2, {1, 0}, {23, 0}, {26, 0}},
+    {10, 2, {1, 0}, {25, 1}, {26, 0}},
+    {10, 2, {2, 0}, {25, 0}, {26, 0}},
+};
+
+#define IMAGE_AND_NAMES(end) OCTETS(maze##end), names##end, sizeof names##end / sizeof names##end[0]
+
+static const struct {
+    const uint8_t *image;
+    size_t image_length;
+    const struct name *names;
+    size_t name_count;
+} mazes[] = {
+    {IMAGE_AND_NAMES(_true)},
+    {IMAGE_AND_NAMES(_false)},
+    {IMAGE_AND_NAMES(_none)},
+    {IMAGE_AND_NAMES(_true_none)},
+    {IMAGE_AND_NAMES(_false_none)},
+};
+
+#define NAMED(name) (name)->item, (name)->subscripts, (name)->count
+
+/* Asks for it in all four ways. The writes are of more octets, and of a larger number, than an element of the
+ * maze has: where there is one they are refused by `later`, and where there is none, not. */
+static void ask_named(const uint8_t *description, const uint8_t *before, size_t image_length,
+                      const struct name *name, uint64_t later)
+{
+    static const uint8_t data[] = {0xcc, 0xdd, 0xee};
+    uint8_t image[sizeof maze_false];
+    unsigned failed = failures;
+    memcpy(image, before, image_length);
+#define THAT_MAZE description, sizeof maze_description, image, image_length
+    struct bilashonge_place place = bilashonge_element_place(THAT_MAZE, NAMED(name));
+    CHECK(name->octets.number == 0 ? answered(place.refusal)
+                                   : no_place_at(place, name->octets.number, name->octets.depth));
+    struct bilashonge_number number = bilashonge_element_number(THAT_MAZE, NAMED(name));
+    CHECK(name->value.number == 0 ? answered(number.refusal)
+                                  : no_number_at(number, name->value.number, name->value.depth));
+    struct bilashonge_refusal octets_written =
+        bilashonge_write_octets(THAT_MAZE, NAMED(name), OCTETS(data));
+    CHECK(name->octets.number == 0 ? refused(octets_written, later)
+                                   : refused_at(octets_written, name->octets.number, name->octets.depth));
+    struct bilashonge_refusal number_written =
+        bilashonge_write_number(THAT_MAZE, NAMED(name), (uint64_t)1 << 40);
+    CHECK(name->value.number == 0 ? refused(number_written, later)
+                                  : refused_at(number_written, name->value.number, name->value.depth));
+    CHECK(memcmp(image, before, image_length) == 0);
+    if (failures != failed)
+        fprintf(stderr, "calls.c: that was of the image %02x, item %zu, %zu subscripts: %zu %zu\n", before[1],
+                name->item, name->count, name->subscripts[0], name->subscripts[1]);
+}
+
+/* The causes come before 13, where no table is writable, and before 14 and 15, where each is. */
+static void causes(void)
+{
+    uint8_t writable[sizeof maze_description];
+    memcpy(writable, maze_description, sizeof writable);
+    writable[MAZE_TABLE_0] |= 0x80;
+    writable[MAZE_TABLE_5] |= 0x80;
+    for (size_t m = 0; m < sizeof mazes / sizeof mazes[0]; m++)
+        for (size_t k = 0; k < mazes[m].name_count; k++) {
+            ask_named(maze_description, mazes[m].image, mazes[m].image_length, &mazes[m].names[k], 13);
+            ask_named(writable, mazes[m].image, mazes[m].image_length, &mazes[m].names[k], 15);
+        }
+}
+
+/* What the names that aren't refused have; and a dimension, of which 14 comes before 15. */
+static void ways_through(void)
+{
+    static const size_t one_one[] = {1, 1}, zero_one[] = {0, 1};
+    static const uint8_t data[] = {0xcc, 0xdd};
+    static const uint8_t after[] = {0x00, 0x12, 0xa0, 0xa1, 0xa2, 0xa3, 0xb0, 0xa4, 0xa5, 0xcc, 0xdd, 0xb1};
+#define TRUE_MAZE OCTETS(maze_description), OCTETS(maze_true)
+#define FALSE_MAZE OCTETS(maze_description), OCTETS(maze_false)
+    CHECK(is_total(bilashonge_layout(TRUE_MAZE), 10));
+    CHECK(is_place(bilashonge_element_place(TRUE_MAZE, 7, SUBSCRIPTS(one_one)), 8, 1));
+    CHECK(is_number(bilashonge_element_number(TRUE_MAZE, 7, SUBSCRIPTS(one_one)), 0x73));
+    CHECK(is_place(bilashonge_element_place(TRUE_MAZE, 8, SUBSCRIPTS(zero_one)), 5, 1));
+    CHECK(is_total(bilashonge_layout(FALSE_MAZE), 12));
+    CHECK(is_place(bilashonge_element_place(FALSE_MAZE, 10, SUBSCRIPTS(one_one)), 9, 2));
+    CHECK(is_place(bilashonge_element_place(FALSE_MAZE, 11, SUBSCRIPTS(one)), 11, 1));
+    CHECK(is_number(bilashonge_element_number(FALSE_MAZE, 11, SUBSCRIPTS(one)), 0xb1));
+    uint8_t writable[sizeof maze_description], image[sizeof maze_false];
+    memcpy(writable, maze_description, sizeof writable);
+    memcpy(image, maze_false, sizeof image);
+    writable[MAZE_TABLE_0] |= 0x80;
+    writable[MAZE_TABLE_5] |= 0x80;
+    CHECK(refused(bilashonge_write_octets(OCTETS(writable), OCTETS(image), 2, NONE, OCTETS(data)), 14));
+    CHECK(refused(bilashonge_write_number(OCTETS(writable), OCTETS(image), 2, NONE, UINT64_MAX), 14));
+    CHECK(SAME(image, maze_false));
+    CHECK(answered(bilashonge_write_octets(OCTETS(writable), OCTETS(image), 10, SUBSCRIPTS(one_one),
+                                           OCTETS(data))));
+    CHECK(SAME(image, after));
+}
+
+/* Refused so in all four ways, whatever the name. */
+static bool all_refused(const uint8_t *description, size_t description_length, const uint8_t *before,
+                        size_t image_length, const struct name *name, uint64_t number, uint64_t item,
+                        uint64_t octet)
+{
+    static uint8_t image[65536];
+    static const uint8_t data[] = {0xcc};
+    memcpy(image, before, image_length);
+#define THAT_ONE description, description_length, image, image_length
+    struct bilashonge_place place = bilashonge_element_place(THAT_ONE, NAMED(name));
+    struct bilashonge_number read = bilashonge_element_number(THAT_ONE, NAMED(name));
+    return is_refusal(place.refusal, number, item, octet) && place.start == 0 && place.length == 0
+           && is_refusal(read.refusal, number, item, octet) && read.number == 0
+           && is_refusal(bilashonge_write_octets(THAT_ONE, NAMED(name), OCTETS(data)), number, item, octet)
+           && is_refusal(bilashonge_write_number(THAT_ONE, NAMED(name), 1), number, item, octet)
+           && memcmp(image, before, image_length) == 0;
+}
+
+/* 1, 7, 8 and 9 come before any cause. Cut, the image ends inside the outermost ARRAY, item 4, at octet 2. */
+static void causes_come_later(void)
+{
+    static uint8_t longest[65536];
+    uint8_t unset[sizeof maze_description];
+    memcpy(longest, maze_true, sizeof maze_true);
+    memcpy(unset, maze_description, sizeof unset);
+    unset[41] = 0xc0; /* item 10, the SET, refers to slot 3, never set */
+    for (size_t k = 0; k < sizeof names_true / sizeof names_true[0]; k++) {
+        const struct name *name = &names_true[k];
+        CHECK(all_refused(NONE, OCTETS(maze_true), name, 1, 0, 0));
+        CHECK(all_refused(OCTETS(unset), OCTETS(maze_true), name, 7, 10, 0));
+        CHECK(all_refused(OCTETS(maze_description), OCTETS(longest), name, 8, 0, 0));
+        CHECK(all_refused(OCTETS(maze_description), maze_true, sizeof maze_true - 1, name, 9, 4, 2));
+    }
+}
+
+/* 22: D's TABLEs, its IF and its ARRAY; and numbers past the last item, also where four times the number, or
+ * the number cut to fewer bits, would be one. */
+static void items_that_are_none(void)
+{
+    static const size_t items[] = {
+        0, 3, 4, 6, 8, 9, 255, 256 + 7, 511, 512, 512 + 7, 65535, 65536 + 7, 4294967296, 4294967296 + 7,
+        SIZE_MAX / 4 + 1, SIZE_MAX / 4 + 1 + 7, TOP, TOP + 7, SIZE_MAX - 7, SIZE_MAX,
+    };
+    for (size_t k = 0; k < sizeof items / sizeof items[0]; k++)
+        for (size_t count = 0; count <= 5; count++) {
+            struct name name = {items[k], count, {1, 0, 0, 0, 0}, {22, 0}, {22, 0}};
+            CHECK(all_refused(OCTETS(D), OCTETS(first_image), &name, 22, 0, 0));
+        }
+    /* All items that there can be: 512 of them. */
+    static uint8_t longest[2048], image[511];
+    for (size_t i = 0; i < 512; i++)
+        longest[4 * i] = i == 0 ? 0x10 : 0x20;
+    longest[2] = 0x01; /* 511 items in the body of table 0 */
+    longest[3] = 0xff;
+    longest[5] = 0x10; /* slot 1 */
+    struct name last = {511, 0, {0}, {0, 0}, {0, 0}}, past = {512, 0, {0}, {22, 0}, {22, 0}};
+    CHECK(is_place(bilashonge_element_place(OCTETS(longest), OCTETS(image), NAMED(&last)), 510, 1));
+    CHECK(all_refused(OCTETS(longest), OCTETS(image), &past, 22, 0, 0));
+}
+
+/* Refused by 25 at that depth in all four ways, of four subscripts. */
+static void too_large(const uint8_t *before, size_t image_length, const size_t subscripts[4], uint64_t depth)
+{
+    static const uint8_t data[] = {0xbb};
+    uint8_t image[sizeof deep_image];
+    memcpy(image, before, image_length);
+#define DEEPEST OCTETS(deep_description), image, image_length, 6, subscripts, 4
+    CHECK(no_place_at(bilashonge_element_place(DEEPEST), 25, depth));
+    CHECK(no_number_at(bilashonge_element_number(DEEPEST), 25, depth));
+    CHECK(refused_at(bilashonge_write_octets(DEEPEST, OCTETS(data)), 25, depth));
+    CHECK(refused_at(bilashonge_write_number(DEEPEST, 0xbb), 25, depth));
+    CHECK(memcmp(image, before, image_length) == 0);
+}
+
+/* Of four ARRAYs, each with one element: one subscript that is too large, and it with all behind it. Without an
+ * element in any of them, it is the first. */
+static void depths(void)
+{
+    static const size_t large[] = {1, 2, 255, 256, 65536, 4294967296, TOP, SIZE_MAX};
+    static const uint8_t none[] = {0x00};
+    for (size_t k = 0; k < sizeof large / sizeof large[0]; k++)
+        for (uint64_t depth = 0; depth < 4; depth++) {
+            size_t subscripts[4] = {0, 0, 0, 0};
+            subscripts[depth] = large[k];
+            too_large(OCTETS(deep_image), subscripts, depth);
+            too_large(OCTETS(none), subscripts, 0);
+            for (uint64_t behind = depth + 1; behind < 4; behind++)
+                subscripts[behind] = SIZE_MAX;
+            too_large(OCTETS(deep_image), subscripts, depth);
+        }
+}
+
+/* From the outside in: the IF of bit 0, the ARRAY of bit 1, the IF of bit 2, the ARRAY of bit 3. The depth
+ * counts the ARRAYs alone. */
+static void outside_in(void)
+{
+    static const uint8_t data[] = {0xbb};
+    for (unsigned bits = 0; bits < 16; bits++)
+        for (unsigned k = 0; k < 4; k++) {
+            const size_t subscripts[] = {k % 2, k / 2};
+            uint8_t image[] = {0x00, (uint8_t)bits, 0xaa}, before[] = {0x00, (uint8_t)bits, 0xaa};
+            struct cause cause = {0, 0};
+            if ((bits & 1) == 0)
+                cause.number = 23;
+            else if ((bits & 2) == 0 || subscripts[0] == 1)
+                cause.number = 25;
+            else if ((bits & 4) == 0)
+                cause.number = 23;
+            else if ((bits & 8) == 0 || subscripts[1] == 1) {
+                cause.number = 25;
+                cause.depth = 1;
+            }
+#define AT_THE_END OCTETS(winding_description), OCTETS(image), 7, SUBSCRIPTS(subscripts)
+            if (cause.number == 0) {
+                CHECK(is_place(bilashonge_element_place(AT_THE_END), 2, 1));
+                CHECK(is_number(bilashonge_element_number(AT_THE_END), 0xaa));
+                CHECK(answered(bilashonge_write_number(AT_THE_END, 0xbb)) && image[2] == 0xbb);
+                continue;
+            }
+            CHECK(no_place_at(bilashonge_element_place(AT_THE_END), cause.number, cause.depth));
+            CHECK(no_number_at(bilashonge_element_number(AT_THE_END), cause.number, cause.depth));
+            CHECK(refused_at(bilashonge_write_octets(AT_THE_END, OCTETS(data)), cause.number, cause.depth));
+            CHECK(refused_at(bilashonge_write_number(AT_THE_END, 0xbb), cause.number, cause.depth));
+            CHECK(SAME(image, before));
+        }
 }
 
 /* ------------------------------------------------------------------------------------------------- cells */
@@ -1237,6 +1629,12 @@ int main(void)
     null_messages();
     null_data();
     null_subscripts();
+    causes();
+    ways_through();
+    causes_come_later();
+    items_that_are_none();
+    depths();
+    outside_in();
     cells_untouched();
     cells_overwritten();
     full_matrix();

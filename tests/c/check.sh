@@ -32,7 +32,12 @@ export ASAN_OPTIONS=detect_leaks=0
 printf '#include "bilashonge.h"\n#include "bilashonge.h"\n' >"$work/alone.c"
 for standard in c99 c11; do compile_c "$work/alone.o" "$work/alone.c" -Iinclude -c -std=$standard; done
 for standard in c++11 c++17; do compile_cpp "$work/alone.o" "$work/alone.c" -Iinclude -c -std=$standard; done
-echo 'header: compiles alone, without a warning, as C99, C11, C++11 and C++17'
+# Its table of what to tell a crew has the words of the sample.
+awk '/what to tell a crew$/ { from = index($0, "what to tell a crew"); next } !from { next } / \*\/$/ { exit }
+    $2 ~ /^[0-9]+$/ { printf "%s%s", (told++ ? "\n" : ""), $2 } { printf " %s", substr($0, from) } END { print "" }' include/bilashonge.h >"$work/words"
+sed -nE 's/^ *\[(2[2-6])\] = "(.*)",$/\1 \2/p' sample/tablet.c | diff "$work/words" -
+[ "$(wc -l <"$work/words")" = 5 ]
+echo 'header: compiles alone, without a warning, as C99, C11, C++11 and C++17; tells a crew what the sample does'
 
 # THE ARCHIVE: the header's functions and no others, nothing kept, and nothing called but what every compiler may call
 build_archive "$work"
@@ -95,7 +100,7 @@ cp tests/second/examples.txt "$work/examples"
 compare examples tests/second/examples.expected
 write_odd_lines "$work"
 for what in odd long octets; do compare_with_second "$what"; done
-for kind in check places access calendar messages weekdays; do
+for kind in check places access calendar messages weekdays elements; do
     "$work/gen" 1 "$count" "$kind" >"$work/$kind"
     compare_with_second "$kind"
 done
@@ -115,10 +120,11 @@ if told=$(same_replies examples "$work/examples" "$work/expected" tests/second/e
 fi
 wraps=$(awk 'NF >= 3 && $2 == "T" { printf ",--wrap=%s", $3 }' "$work/names")
 compile_c "$work/misdeeds" "${lines[@]}" tests/c/misdeeds.c "$archive" -Iinclude -pthread -static "-Wl$wraps"
+compile_c "$work/misdeeds-calls" tests/c/calls.c tests/c/misdeeds.c "$archive" -Iinclude -static "-Wl$wraps"
 compile_c "$work/misdeeds-messages" tests/c/messages.c tests/c/lend.c tests/c/misdeeds.c "$archive" -Iinclude -static "-Wl$wraps"
 compile_c "$work/misdeeds-weekdays" tests/c/weekdays.c tests/c/misdeeds.c "$archive" -Iinclude -static "-Wl$wraps"
-# What the misdeeds are tried on: the examples, and some messages that fit their rooms and some that don't.
-{ cat "$work/examples" && "$work/gen" 2 1000 messages; } >"$work/tried"
+# What the misdeeds are tried on: the examples, some messages that fit their rooms and some that don't, and elements that are there and some that aren't.
+{ cat "$work/examples" && "$work/gen" 2 1000 messages && "$work/gen" 2 1000 elements; } >"$work/tried"
 "$work/second" <"$work/tried" >"$work/expected"
 # NUMBER STATUS TEXT: with that misdeed the program ends with that status and tells that text.
 caught() {
@@ -142,10 +148,10 @@ for misdeed in 13 17 29 36 49 62; do caught $misdeed 2 'refused, but lent octets
 caught 15 2 'a call has taken more stack than it may'
 for misdeed in 35 48 61; do caught $misdeed 2 'room written past the message'; done
 for misdeed in 38 51 64; do caught $misdeed 2 "a message that isn't inside its room"; done
-for misdeed in 40 53 57 66 68; do caught $misdeed 2 'a refusal that reports an item or an octet'; done
+for misdeed in 40 53 57 66 68 {91..95}; do caught $misdeed 2 'a refusal that reports an item, an octet or a depth'; done
 for misdeed in 43 56 58; do caught $misdeed 2 "data that aren't inside the message"; done
 # These touch nothing that they may not: the replies tell.
-for misdeed in 30 31 32 33 44 46 70 71; do
+for misdeed in 30 31 32 33 44 46 {70..90}; do
     caught $misdeed 0 'octets of stack'
     if told=$(same_replies "misdeed $misdeed" "$work/tried" "$work/expected" "$work/replies"); then
         echo "misdeed $misdeed: every reply is as expected"
@@ -163,6 +169,7 @@ caught_by_hand() {
         fi
     done
 }
-caught_by_hand messages {23..66}
-caught_by_hand weekdays {67..71}
-echo 'must be caught: another number in the header, another reply, and 71 misdeeds, 49 of them by hand too: all told'
+caught_by_hand messages {23..66} {91..94}
+caught_by_hand weekdays {67..71} 95
+caught_by_hand calls {72..90}
+echo 'must be caught: another number in the header, another reply, and 95 misdeeds, 73 of them by hand too: all told'

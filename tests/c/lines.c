@@ -392,7 +392,7 @@ static struct reply ask_serve(const struct request *request, const struct lent *
 static struct reply ask_read_request(const struct request *request, const struct lent *lent)
 {
     struct bilashonge_request read = bilashonge_read_request(LENT_MESSAGE);
-    struct bilashonge_refusal refusal = {read.code, 0, 0};
+    struct bilashonge_refusal refusal = {read.code, 0, 0, 0};
     struct reply reply = {refusal, {read.kind, read.id, read.offset, read.count, read.start}};
     return reply;
 }
@@ -434,7 +434,8 @@ static void put_octets(const uint8_t *octets, size_t length)
 
 static void put_refusal(const struct bilashonge_refusal *refusal)
 {
-    printf("%" PRIu64 " %" PRIu64 " %" PRIu64, refusal->number, refusal->item, refusal->octet);
+    printf("%" PRIu64 " %" PRIu64 " %" PRIu64 " %" PRIu64, refusal->number, refusal->item, refusal->octet,
+           refusal->depth);
 }
 
 /* What a question's reply is made of: its copies, what came back, and what the parts then hold; of the
@@ -510,8 +511,8 @@ static void tell_range(const struct outcome *outcome)
 static void tell_number(const struct outcome *outcome)
 {
     const struct bilashonge_refusal *refusal = &outcome->reply.refusal;
-    if (refusal->item != 0 || refusal->octet != 0)
-        violation("a refusal that reports an item or an octet");
+    if (refusal->item != 0 || refusal->octet != 0 || refusal->depth != 0)
+        violation("a refusal that reports an item, an octet or a depth");
     printf("%" PRIu64, refusal->number);
 }
 
@@ -717,7 +718,7 @@ static void ask(const struct question *question, struct request *request, enum w
 static bool same_replies(const struct reply *one, const struct reply *other)
 {
     return one->refusal.number == other->refusal.number && one->refusal.item == other->refusal.item
-           && one->refusal.octet == other->refusal.octet
+           && one->refusal.octet == other->refusal.octet && one->refusal.depth == other->refusal.depth
            && memcmp(one->values, other->values, sizeof one->values) == 0;
 }
 

@@ -131,7 +131,7 @@ static void take_room(enum way way, struct bilashonge_total total)
 {
     bool fits = fits_in(room.length);
     CHECK(total.refusal.number == (fits ? 0 : 21));
-    CHECK(total.refusal.item == 0 && total.refusal.octet == 0);
+    CHECK(total.refusal.item == 0 && total.refusal.octet == 0 && total.refusal.depth == 0);
     CHECK(total.total == (fits ? expected.length : 0));
     if (fits)
         memcpy(room.at, expected.at, expected.length);
@@ -201,6 +201,7 @@ static void range_is(uint32_t manufacturer, uint32_t number, size_t offset, size
                                    manufacturer, number, offset, length);
         CHECK(told.refusal.number == place.refusal.number);
         CHECK(told.refusal.item == place.refusal.item && told.refusal.octet == place.refusal.octet);
+        CHECK(told.refusal.depth == 0);
         CHECK(told.start == place.start && told.length == place.length);
         take(DESCRIPTION, way, &description);
         take(IMAGE, way, &image);
@@ -209,13 +210,13 @@ static void range_is(uint32_t manufacturer, uint32_t number, size_t offset, size
 
 static void range_at(uint32_t manufacturer, uint32_t number, size_t offset, size_t length, uint64_t start)
 {
-    struct bilashonge_place place = {{0, 0, 0}, start, length};
+    struct bilashonge_place place = {{0, 0, 0, 0}, start, length};
     range_is(manufacturer, number, offset, length, place);
 }
 
 static void no_range(uint32_t manufacturer, uint32_t number, size_t offset, size_t length, uint64_t refusal)
 {
-    struct bilashonge_place place = {{refusal, 0, 0}, 0, 0};
+    struct bilashonge_place place = {{refusal, 0, 0, 0}, 0, 0};
     range_is(manufacturer, number, offset, length, place);
 }
 
@@ -272,8 +273,8 @@ static void ranges(void)
 
 static void ranges_of_no_layout(void)
 {
-    static const struct bilashonge_place unset = {{7, 3, 0}, 0, 0}, empty = {{9, 1, 0}, 0, 0},
-                                         cut = {{9, 19, 16}, 0, 0};
+    static const struct bilashonge_place unset = {{7, 3, 0, 0}, 0, 0}, empty = {{9, 1, 0, 0}, 0, 0},
+                                         cut = {{9, 19, 16, 0}, 0, 0};
     asked = "a range of a meter that can't be laid out";
     set_meter("", ITS_IMAGE);
     no_range(0, 5, 0, 1, 1);
@@ -1015,7 +1016,7 @@ static void reads_reply_as(uint64_t refusal, uint64_t kind, uint64_t code, uint6
         const uint8_t *lent = lend_to_read(MESSAGE, way, &message);
         struct bilashonge_reply told = bilashonge_read_reply(lent, message.length);
         CHECK(told.refusal.number == refusal);
-        CHECK(told.refusal.item == 0 && told.refusal.octet == 0);
+        CHECK(told.refusal.item == 0 && told.refusal.octet == 0 && told.refusal.depth == 0);
         CHECK(told.kind == kind);
         CHECK(told.code == code);
         CHECK(told.count == count);

@@ -1,8 +1,9 @@
 /*
  * What lines.c is there to catch, done on purpose. Linked with it by --wrap, each function here stands before
  * the library's function of that name, calls it, and does the misdeed whose number the environment variable
- * MISDEED has. check.sh wants each of them told; those of messages, 23 to 66, by messages.c too, and those of
- * weekdays, 67 and on, by weekdays.c.
+ * MISDEED has. check.sh wants each of them told; those of messages, 23 to 66 and 91 to 94, by messages.c too,
+ * those of weekdays, 67 to 71 and 95, by weekdays.c, and those of why there is no such element, 72 to 90, by
+ * calls.c.
  */
 #include "bilashonge.h"
 
@@ -41,6 +42,32 @@ __attribute__((noinline)) static void take_stack(void)
 #define DATA const uint8_t *data, size_t data_length
 #define MESSAGE const uint8_t *message, size_t message_length
 #define ROOM uint8_t *room, size_t room_length
+
+/* Why there is no such element: misdeeds that are the same for the four functions that take one. */
+static void spoil_cause(long misdeed, struct bilashonge_refusal *refusal)
+{
+    bool too_large = refusal->number == BILASHONGE_SUBSCRIPT_TOO_LARGE;
+    bool not_chosen = refusal->number == BILASHONGE_BRANCH_NOT_CHOSEN;
+    if (does(misdeed)) /* no depth is told */
+        refusal->depth = 0;
+    if (does(misdeed + 1) && too_large) /* it is counted from 1 */
+        refusal->depth++;
+    if (does(misdeed + 2) && (too_large || not_chosen)) { /* one for the other */
+        refusal->number = too_large ? BILASHONGE_BRANCH_NOT_CHOSEN : BILASHONGE_SUBSCRIPT_TOO_LARGE;
+        refusal->depth = 0;
+    }
+}
+
+static bool is_cause(const struct bilashonge_refusal *refusal)
+{
+    return refusal->number >= BILASHONGE_NOT_AN_ELEMENT && refusal->number <= BILASHONGE_NOT_A_NUMBER;
+}
+
+/* Whether 24 comes before 26: `place` is what is told of the element's place. */
+static bool puts_count_first(const struct bilashonge_refusal *refusal, const struct bilashonge_place *place)
+{
+    return refusal->number == BILASHONGE_NOT_A_NUMBER && place->refusal.number == BILASHONGE_SUBSCRIPT_COUNT;
+}
 
 /* The library's function, and the one that stands before it. */
 #define WRAPPED(reply, function, ...)                                                                      \
@@ -84,6 +111,16 @@ WRAPPED(bilashonge_place, bilashonge_element_place, DESCRIPTION, IMAGE, ELEMENT)
         touch((uintptr_t)(subscripts + subscript_count));
     if (does(7) && place.refusal.number == 0)
         place.length += image_length;
+    spoil_cause(72, &place.refusal);
+    if (does(86) && is_cause(&place.refusal)) { /* the one number that it had before */
+        place.refusal.number = BILASHONGE_RESERVED_11;
+        place.refusal.depth = 0;
+    }
+    if (does(89) && place.refusal.number == BILASHONGE_BRANCH_NOT_CHOSEN && subscript_count > 1
+        && subscripts[1] > 3) { /* a subscript before the branch round it */
+        place.refusal.number = BILASHONGE_SUBSCRIPT_TOO_LARGE;
+        place.refusal.depth = 1;
+    }
     return place;
 }
 
@@ -93,6 +130,15 @@ WRAPPED(bilashonge_number, bilashonge_element_number, DESCRIPTION, IMAGE, ELEMEN
         description, description_length, image, image_length, item, subscripts, subscript_count);
     if (does(8) && number.refusal.number != 0)
         number.number = 1;
+    spoil_cause(75, &number.refusal);
+    if (does(84)) {
+        struct bilashonge_place place = __real_bilashonge_element_place(
+            description, description_length, image, image_length, item, subscripts, subscript_count);
+        if (puts_count_first(&number.refusal, &place))
+            number.refusal = place.refusal;
+    }
+    if (does(90) && number.refusal.number == BILASHONGE_NOT_AN_ELEMENT) /* 26 comes first */
+        number.refusal.number = BILASHONGE_NOT_A_NUMBER;
     return number;
 }
 
@@ -117,6 +163,11 @@ WRAPPED(bilashonge_refusal, bilashonge_write_octets, DESCRIPTION, IMAGE_TO_WRITE
                                        subscript_count, data, data_length);
     if (does(12) && refusal.number == 0) /* depends on where the image stands */
         image[0] = (uint8_t)((uintptr_t)image % 4096 == 0);
+    spoil_cause(78, &refusal);
+    if (does(87) && is_cause(&refusal)) { /* after 13 */
+        refusal.number = BILASHONGE_NOT_WRITABLE;
+        refusal.depth = 0;
+    }
     return refusal;
 }
 
@@ -126,6 +177,15 @@ WRAPPED(bilashonge_refusal, bilashonge_write_number, DESCRIPTION, IMAGE_TO_WRITE
         description, description_length, image, image_length, item, subscripts, subscript_count, value);
     if (does(13) && refusal.number != 0)
         image[image_length - 1] ^= 1;
+    spoil_cause(81, &refusal);
+    if (does(85)) {
+        struct bilashonge_place place = __real_bilashonge_element_place(
+            description, description_length, image, image_length, item, subscripts, subscript_count);
+        if (puts_count_first(&refusal, &place))
+            refusal = place.refusal;
+    }
+    if (does(88) && refusal.number == BILASHONGE_WRONG_SIZE) /* a depth of no subscript */
+        refusal.depth = 1;
     return refusal;
 }
 
@@ -231,6 +291,8 @@ WRAPPED(bilashonge_total, bilashonge_serve, DESCRIPTION, IMAGE_TO_WRITE, MESSAGE
     if (does(33) && total.total == 1 && room[0] == 0) /* says that it is done, and doesn't write all of it */
         image[image_length - 1] ^= 1;
     spoil_room(34, &total, room, room_length, first);
+    if (does(91) && total.refusal.number != 0)
+        total.refusal.depth = 1;
     return total;
 }
 
@@ -259,6 +321,8 @@ WRAPPED(bilashonge_total, bilashonge_write_request, uint64_t kind, uint64_t id, 
     if (does(46) && id == 65536) /* cuts the id to its field */
         total = __real_bilashonge_write_request(kind, 0, offset, count, data, data_length, room, room_length);
     spoil_room(47, &total, room, room_length, first);
+    if (does(92) && total.refusal.number != 0)
+        total.refusal.depth = 1;
     return total;
 }
 
@@ -273,6 +337,8 @@ WRAPPED(bilashonge_reply, bilashonge_read_reply, MESSAGE)
         reply.count += message_length;
     if (does(57) && reply.refusal.number != 0)
         reply.refusal.octet = 1;
+    if (does(93) && reply.refusal.number != 0)
+        reply.refusal.depth = 1;
     if (does(58) && reply.kind == BILASHONGE_REPLY_DONE) /* data where there are none */
         reply.start = 1;
     return reply;
@@ -286,12 +352,14 @@ WRAPPED(bilashonge_total, bilashonge_write_reply, uint64_t kind, uint64_t code, 
     if (does(59) && data_length != 0)
         write_to((uintptr_t)data, data[0]);
     spoil_room(60, &total, room, room_length, first);
+    if (does(94) && total.refusal.number != 0)
+        total.refusal.depth = 1;
     return total;
 }
 
 WRAPPED(bilashonge_weekday, bilashonge_weekday_of, uint32_t year, uint32_t month, uint32_t day)
 {
-    static const struct bilashonge_weekday no_date = {{BILASHONGE_NOT_A_DATE, 0, 0}, 0};
+    static const struct bilashonge_weekday no_date = {{BILASHONGE_NOT_A_DATE, 0, 0, 0}, 0};
     static uint64_t calls;
     struct bilashonge_weekday weekday = __real_bilashonge_weekday_of(year, month, day);
     if (does(67) && weekday.refusal.number != 0)
@@ -304,5 +372,7 @@ WRAPPED(bilashonge_weekday, bilashonge_weekday_of, uint32_t year, uint32_t month
         weekday.weekday = (weekday.weekday + 6) % 7;
     if (does(71) && year == 2000 && month == 2 && day == 29) /* no leap day in 2000 */
         weekday = no_date;
+    if (does(95) && weekday.refusal.number != 0)
+        weekday.refusal.depth = 1;
     return weekday;
 }

@@ -1,8 +1,9 @@
 /*
- * one QUESTION ITEMS [RECORDS]: a single call of the C interface, for tests/instructions to count. Fails where it isn't answered, or otherwise than meant.
+ * one QUESTION ITEMS [RECORDS]: a single call of the C interface, for tests/instructions to count. Fails where it isn't answered, or not refused as the question says, or otherwise than meant.
  *
  * The description has ITEMS items. Table 00, marked writable, holds UINTs of an octet: a dimension in each slot, as far as there are UINTs for it, but the last UINT is none;
- * that is the element asked for and written. For tier_at, seasoned and matrix the last four items are tables 51 and 54, of a BLOCK each; Table 54 has RECORDS season records, one
+ * that is the element asked for and written. Refused by 24, that element is asked for with a subscript too many; refused by 25, the item before it is an ARRAY of one element
+ * round it, and the subscript is 1. For tier_at, seasoned and matrix the last four items are tables 51 and 54, of a BLOCK each; Table 54 has RECORDS season records, one
  * unless told otherwise. serve answers an offset write of that element's octet; read_request, write_request, read_reply and write_reply know of no description, so of them ITEMS is
  * how many data octets the message has. weekday_of knows of nothing but the date.
  */
@@ -72,6 +73,7 @@ int main(int arguments, char **argument)
     const char *question = arguments >= 3 ? argument[1] : "";
     size_t items = arguments >= 3 ? strtoul(argument[2], NULL, 10) : 0;
     size_t records = arguments >= 4 ? strtoul(argument[3], NULL, 10) : 1;
+    bool arrayed = strcmp(question, "element_place, refused by 25") == 0;
     bool dated = strcmp(question, "tier_at") == 0 || strcmp(question, "seasoned") == 0 || strcmp(question, "matrix") == 0;
     if (items < 8 || items > MOST || records > MOST_RECORDS)
         return 2;
@@ -83,6 +85,11 @@ int main(int arguments, char **argument)
         set_item(i, 0x20000000 + (i < 64 && i < last ? (uint32_t)i << 20 : 0));
     image[0] = 1;
     size_t used = last;
+    if (arrayed) {
+        /* counted by bit 0 of slot 1, which is DATA_ORDER */
+        set_item(last - 1, 0x50400001);
+        used--;
+    }
     if (dated) {
         size_t count = put_calendar(image + last, records);
         const uint32_t calendar[] = {0x10330001, 0x30000000 | TABLE_51 << 16, 0x10360001, 0x30000000 | (uint32_t)(count - TABLE_51) << 16};
@@ -92,10 +99,12 @@ int main(int arguments, char **argument)
     }
     size_t length = 4 * items;
 
-    const struct bilashonge_refusal answered = {BILASHONGE_ANSWERED, 0, 0};
+    const struct bilashonge_refusal answered = {BILASHONGE_ANSWERED, 0, 0, 0};
     struct bilashonge_refusal refusal;
+    uint64_t number = BILASHONGE_ANSWERED;
     bool meant;
     const uint8_t data[] = {WRITTEN};
+    const size_t subscripts[] = {1};
     if (strcmp(question, "check") == 0) {
         refusal = bilashonge_check(description, length);
         meant = true;
@@ -107,6 +116,19 @@ int main(int arguments, char **argument)
         struct bilashonge_place reply = bilashonge_element_place(description, length, image, used, last, NULL, 0);
         refusal = reply.refusal;
         meant = reply.start == last - 1 && reply.length == 1;
+    } else if (strcmp(question, "element_place, refused by 24") == 0) {
+        refusal = bilashonge_element_place(description, length, image, used, last, subscripts, 1).refusal;
+        number = BILASHONGE_SUBSCRIPT_COUNT;
+        meant = true;
+    } else if (arrayed) {
+        refusal = bilashonge_element_place(description, length, image, used, last, subscripts, 1).refusal;
+        number = BILASHONGE_SUBSCRIPT_TOO_LARGE;
+        meant = refusal.depth == 0;
+    } else if (strcmp(question, "element_number") == 0) {
+        image[last - 1] = WRITTEN;
+        struct bilashonge_number reply = bilashonge_element_number(description, length, image, used, last, NULL, 0);
+        refusal = reply.refusal;
+        meant = reply.number == WRITTEN;
     } else if (strcmp(question, "range_place") == 0) {
         struct bilashonge_place place = bilashonge_range_place(description, length, image, used, 0, 0, last - 1, 1);
         refusal = place.refusal;
@@ -164,7 +186,7 @@ int main(int arguments, char **argument)
         meant = cells[0][0] == 1 && cells[0][2] == 1 && cells[0][3] == 0 && cells[14][21] == 0;
     } else
         return 2;
-    if (refusal.number != BILASHONGE_ANSWERED || !meant) {
+    if (refusal.number != number || !meant) {
         fprintf(stderr, "%s, %zu items: not answered as meant; refusal %d\n", question, items, (int)refusal.number);
         return 1;
     }

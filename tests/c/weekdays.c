@@ -48,7 +48,7 @@ static void tell_day(unsigned number)
 static bool is_reply(const struct bilashonge_weekday *reply, uint64_t number, uint64_t weekday)
 {
     return reply->refusal.number == number && reply->refusal.item == 0 && reply->refusal.octet == 0
-           && reply->weekday == weekday;
+           && reply->refusal.depth == 0 && reply->weekday == weekday;
 }
 
 /* Whether it is answered. */
@@ -57,9 +57,10 @@ static bool ask(unsigned year, unsigned month, unsigned day)
     unsigned expected = told[year][month][day];
     struct bilashonge_weekday reply = bilashonge_weekday_of(FIRST_YEAR + year, month, day);
     if (!(expected != 0 ? is_reply(&reply, 0, expected - 1) : is_reply(&reply, BILASHONGE_NOT_A_DATE, 0))) {
-        fprintf(stderr, "weekdays.c: %u-%02u-%02u: not so: %" PRIu64 " %" PRIu64 " %" PRIu64 " %" PRIu64 "\n",
+        fprintf(stderr,
+                "weekdays.c: %u-%02u-%02u: not so: %" PRIu64 " %" PRIu64 " %" PRIu64 " %" PRIu64 " %" PRIu64 "\n",
                 FIRST_YEAR + year, month, day, reply.refusal.number, reply.refusal.item, reply.refusal.octet,
-                reply.weekday);
+                reply.refusal.depth, reply.weekday);
         fail();
     }
     return reply.refusal.number == BILASHONGE_ANSWERED;

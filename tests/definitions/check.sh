@@ -16,7 +16,7 @@ cp -r crates/offsets crates/meaning "$work/repository/crates/"
 rm -rf "$work/repository/crates/meaning/must-fail"
 printf 'offsets:\nmeaning: offsets\n' >"$work/repository/crates.txt"
 proofs=$work/repository/crates/meaning/proofs
-for kind in check places access calendar messages weekdays; do
+for kind in check places access calendar messages weekdays elements; do
     module=Random_$kind
     module=${module//_/-}
     "$work/gen" "$seed" $((20 * most)) "$kind" >"$work/requests"

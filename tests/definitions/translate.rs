@@ -59,32 +59,32 @@ fn counts_far(description: &str) -> bool {
     })
 }
 
-// A request's question, as the definitions have it, and what its reply tells: how many numbers, whether octets, whether the image afterwards.
+// A request's question, as the definitions have it, and what its reply tells: how many numbers, of which a refusal has the first four, whether octets, whether the image afterwards.
 fn question(words: &[&str]) -> Option<(String, usize, bool, bool)> {
     let table = || format!("{} {}", words[3], words[4]);
     let element = || name(&words[3..]);
     Some(match words[0] {
-        "check" => ("check".to_string(), 3, false, false),
-        "layout" => ("layout".to_string(), 4, false, false),
-        "table" => (format!("tablePlace {}", table()), 5, false, false),
+        "check" => ("check".to_string(), 4, false, false),
+        "layout" => ("layout".to_string(), 5, false, false),
+        "table" => (format!("tablePlace {}", table()), 6, false, false),
         "tablepart" => (format!("tablePart {}", table()), 0, true, false),
-        "where" => (format!("elementPlace {}", element()), 5, false, false),
+        "where" => (format!("elementPlace {}", element()), 6, false, false),
         "octets" => (format!("elementPart {}", element()), 0, true, false),
-        "number" => (format!("elementNumber {}", element()), 4, false, false),
-        "writerange" => (format!("writeRange {} (record {{ 0 = {} }}) {}", table(), words[5], hex_list(words[6])), 3, false, true),
-        "writeoctets" => (format!("writeOctets {} {}", element(), hex_list(words[9])), 3, false, true),
-        "writenumber" => (format!("writeNumber {} {}", element(), words[9]), 3, false, true),
+        "number" => (format!("elementNumber {}", element()), 5, false, false),
+        "writerange" => (format!("writeRange {} (record {{ 0 = {} }}) {}", table(), words[5], hex_list(words[6])), 4, false, true),
+        "writeoctets" => (format!("writeOctets {} {}", element(), hex_list(words[9])), 4, false, true),
+        "writenumber" => (format!("writeNumber {} {}", element(), words[9]), 4, false, true),
         "tier" => {
             let moment = format!(
                 "(record {{ year = {}; month = {}; day = {}; hour = {}; minute = {} }})",
                 words[3], words[4], words[5], words[6], words[7]
             );
             let asked = if words[8] == "0" { "Quantity.Summations" } else { "Quantity.Demands" };
-            (format!("tier {} {}", moment, asked), 5, false, false)
+            (format!("tier {} {}", moment, asked), 6, false, false)
         }
-        "matrix" => ("matrix".to_string(), 3, true, false),
-        "seasoned" => (format!("seasoned {}", date(&words[3..])), 4, false, false),
-        "readrange" => (format!("readRange {} (record {{ 0 = {} }}) {}", table(), words[5], words[6]), 5, true, false),
+        "matrix" => ("matrix".to_string(), 4, true, false),
+        "seasoned" => (format!("seasoned {}", date(&words[3..])), 5, false, false),
+        "readrange" => (format!("readRange {} (record {{ 0 = {} }}) {}", table(), words[5], words[6]), 6, true, false),
         _ => return None,
     })
 }
@@ -108,7 +108,7 @@ fn table_equations(words: &[&str], values: &[&str]) -> Vec<String> {
 
 // The weekday of a date, by the question about no table.
 fn weekday_equations(words: &[&str], values: &[&str]) -> Vec<String> {
-    vec![format!("numbersOf 4 (replyTo (weekday {}) [] []) ≡ ({} ∷ 0 ∷ 0 ∷ {} ∷ [])", date(&words[1..]), values[0], values[1])]
+    vec![format!("numbersOf 5 (replyTo (weekday {}) [] []) ≡ ({} ∷ 0 ∷ 0 ∷ 0 ∷ {} ∷ [])", date(&words[1..]), values[0], values[1])]
 }
 
 // A message put into a room: its number of octets and the room afterwards, by the two definitions that say these of `what` in a room; the reply has the refusal's
@@ -123,7 +123,7 @@ fn in_room(replies: &str, leaves: &str, what: &str, room: &str, values: &[&str])
     later[..message.len()].copy_from_slice(&message);
     let before = format!("(replicate {} {})", room, BEFORE);
     vec![
-        format!("numbersOf 4 ({} {} {}) ≡ ({} ∷ 0 ∷ 0 ∷ {} ∷ [])", replies, what, before, values[0], message.len()),
+        format!("numbersOf 5 ({} {} {}) ≡ ({} ∷ 0 ∷ 0 ∷ 0 ∷ {} ∷ [])", replies, what, before, values[0], message.len()),
         format!("{} {} {} ≡ {}", leaves, what, before, octet_list(&later)),
     ]
 }

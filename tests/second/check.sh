@@ -14,6 +14,7 @@ checked="-C debug-assertions=on -C overflow-checks=on"
 "$RUSTC" --edition 2021 --test $checked "$here/src/main.rs" -o "$out/second-tests"
 "$RUSTC" --edition 2021 -O "$here/gen.rs" -o "$out/gen"
 "$RUSTC" --edition 2021 --test -O $checked "$here/gen.rs" -o "$out/gen-tests"
+"$RUSTC" --edition 2021 -O "$here/reached_elements.rs" -o "$out/reached_elements"
 "$RUSTC" --edition 2021 -O "$here/reached_messages.rs" -o "$out/reached_messages"
 "$RUSTC" --edition 2021 -O "$here/reached_weekdays.rs" -o "$out/reached_weekdays"
 
@@ -25,7 +26,7 @@ cmp "$out/replies" "$here/examples.expected"
 echo "examples: $(wc -l < "$here/examples.txt") lines, all as written by hand"
 
 # The debug build stops on any overflow; both builds answer every line alike.
-for kind in check places access calendar messages weekdays lines all; do
+for kind in check places access calendar messages weekdays elements lines all; do
     "$out/gen" 2026 20000 "$kind" > "$out/requests"
     "$out/second-debug" < "$out/requests" > "$out/debug-replies"
     "$out/second" < "$out/requests" > "$out/replies"
@@ -42,6 +43,7 @@ reaches() {
 }
 reaches messages 100000
 reaches weekdays 60000
+reaches elements 200000
 # Octets of every kind, line feeds among them: a program.
 head -c 2000000 "$out/second-debug" > "$out/noise"
 "$out/second-debug" < "$out/noise" > "$out/replies"

@@ -7,6 +7,7 @@
 //! number and the writes), calendar (tier, seasoned, matrix;
 //! gen_calendar.rs), messages (serve, readrange, and the reading and writing of
 //! requests and replies; gen_messages.rs), weekdays (weekday; gen_weekdays.rs),
+//! elements (where, octets, number and the writes of elements; gen_elements.rs),
 //! lines (malformed and odd lines) or all.
 //!
 //! Build with plain rustc; it shares the second program's reading of
@@ -23,12 +24,16 @@ mod layout;
 mod refusal;
 
 mod gen_calendar;
+mod gen_elements;
 mod gen_messages;
 mod gen_weekdays;
 
 #[cfg(test)]
 #[path = "src/access.rs"]
 mod access;
+#[cfg(test)]
+#[path = "src/causes.rs"]
+mod causes;
 
 use description::{after, bodies_round, Item};
 use layout::{item_size, lay_out, value_of, Dimension, Layout};
@@ -1532,19 +1537,21 @@ fn request(rng: &mut Rng, kind: &str) -> Vec<u8> {
         "calendar" => calendar_request(rng).into_bytes(),
         "messages" => gen_messages::request(rng, 0),
         "weekdays" => gen_weekdays::any_request(rng),
+        "elements" => gen_elements::request(rng).into_bytes(),
         "lines" => odd_line(rng),
         _ => {
             let kind = rng.pick(&[
                 "check", "check", "places", "places", "access", "access", "access", "calendar",
-                "calendar", "messages", "messages", "weekdays", "lines",
+                "calendar", "messages", "messages", "weekdays", "elements", "elements", "lines",
             ]);
             request(rng, kind)
         }
     }
 }
 
-const KINDS: [&str; 8] =
-    ["check", "places", "access", "calendar", "messages", "weekdays", "lines", "all"];
+const KINDS: [&str; 9] = [
+    "check", "places", "access", "calendar", "messages", "weekdays", "elements", "lines", "all",
+];
 
 fn main() {
     let arguments: Vec<String> = std::env::args().collect();
@@ -1589,7 +1596,8 @@ fn main() {
 #[cfg(test)]
 mod tests {
     use super::*;
-    use crate::access::{element, Name};
+    use crate::access::element;
+    use crate::causes::Name;
 
     #[test]
     fn sound_descriptions_pass() {

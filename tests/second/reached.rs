@@ -14,8 +14,6 @@
 
 #![allow(dead_code)]
 
-#[path = "src/access.rs"]
-mod access;
 #[path = "src/description.rs"]
 mod description;
 #[path = "src/layout.rs"]
@@ -514,7 +512,7 @@ impl Counts {
     fn request(&mut self, request: &str, reply: &str) -> Result<(), String> {
         let words: Vec<&str> = request.split(' ').collect();
         let number_of = |word: &str| -> u64 { word.parse().unwrap_or(0) };
-        let values: Vec<u64> = reply.split(' ').take(5).map(number_of).collect();
+        let values: Vec<u64> = reply.split(' ').take(6).map(number_of).collect();
         let (question, number) = (words[0], values[0]);
         let asked: Vec<u64> = words[3..].iter().map(|word| number_of(word)).collect();
         let given: &[u64] = match question {
@@ -553,7 +551,7 @@ impl Counts {
         };
         self.calendar(question, &asked, &tables, &calendar);
         if question == "tier" {
-            let told = (values[0], values[3], values[4]);
+            let told = (values[0], values[4], values[5]);
             if tier(&tables, &asked, Slip::Nowhere) != told {
                 return Err(format!("not the second program's reply, {reply}"));
             }
@@ -566,7 +564,7 @@ impl Counts {
             }
         }
         if question == "seasoned" {
-            let told = (values[0], values[3]);
+            let told = (values[0], values[4]);
             if seasoned(&tables, &asked, Slip::Nowhere) != told {
                 return Err(format!("not the second program's reply, {reply}"));
             }
@@ -593,13 +591,13 @@ impl Counts {
         }
         if question == "tier" {
             for tier in 0..8 {
-                let told = values[0] == 0 && values[3] == 0 && values[4] == tier;
+                let told = values[0] == 0 && values[4] == 0 && values[5] == tier;
                 self.replies.count(&format!("tier {tier} granted"), 3000, told);
             }
-            self.replies.count("none yet today", 3000, values[0] == 0 && values[3] == 1);
+            self.replies.count("none yet today", 3000, values[0] == 0 && values[4] == 1);
         } else if question == "seasoned" {
             for (yes, name) in [(0, "seasoned no"), (1, "seasoned yes")] {
-                self.replies.count(name, 3000, values[0] == 0 && values[3] == yes);
+                self.replies.count(name, 3000, values[0] == 0 && values[4] == yes);
             }
         } else {
             self.replies.count("matrix granted", 3000, values[0] == 0);

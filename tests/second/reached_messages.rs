@@ -1388,9 +1388,9 @@ impl Counts {
         let laid = match lay_out(&d, &image) {
             Ok(laid) => laid,
             Err(refusal) => {
-                let Refusal { no, item, octet } = refusal;
+                let Refusal { no, item, octet, depth } = refusal;
                 self.ranges.count("12 also, refused by 9", 20, no == 9 && length > 1 << 32);
-                return Some(told.join(" ") == format!("{no} {item} {octet} 0 0 -"));
+                return Some(told.join(" ") == format!("{no} {item} {octet} {depth} 0 0 -"));
             }
         };
         let table = match find(&laid, mfr, num) {
@@ -1401,7 +1401,7 @@ impl Counts {
                 r.count("number 2,048 and more", 20, num > 2047);
                 r.count("number 65,535", 5, num == 65_535);
                 r.count("a table of the other kind", 20, find(&laid, !mfr, num).is_some());
-                return Some(told.join(" ") == "10 0 0 0 0 -");
+                return Some(told.join(" ") == "10 0 0 0 0 0 -");
             }
         };
         let answer = |slip| range_of(&laid, table, offset, length, slip);
@@ -1409,9 +1409,9 @@ impl Counts {
         let text = match found {
             Ok((at, length)) => {
                 let part = &image[at as usize..(at + length) as usize];
-                format!("0 0 0 {at} {length} {}", hex(part))
+                format!("0 0 0 0 {at} {length} {}", hex(part))
             }
-            Err(no) => format!("{no} 0 0 0 0 -"),
+            Err(no) => format!("{no} 0 0 0 0 0 -"),
         };
         if text != told.join(" ") {
             return Some(false);

@@ -15,18 +15,18 @@ use Rattle.meaning.specs.declared.Refusal.{Refusal}
 use Rattle.meaning.specs.declared.Place.{Place}
 use Rattle.meaning.specs.Description.{itemCount, fieldsAt, isUint}
 use Rattle.meaning.specs.Layout.{Placed, Seat, tableNamed, numberAt}
-use Rattle.meaning.specs.Refusals.{openImage, seatPlace, tablePlaceReply, rangeAt, readRangeReply, elementPlaceReply, integerPlace, writable, anyDimension, tableAround, allowed, allowedAt, fitting, rangeOf, rangeIn, rangePlace, octetsPlaceIn, numberPlaceIn, placeStart}
+use Rattle.meaning.specs.Refusals.{openImage, seatPlace, tablePlaceReply, rangeAt, readRangeReply, elementPlaceReply, integerPlaceReply, elementPlaceIn, writable, anyDimension, tableAround, allowed, allowedAt, fitting, rangeOf, rangeIn, rangePlace, writtenIn, octetsPlaceIn, numberPlaceIn, placeStart}
 use Rattle.meaning.proofs.Ranges.{fields-range}
 use Rattle.meaning.specs.Numbers.{outsideTable, notWritable, holdsDimension, wrongSize}
 use Rattle.laying.proofs.LaidOut.{total-inside}
-use Rattle.laying.proofs.Found.{element-own, element-ends, table-ends}
-use Rattle.laying.proofs.Opened.{Came, opens, refuses, came, opened-image, table-laid, where-opens, table-opens, integer-exactly}
+use Rattle.laying.proofs.Found.{element-own, element-ends, for-exactly, table-ends}
+use Rattle.laying.proofs.Opened.{Came, opens, refuses, came, opened-image, table-laid, where-opens, table-opens}
 use Rattle.octets.specs.Octets.{numberRead}
 use Rattle.octets.proofs.Laws.{read-there}
 use Rattle.meaning.specs.Messages.{otherSize}
 use Rattle.meaning.proofs.Either.{tested}
 use Rattle.access.specs.Access.{placeToWrite, FitsAt, Inside}
-use Rattle.access.proofs.Laws.{elementsIn, octets-told, number-told}
+use Rattle.access.proofs.Laws.{elementsIn, written-told}
 
 -- AN ELEMENT
 pub record Stands (d img : List ℕ) (q : ElementName) (p n : ℕ) : Type 0 where
@@ -48,11 +48,12 @@ element-inside d img q (Place.At p n) e = stands d img q (p .0) n (sym e) .insid
 element-inside d img q (Place.Refused r) e = tt
 
 -- an integer is read as it stands
-pub read-integer : (d img : List ℕ) (q : ElementName) (p n : ℕ) → integerPlace d (q .item) (elementPlaceReply d img q) ≡ Place.At (record { 0 = p }) n → numberRead img p n ≡ numberAt img p n
+pub read-integer : (d img : List ℕ) (q : ElementName) (p n : ℕ) → integerPlaceReply d img q ≡ Place.At (record { 0 = p }) n → numberRead img p n ≡ numberAt img p n
+unfolding integerPlaceReply
 read-integer d img q p n e =
-    let i = integer-exactly d (q .item) (elementPlaceReply d img q) p n .0 e in
+    let i = for-exactly d img q true p n .0 e in
     let s = stands d img q p n (i .1) in
-    read-there img p n (omega (arith, s .few (i .0))) (s .inside)
+    read-there img p n (omega (arith, s .few (i .0 refl))) (s .inside)
 
 -- A TABLE
 pub table-inside : (d img : List ℕ) (m k : ℕ) (v : Place) → v ≡ tablePlaceReply d img m k → Inside img v
@@ -136,18 +137,23 @@ module _ (d img : List ℕ) (q : ElementName) (es : List Placed) where
       go true = h
       go false = tt
 
+module _ (number : Bool) (d img : List ℕ) (q : ElementName) where
+  -- where it is, as all that is known there
+  pub stands-for : (p : ImageOffset) (l : ℕ) → elementPlaceIn number d q (openImage d img) ≡ Place.At p l → Stands d img q (p .0) l
+  stands-for p l h = stands d img q (p .0) l (for-exactly d img q number (p .0) l .0 h .1)
+
+  write-holds : (P : Place → Type 0) → ((r : Refusal) → P (Place.Refused r)) → (fits : ℕ → Bool)
+      → ((p l : ℕ) → p + l ≤ length img → P (fitting fits (allowed d img (elementsIn (openImage d img)) (tableAround d (q .item)) p l)))
+      → P (writtenIn number fits d img q (openImage d img))
+  unfolding fitting allowedAt
+  write-holds P refusals fits there = subst P (written-told number fits d img q (openImage d img)) (go (elementPlaceIn number d q (openImage d img)) refl)
+    where
+      go : (w : Place) → elementPlaceIn number d q (openImage d img) ≡ w → P (fitting fits (allowedAt d img q (elementsIn (openImage d img)) w))
+      go (Place.At p l) h = there (p .0) l (stands-for p l h .inside)
+      go (Place.Refused r) h = refusals r
+
 pub octets-fits : (d img : List ℕ) (q : ElementName) (n : ℕ) (v : Place) → v ≡ octetsPlaceIn d img q n (openImage d img) → FitsAt img n v
-unfolding elementPlaceReply fitting allowedAt
-octets-fits d img q n v e = subst (FitsAt img n) (sym (e ∙ sym (octets-told d img q n (openImage d img)))) (go (elementPlaceReply d img q) refl)
-  where
-    go : (w : Place) → elementPlaceReply d img q ≡ w → FitsAt img n (fitting (λ k. n =? k) (allowedAt d img q (elementsIn (openImage d img)) w))
-    go (Place.At p l) h = octets-at d img q (elementsIn (openImage d img)) n (p .0) l (stands d img q (p .0) l h .inside)
-    go (Place.Refused r) h = tt
+octets-fits d img q n v e = subst (FitsAt img n) (sym e) (write-holds false d img q (FitsAt img n) (λ r. tt) (λ k. n =? k) (λ p l h. octets-at d img q (elementsIn (openImage d img)) n p l h))
 
 pub number-fits : (d img : List ℕ) (q : ElementName) (x : ℕ) (v : Place) → v ≡ numberPlaceIn d img q x (openImage d img) → Inside img v
-unfolding elementPlaceReply fitting allowedAt
-number-fits d img q x v e = subst (Inside img) (sym (e ∙ sym (number-told d img q x (openImage d img)))) (go (integerPlace d (q .item) (elementPlaceReply d img q)) refl)
-  where
-    go : (w : Place) → integerPlace d (q .item) (elementPlaceReply d img q) ≡ w → Inside img (fitting (λ k. x <? 256 ^ k) (allowedAt d img q (elementsIn (openImage d img)) w))
-    go (Place.At p l) h = number-at d img q (elementsIn (openImage d img)) x (p .0) l (stands d img q (p .0) l (integer-exactly d (q .item) (elementPlaceReply d img q) (p .0) l .0 h .1) .inside)
-    go (Place.Refused r) h = tt
+number-fits d img q x v e = subst (Inside img) (sym e) (write-holds true d img q (Inside img) (λ r. tt) (λ k. x <? 256 ^ k) (λ p l h. number-at d img q (elementsIn (openImage d img)) x p l h))

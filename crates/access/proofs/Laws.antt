@@ -19,15 +19,15 @@ use Rattle.meaning.specs.declared.Verdict.{Verdict}
 use Rattle.meaning.specs.declared.Fields.{Fields}
 use Rattle.meaning.specs.declared.Place.{Place}
 use Rattle.meaning.specs.declared.Reply.{Reply}
-use Rattle.meaning.specs.Description.{itemCount, fieldsAt, isTable, isUint, isDimension}
+use Rattle.meaning.specs.Description.{itemCount, fieldsAt, isTable, isDimension}
 use Rattle.meaning.specs.Layout.{Placed, Seat, Slots, tableNamed, dataOrder, numberAt}
-use Rattle.meaning.specs.Refusals.{Opened, opened, refused, openImage, seatPlace, tablePlaceIn, tablePlaceReply, rangeAt, readRangeReply, elementPlaceIn, elementPlaceReply, integerPlace, placeNumber, elementNumberReply, placeVerdict, imageWith, imageWithNumber, tableAround, writable, anyDimension, allowed, allowedAt, fitting, rangeOf, rangeIn, rangePlace, writeRangeReply, writeRangeImage, octetsPlaceIn, numberPlaceIn}
+use Rattle.meaning.specs.Refusals.{Opened, opened, refused, openImage, seatPlace, tablePlaceIn, tablePlaceReply, rangeAt, readRangeReply, elementPlaceIn, elementPlaceReply, integerPlaceReply, placeNumber, elementNumberReply, placeVerdict, imageWith, imageWithNumber, tableAround, writable, anyDimension, allowed, allowedAt, fitting, rangeOf, rangeIn, rangePlace, writeRangeReply, writeRangeImage, writtenIn}
 use Rattle.meaning.proofs.Octets.{octets-long}
-use Rattle.meaning.specs.Numbers.{noElement, outsideTable, notWritable, holdsDimension}
+use Rattle.meaning.specs.Numbers.{outsideTable, notWritable, holdsDimension}
 use Rattle.octets.specs.Octets.{put}
 use Rattle.laying.proofs.Among.{every-among, seat-among}
 use Rattle.laying.proofs.Dimensions.{element-dimension}
-use Rattle.laying.proofs.Found.{table-ends}
+use Rattle.laying.proofs.Found.{for-exactly, table-ends}
 use Rattle.laying.proofs.LaidOut.{tables-there, total-inside}
 use Rattle.laying.proofs.Opened.{Opens, Came, opens, refuses, came, opened-image, table-laid, table-opens, where-opens}
 use Rattle.offsets.specs.declared.ImageOffset.{ImageOffset}
@@ -40,14 +40,6 @@ use Rattle.places.specs.Surveying.{heldIn}
 use Rattle.access.specs.declared.Seen.{Seen}
 use Rattle.meaning.specs.Messages.{otherSize, writeTableReply, writeTableImage}
 use Rattle.access.specs.Access.{SeenAs, placeToWrite, allowedBy, fittedBy}
-
--- AN ITEM'S KIND, by the fields read of it
-module _ (d : List ℕ) (i k : ℕ) (f : Fields) (e : f ≡ fieldsAt d i) where
-  pub kind-is : f .kind ≡ k → (fieldsAt d i .kind =? k) ≡ true
-  kind-is h = eq-eqb _ _ (sym (ap (λ (x : Fields). x .kind) e) ∙ h)
-
-  pub kind-not : (f .kind ≡ k → ⊥) → (fieldsAt d i .kind =? k) ≡ false
-  kind-not h = ne-eqb _ _ (λ z. h (ap (λ (x : Fields). x .kind) e ∙ z))
 
 -- THE TABLE THAT AN ITEM STANDS IN
 -- one item further on
@@ -279,35 +271,17 @@ pub counted-on : (s f n l long p : ℕ) (b : Bool) → p ≡ min (s + f) 1844674
 counted-on s f n l long p b e h k w t = let i : f + n ≤ l = leb-true _ _ (sym w ∙ t) in omega arith
 
 -- AN ELEMENT
--- an integer's place, or 11
-pub is-integer : (d : List ℕ) (i : ℕ) (v : Place) (p n : ℕ) → v ≡ Place.At (record { 0 = p }) n → isUint (fieldsAt d i) ≡ true → v ≡ integerPlace d i v
-unfolding integerPlace
-is-integer d i v p n e h = e ∙ rw (e, h)
-
-pub no-integer : (d : List ℕ) (i : ℕ) (v : Place) (p n : ℕ) → v ≡ Place.At (record { 0 = p }) n → isUint (fieldsAt d i) ≡ false → Place.Refused noElement ≡ integerPlace d i v
-unfolding integerPlace
-no-integer d i v p n e h = rw (e, h)
-
-pub integer-refused : (d : List ℕ) (i : ℕ) (v : Place) (r : Refusal) → v ≡ Place.Refused r → v ≡ integerPlace d i v
-unfolding integerPlace
-integer-refused d i v r e = e ∙ rw e
-
 -- the elements of an image that is opened
 abbrev pub elementsIn : Opened → List Placed
 elementsIn (opened ts es s n) = es
 elementsIn (refused r) = []
 
--- an element's octets and its number, by where it is
-pub octets-told : (d img : List ℕ) (q : ElementName) (n : ℕ) (o : Opened) → fitting (λ l. n =? l) (allowedAt d img q (elementsIn o) (elementPlaceIn q o)) ≡ octetsPlaceIn d img q n o
-unfolding octetsPlaceIn elementPlaceIn allowedAt fitting
-octets-told d img q n (opened ts es s total) = refl
-octets-told d img q n (refused r) = refl
-
-pub number-told : (d img : List ℕ) (q : ElementName) (x : ℕ) (o : Opened)
-    → fitting (λ l. x <? 256 ^ l) (allowedAt d img q (elementsIn o) (integerPlace d (q .item) (elementPlaceIn q o))) ≡ numberPlaceIn d img q x o
-unfolding numberPlaceIn elementPlaceIn integerPlace allowedAt fitting
-number-told d img q x (opened ts es s total) = refl
-number-told d img q x (refused r) = refl
+-- what is written to an element, by where it is
+pub written-told : (number : Bool) (fits : ℕ → Bool) (d img : List ℕ) (q : ElementName) (o : Opened)
+    → fitting fits (allowedAt d img q (elementsIn o) (elementPlaceIn number d q o)) ≡ writtenIn number fits d img q o
+unfolding writtenIn elementPlaceIn allowedAt fitting
+written-told number fits d img q (opened ts es s total) = refl
+written-told number fits d img q (refused r) = refl
 
 -- 13 and 14 of an element: its octets hold one of a dimension if it is one
 pub element-is : (d img : List ℕ) (q : ElementName) (p n : ℕ) → elementPlaceReply d img q ≡ Place.At (record { 0 = p }) n
@@ -325,49 +299,26 @@ fitted-is fits true true p n = refl
 fitted-is fits true false p n = refl
 fitted-is fits false h p n = refl
 
--- where an element is, what is written there
-module _ (d img : List ℕ) (q : ElementName) (found : Place) (f : found ≡ elementPlaceReply d img q) where
-  -- refused as the place is
-  pub octets-refused : (m : ℕ) (r : Refusal) → found ≡ Place.Refused r → found ≡ octetsPlaceIn d img q m (openImage d img)
-  unfolding elementPlaceReply allowedAt fitting
-  octets-refused m r e =
-      e ∙ ap (λ (v : Place). fitting (λ l. m =? l) (allowedAt d img q (elementsIn (openImage d img)) v)) (sym e ∙ f) ∙ octets-told d img q m (openImage d img)
+-- where an element is, what is written there; of one whose number is asked, or not
+module _ (number : Bool) (fits : ℕ → Bool) (d img : List ℕ) (q : ElementName) (found : Place) (f : found ≡ elementPlaceIn number d q (openImage d img)) where
+  comes-to : fitting fits (allowedAt d img q (elementsIn (openImage d img)) found) ≡ writtenIn number fits d img q (openImage d img)
+  comes-to = ap (λ (v : Place). fitting fits (allowedAt d img q (elementsIn (openImage d img)) v)) f ∙ written-told number fits d img q (openImage d img)
 
-  pub number-none : (x : ℕ) (r : Refusal) → found ≡ Place.Refused r → found ≡ numberPlaceIn d img q x (openImage d img)
-  unfolding elementPlaceReply integerPlace allowedAt fitting
-  number-none x r e =
-      e ∙ ap (λ (v : Place). fitting (λ l. x <? 256 ^ l) (allowedAt d img q (elementsIn (openImage d img)) (integerPlace d (q .item) v))) (sym e ∙ f) ∙ number-told d img q x (openImage d img)
+  -- refused as the place is
+  pub write-refused : (r : Refusal) → found ≡ Place.Refused r → found ≡ writtenIn number fits d img q (openImage d img)
+  unfolding allowedAt fitting
+  write-refused r e = e ∙ ap (λ (v : Place). fitting fits (allowedAt d img q (elementsIn (openImage d img)) v)) (sym e) ∙ comes-to
 
   module _ (p n : ℕ) (e : found ≡ Place.At (record { 0 = p }) n) (s : Seen) (a : SeenAs d (q .item) s) where
     at-place : allowedBy (s .table .writable =? 1) (isDimension (s .fields)) (record { 0 = p }) n ≡ allowed d img (elementsIn (openImage d img)) (tableAround d (q .item)) p n
-    at-place = rw (a .table, a .fields) (sym (element-is d img q p n (sym f ∙ e)))
+    at-place = rw (a .table, a .fields) (sym (element-is d img q p n (for-exactly d img q number p n .0 (sym f ∙ e) .1)))
 
     -- 13, 14, then 15
-    written : (fits : ℕ → Bool) → fittedBy (fits n) (allowedBy (s .table .writable =? 1) (isDimension (s .fields)) (record { 0 = p }) n)
-        ≡ fitting fits (allowedAt d img q (elementsIn (openImage d img)) found)
+    pub write-there : fittedBy (fits n) (allowedBy (s .table .writable =? 1) (isDimension (s .fields)) (record { 0 = p }) n) ≡ writtenIn number fits d img q (openImage d img)
     unfolding allowedAt
-    written fits =
+    write-there =
         fitted-is fits (s .table .writable =? 1) (isDimension (s .fields)) (record { 0 = p }) n ∙ ap (fitting fits) at-place
-        ∙ ap (λ (v : Place). fitting fits (allowedAt d img q (elementsIn (openImage d img)) v)) (sym e)
-
-    pub octets-there : (m : ℕ) → fittedBy (m =? n) (allowedBy (s .table .writable =? 1) (isDimension (s .fields)) (record { 0 = p }) n) ≡ octetsPlaceIn d img q m (openImage d img)
-    unfolding elementPlaceReply
-    octets-there m =
-        written (λ l. m =? l) ∙ ap (λ (v : Place). fitting (λ l. m =? l) (allowedAt d img q (elementsIn (openImage d img)) v)) f ∙ octets-told d img q m (openImage d img)
-
-    pub number-there-is : (x : ℕ) → isUint (fieldsAt d (q .item)) ≡ true
-        → fittedBy (x <? 256 ^ n) (allowedBy (s .table .writable =? 1) (isDimension (s .fields)) (record { 0 = p }) n) ≡ numberPlaceIn d img q x (openImage d img)
-    unfolding elementPlaceReply
-    number-there-is x u =
-        written (λ l. x <? 256 ^ l)
-        ∙ ap (λ (v : Place). fitting (λ l. x <? 256 ^ l) (allowedAt d img q (elementsIn (openImage d img)) v)) (is-integer d (q .item) found p n e u ∙ ap (integerPlace d (q .item)) f)
-        ∙ number-told d img q x (openImage d img)
-
-    pub number-not : (x : ℕ) → isUint (fieldsAt d (q .item)) ≡ false → Place.Refused noElement ≡ numberPlaceIn d img q x (openImage d img)
-    unfolding elementPlaceReply allowedAt fitting
-    number-not x u =
-        ap (λ (v : Place). fitting (λ l. x <? 256 ^ l) (allowedAt d img q (elementsIn (openImage d img)) v)) (no-integer d (q .item) found p n e u ∙ ap (integerPlace d (q .item)) f)
-        ∙ number-told d img q x (openImage d img)
+        ∙ ap (λ (v : Place). fitting fits (allowedAt d img q (elementsIn (openImage d img)) v)) (sym e) ∙ comes-to
 
 -- A NUMBER AND SO MANY OCTETS
 -- every number has its place in 8 octets or more
@@ -402,11 +353,11 @@ fits-fewer x n = rw (eight-bits n) (go (x <? 256 ^ n) refl)
 
 -- AN ELEMENT'S NUMBER, by its place
 module _ (d img : List ℕ) (q : ElementName) (v : Place) where
-  pub number-refused : (r : Refusal) → v ≡ integerPlace d (q .item) (elementPlaceReply d img q) → v ≡ Place.Refused r → Reply.Refused r ≡ elementNumberReply d img q
+  pub number-refused : (r : Refusal) → v ≡ integerPlaceReply d img q → v ≡ Place.Refused r → Reply.Refused r ≡ elementNumberReply d img q
   unfolding elementNumberReply placeNumber
   number-refused r e h = rw (← e, h)
 
-  pub number-is : (p n x : ℕ) → v ≡ integerPlace d (q .item) (elementPlaceReply d img q) → v ≡ Place.At (record { 0 = p }) n → x ≡ numberAt img p n → Reply.Number x ≡ elementNumberReply d img q
+  pub number-is : (p n x : ℕ) → v ≡ integerPlaceReply d img q → v ≡ Place.At (record { 0 = p }) n → x ≡ numberAt img p n → Reply.Number x ≡ elementNumberReply d img q
   unfolding elementNumberReply placeNumber
   number-is p n x e h g = rw (← e, h, g)
 

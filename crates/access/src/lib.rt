@@ -2,8 +2,8 @@
 // a range of a table or the whole of it, an element's octets, its number written. The public calls
 // stand at the end.
 //
-// Any description, image and question get an answer. Refusals 1 to 9 come first, then 10 to 15 in
-// their order. A write's place is found before an octet is written, so a refused write changes none.
+// Any description, image and question get an answer. Refusals 1 to 9 come first, then 10 or 22 to
+// 26, then 12 to 15 in their order. A write's place is found before an octet is written, so a refused write changes none.
 // Nothing is kept: each call lays the image out anew.
 use basics::both;
 use basics::either;
@@ -24,14 +24,12 @@ ghost use Prim.Native.Nat.{_+_, _^_, _<_};
 ghost use lib.ListN.{length};
 ghost use Rattle.meaning.specs.Basics.{if_then_else_, _<?_, _≤?_, _=?_};
 ghost use Rattle.meaning.specs.Description.{itemCount, isTable, isDimension};
-ghost use Rattle.meaning.specs.Refusals.{openImage, tablePlaceReply, elementPlaceReply, placePart, placeStart, tablePartReply, elementPartReply, readRangeReply, readRangePart, integerPlace, elementNumberReply, placeVerdict, imageWith, octetsPlaceIn, numberPlaceIn, writeRangeReply, writeRangeImage, writeOctetsReply, writeOctetsImage, writeNumberReply, writeNumberImage};
+ghost use Rattle.meaning.specs.Refusals.{openImage, tablePlaceReply, elementPlaceReply, placePart, placeStart, tablePartReply, elementPartReply, readRangeReply, readRangePart, elementNumberReply, placeVerdict, imageWith, octetsPlaceIn, numberPlaceIn, writeRangeReply, writeRangeImage, writeOctetsReply, writeOctetsImage, writeNumberReply, writeNumberImage};
 ghost use Rattle.meaning.specs.Messages.{writeTableReply, writeTableImage};
 ghost use Rattle.access.specs.Access.{placeToWrite, SeenAs, allowedBy, fittedBy, FitsAt, Inside};
 
-// The kinds of items that are asked for.
+// The kind that descriptions give a TABLE.
 const TABLE: u32 = 1;
-
-const UINT: u32 = 2;
 
 // WHAT THE DESCRIPTION SAYS OF AN ITEM
 // An item, and the table that it stands in: the latest TABLE before it.
@@ -130,27 +128,6 @@ fn write_place(
     }
 }
 
-// Where an element is, if it is an integer: 11 too where a number is asked of a BLOCK or SET.
-fn integer_place(description: &[u8], image: &[u8], name: ElementName) -> Place
-    ensures { λ r. ⌜ r ≡ integerPlace (now (description .entry)) (name .item) (elementPlaceReply (now (description .entry)) (now (image .entry)) name) ⌝ }
-{
-    let place = places::element_place(description, image, name);
-    match place {
-        Place::Refused(_) => place,
-        Place::At {
-            start: _,
-            length: _,
-        } => {
-            let seen = around(description, name.item);
-            let fields = seen.fields;
-            if fields.kind == UINT {
-                return place;
-            }
-            Place::Refused(Refusal::NO_ELEMENT)
-        }
-    }
-}
-
 // 13, then 14, where an element is: it holds an octet of a dimension if it is one.
 fn element_allowed(seen: Seen, start: ImageOffset, length: usize) -> Place
     ensures { λ r. ⌜ r ≡ allowedBy (seen .table .writable =? 1) (isDimension (seen .fields)) start length ⌝ }
@@ -204,16 +181,12 @@ fn fits_in(value: u64, octets: usize) -> bool
 fn number_place(description: &[u8], image: &[u8], name: ElementName, value: u64) -> Place
     ensures { λ r. ⌜ r ≡ numberPlaceIn (now (description .entry)) (now (image .entry)) name value (openImage (now (description .entry)) (now (image .entry))) ⌝ }
 {
-    let found = places::element_place(description, image, name);
+    let found = places::integer_place(description, image, name);
     match found {
         Place::Refused(_) => found,
         Place::At { start, length } => {
             let seen = around(description, name.item);
-            let fields = seen.fields;
-            if fields.kind == UINT {
-                return fitted(element_allowed(seen, start, length), fits_in(value, length));
-            }
-            Place::Refused(Refusal::NO_ELEMENT)
+            fitted(element_allowed(seen, start, length), fits_in(value, length))
         }
     }
 }
@@ -323,7 +296,7 @@ pub fn element_part<'a>(description: &[u8], image: &'a [u8], name: ElementName) 
 pub fn element_number(description: &[u8], image: &[u8], name: ElementName) -> Reply
     ensures { λ r. ⌜ r ≡ elementNumberReply (now (description .entry)) (now (image .entry)) name ⌝ }
 {
-    let place = integer_place(description, image, name);
+    let place = places::integer_place(description, image, name);
     match place {
         Place::Refused(r) => Reply::Refused(r),
         Place::At { start, length } => Reply::Number(octets::number_at(image, start, length)),

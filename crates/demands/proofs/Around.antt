@@ -100,7 +100,7 @@ module _ (d : List ℕ) where
       go true h = ap (λ (js : List ℕ). at ∷ js) h
       go false h = h
 
-  to-next : (at i : ℕ) → nestsTo (at + 1) i ≡ nestsTo at i ++ (if nests (fieldsAt d at) && encloses d at i then at ∷ [] else [])
+  pub to-next : (at i : ℕ) → nestsTo (at + 1) i ≡ nestsTo at i ++ (if nests (fieldsAt d at) && encloses d at i then at ∷ [] else [])
   unfolding nestsIn
   to-next at i = let e : 0 + at ≡ at = omega arith in rw e at (parts i at 1 0)
 

@@ -1,6 +1,7 @@
 -- DEMAND 1, for every description, image and question, of our replies. Assumes nothing.
 use Prim.Native.Nat.{ℕ}
 use mathlib.Core.Path.{_≡_, refl, sym, subst}
+use mathlib.Core.Bool.{true, false}
 use mathlib.Core.List.{List, []}
 use mathlib.Core.Option.{some}
 use lib.ListN.{replicate}
@@ -13,13 +14,13 @@ use Rattle.meaning.specs.Refusals.{toldBy, placePart, tablePartReply, elementPa
 use Rattle.meaning.specs.Calendar.{Found, found, missing, matrixIn, matrixReply, matrixVerdictIn, matrixVerdict, cellsAfter}
 use Rattle.meaning.specs.Questions as ask
 use Rattle.meaning.specs.Questions.{Question, refusalIn}
-use Rattle.demands.specs.Demand1.{ten, eleven, elevenNumber, twelve, thirteen, fourteen, fifteen, twenty, nineteen, sixteenToNineteen, sixteen}
+use Rattle.demands.specs.Demand1.{ten, twelve, thirteen, fourteen, fifteen, twenty, nineteen, sixteenToNineteen, sixteen}
 use Rattle.demands.specs.Demand1.{ofCalendar, ofMoment, refusalsOf, Numbered, Asked, NoOctets, Demand1}
 use Rattle.demands.specs.Replies.{ours, outcomeBy}
 use Rattle.laying.specs.Every.{Every}
 use Rattle.laying.proofs.Every.{every-append}
 use Rattle.demands.proofs.Demand2.{demand-2}
-use Rattle.demands.proofs.Known.{KnownIn, known-last, known-more, first-known, sound-known, layout-knows, after, one-known, two-known, three-known, four-known}
+use Rattle.demands.proofs.Known.{KnownIn, known-last, known-more, first-known, sound-known, layout-knows, after, one-known, two-known, three-known, four-known, causes-known}
 use Rattle.demands.proofs.OnlyFirst.{verdict-refused}
 use Rattle.demands.proofs.FirstGiven.{first-given}
 use Rattle.demands.proofs.Rules.{check-in-words}
@@ -46,7 +47,7 @@ record Kept (d img : List ℕ) (q : Question) : Type 0 where
 
 -- the tests behind 1 to 9
 unfoldable tests : Unit {0}
-unfolding ten eleven elevenNumber twelve thirteen fourteen fifteen twenty ofCalendar ofMoment sixteenToNineteen sixteen nineteen
+unfolding ten twelve thirteen fourteen fifteen twenty ofCalendar ofMoment sixteenToNineteen sixteen nineteen
 tests = tt
 
 -- some tests behind 1 to 9; and the image as it was
@@ -56,9 +57,9 @@ kept d img ask.check = record { known = known-more _ _ (sound-known d) known-las
 kept d img ask.layout = record { known = layout-knows d img; unchanged = λ r e. refl }
 kept d img (ask.tablePlace m k) = record { known = after d img _ (one-known _ _ refl); unchanged = λ r e. refl }
 kept d img (ask.tablePart m k) = record { known = after d img _ (one-known _ _ refl); unchanged = λ r e. refl }
-kept d img (ask.elementPlace q) = record { known = after d img _ (one-known _ _ refl); unchanged = λ r e. refl }
-kept d img (ask.elementPart q) = record { known = after d img _ (one-known _ _ refl); unchanged = λ r e. refl }
-kept d img (ask.elementNumber q) = record { known = after d img _ (one-known _ _ refl); unchanged = λ r e. refl }
+kept d img (ask.elementPlace q) = record { known = after d img _ (causes-known false d _ q); unchanged = λ r e. refl }
+kept d img (ask.elementPart q) = record { known = after d img _ (causes-known false d _ q); unchanged = λ r e. refl }
+kept d img (ask.elementNumber q) = record { known = after d img _ (causes-known true d _ q); unchanged = λ r e. refl }
 kept d img (ask.writeRange m k o new) =
     record {
       known = after d img _ (four-known _ _ _ _ _ _ _ _ refl refl refl refl);
@@ -66,12 +67,12 @@ kept d img (ask.writeRange m k o new) =
     }
 kept d img (ask.writeOctets q new) =
     record {
-      known = after d img _ (four-known _ _ _ _ _ _ _ _ refl refl refl refl);
+      known = after d img _ (every-append KnownIn _ _ (causes-known false d _ q) (three-known _ _ _ _ _ _ refl refl refl));
       unchanged = λ r e. demand-2 d img .octets q new .unchanged r (verdict-refused _ r e);
     }
 kept d img (ask.writeNumber q x) =
     record {
-      known = after d img _ (four-known _ _ _ _ _ _ _ _ refl refl refl refl);
+      known = after d img _ (every-append KnownIn _ _ (causes-known true d _ q) (three-known _ _ _ _ _ _ refl refl refl));
       unchanged = λ r e. demand-2 d img .number q x .unchanged r (verdict-refused _ r e);
     }
 kept d img (ask.tier w q) =

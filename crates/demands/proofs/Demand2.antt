@@ -11,7 +11,8 @@ use Rattle.meaning.specs.declared.Reply.{Reply}
 use Rattle.meaning.specs.declared.Place.{Place}
 use Rattle.meaning.specs.Description.{fieldsAt, isUint}
 use Rattle.meaning.specs.Layout.{numberAt}
-use Rattle.meaning.specs.Refusals.{elementPlaceReply, placePart, tablePartReply, elementPartReply, rangeAt, readRangeReply, readRangePart, integerPlace, placeNumber, elementNumberReply}
+use Rattle.meaning.specs.Refusals.{elementPlaceReply, placePart, tablePartReply, elementPartReply, rangeAt, readRangeReply, readRangePart, integerPlaceReply, placeNumber, elementNumberReply}
+use Rattle.laying.proofs.Found.{for-exactly}
 use Rattle.almanac.proofs.Choices.{season-says, special-says}
 use Rattle.almanac.proofs.NextDay.{days}
 use Rattle.demands.specs.Demand2.{Reads, Calendar, Demand2}
@@ -27,8 +28,8 @@ part-told img x p n e = rw e
 
 number-told : (d img : List ℕ) (q : ElementName) (p n : ℕ) → elementPlaceReply d img q ≡ octetsAt p n → isUint (fieldsAt d (q .item)) ≡ true
     → elementNumberReply d img q ≡ Reply.Number (numberAt img p n)
-unfolding elementNumberReply integerPlace placeNumber
-number-told d img q p n e u = rw (e, u)
+unfolding elementNumberReply integerPlaceReply placeNumber
+number-told d img q p n e u = rw (for-exactly d img q true p n .1 ((λ g. u), e))
 
 -- a range inside its place
 range-told : (x : Place) (p size : ℕ) (o : TableOffset) (n : ℕ) → x ≡ octetsAt p size → o .0 + n ≤ size → rangeAt o n x ≡ octetsAt (p + o .0) n

@@ -1,7 +1,7 @@
 -- Of demands 2 and 3: the writes of an element's octets and of its number, which differ in what fits the element and in which elements there are. Assumes nothing.
 use Prim.Native.Nat.{ℕ, _+_, _-_, _^_, _<_, _≤_}
 use mathlib.Core.Path.{_≡_, refl, sym, _∙_, ap}
-use mathlib.Core.Bool.{Bool, true, false}
+use mathlib.Core.Bool.{Bool, true, false, true≢false}
 use mathlib.Core.List.{List}
 use lib.ListN.{length, getD}
 use borrow.Author.Tests.{eqb-true, eq-eqb, ltb-true, lt-ltb}
@@ -15,8 +15,8 @@ use Rattle.meaning.specs.declared.Reply.{Reply}
 use Rattle.meaning.specs.Description.{fieldsAt, isUint}
 use Rattle.meaning.specs.Layout.{Placed, Seat, Slots, dataOrder, numberAt}
 use Rattle.meaning.specs.Passed.{Exactly}
-use Rattle.meaning.specs.Refusals.{opened, refused, openImage, elementIn, placedPlace, placePart, elementPlaceReply, elementPartReply, integerPlace, placeNumber, placeStart, placeLength}
-use Rattle.meaning.specs.Refusals.{elementNumberReply, placeVerdict, tableAround, fitting, allowedAt, octetsPlaceIn, writeOctetsReply, writeOctetsImage}
+use Rattle.meaning.specs.Refusals.{refused, openImage, placePart, elementPlaceIn, elementPlaceReply, integerPlaceReply, elementPartReply, placeNumber, placeStart, placeLength}
+use Rattle.meaning.specs.Refusals.{elementNumberReply, placeVerdict, tableAround, fitting, allowedAt, writtenIn, octetsPlaceIn, writeOctetsReply, writeOctetsImage}
 use Rattle.meaning.specs.Refusals.{numberPlaceIn, writeNumberReply, writeNumberImage}
 use Rattle.meaning.proofs.Octets.{octets-long, octets-back}
 use Rattle.meaning.proofs.Passed.{passed-laws}
@@ -25,8 +25,8 @@ use Rattle.meaning.specs.Numbers.{wrongSize}
 use Rattle.demands.specs.Demand2.{OthersSame, ElementGood, NumberGood, OctetsWrites, NumberWrites}
 use Rattle.demands.specs.Replies.{octetsAt, ours}
 use Rattle.demands.specs.Demand3.{StaysPut}
-use Rattle.laying.proofs.Opened.{Came, opens, refuses, came, opened-image, where-laid, where-opens, integer-exactly}
-use Rattle.laying.proofs.Found.{element-own, element-ends}
+use Rattle.laying.proofs.Opened.{Opens, Came, opens, refuses, came, opened-image, where-opens}
+use Rattle.laying.proofs.Found.{element-own, element-ends, for-exactly}
 use Rattle.demands.proofs.Octets.{octets-below}
 use Rattle.demands.proofs.Dimensions.{found-none, none-found}
 use Rattle.demands.proofs.Writable.{round-writable, writable-round}
@@ -34,17 +34,25 @@ use Rattle.demands.proofs.Allowed.{refused-not, Open, allowed-is, allow
 use Rattle.demands.proofs.Writes.{Taken, writtenWith, with-data, with-number, after, taken-passed, taken-after, taken-others, taken-there, taken-order, taken-stays}
 use Rattle.demands.proofs.Writes.{stays-put, refused-unchanged}
 
+-- what it comes to, of an image that is opened, and of one that isn't
+written-opened : {d img : List ℕ} {ts : List Seat} {es : List Placed} {s : Slots} {total : ℕ} → Opens d img ts es s total → (number : Bool) (fits : ℕ → Bool) (q : ElementName)
+    → writtenIn number fits d img q (openImage d img) ≡ fitting fits (allowedAt d img q es (elementPlaceIn number d q (openImage d img)))
+unfolding writtenIn
+written-opened o number fits q = rw (opened-image o)
+
+written-refused : (d img : List ℕ) (r : Refusal) → openImage d img ≡ refused r → (number : Bool) (fits : ℕ → Bool) (q : ElementName) → writtenIn number fits d img q (openImage d img) ≡ Place.Refused r
+unfolding writtenIn
+written-refused d img r e number fits q = rw e
+
 -- ANY WRITE OF AN ELEMENT
 -- what the write comes to, w, by the tests that it makes: whether an element's length fits, and whether the element is of the sort asked for
 record Write (d img : List ℕ) (q : ElementName) (w : Place) (data′ : ℕ → List ℕ) (Fits : ℕ → Type 0) (Sort : Type 0) : Type 0 where
   fits : ℕ → Bool
   fits-exactly : (n : ℕ) → Exactly (fits n ≡ true) (Fits n)
   long : (n : ℕ) → Fits n → length (data′ n) ≡ n
-  sorted : Place → Place
-  sorted-exactly : (v : Place) (p n : ℕ) → Exactly (sorted v ≡ octetsAt p n) (Sort × (v ≡ octetsAt p n))
-  of-opened : (ts : List Seat) (es : List Placed) (s : Slots) (total : ℕ) → openImage d img ≡ opened ts es s total
-      → w ≡ fitting fits (allowedAt d img q es (sorted (placedPlace (elementIn q es))))
-  of-refused : (r : Refusal) → openImage d img ≡ refused r → w ≡ Place.Refused r
+  number : Bool
+  sorted-exactly : Exactly Sort (number ≡ true → isUint (fieldsAt d (q .item)) ≡ true)
+  is : w ≡ writtenIn number fits d img q (openImage d img)
 
 -- what fits a place is accepted only where the place is
 fitting-only : (fits : ℕ → Bool) (v : Place) → placeVerdict (fitting fits v) ≡ Verdict.Passed → placeVerdict v ≡ Verdict.Passed
@@ -91,8 +99,7 @@ module _ {d img : List ℕ} {q : ElementName} {w : Place} {data′ : ℕ → Lis
   element-taken sort g =
       let a = where-opens d img q (g .start) (g .size) (g .exists) in
       let h = a .opens in
-      let v = placedPlace (elementIn q (a .elements)) in
-      let there = k .sorted-exactly v (g .start) (g .size) .1 (sort, sym (where-laid h q) ∙ g .exists) in
+      let there = for-exactly d img q (k .number) (g .start) (g .size) .1 (k .sorted-exactly .0 sort, g .exists) in
       let free = none-found h (g .start) (g .size) (g .free) in
       let marked = round-writable (passed-laws d (h .passes)) img (element-own a) (g .allowed) in
       record {
@@ -101,7 +108,7 @@ module _ {d img : List ℕ} {q : ElementName} {w : Place} {data′ : ℕ → Lis
         slots = a .slots;
         total = a .total;
         opens = h;
-        is = k .of-opened (a .seats) (a .elements) (a .slots) (a .total) (opened-image h)
+        is = k .is ∙ written-opened h (k .number) (k .fits) q
             ∙ ap (λ (y : Place). fitting (k .fits) (allowedAt d img q (a .elements) y)) there
             ∙ admits-is d img q (a .elements) (k .fits) (g .start) (g .size) (k .fits-exactly (g .size) .1 (g .fits)) (record { marked = marked; free = free });
         long = k .long (g .size) (g .fits);
@@ -115,10 +122,10 @@ module _ {d img : List ℕ} {q : ElementName} {w : Place} {data′ : ℕ → Lis
     where
       go : Came d img → Sort × ElementGood ours d img q Fits
       go (opens ts es s total h) =
-          let r = admits-only d img q es (k .fits) (k .sorted (placedPlace (elementIn q es))) (rw (k .of-opened ts es s total (opened-image h)) at v) in
-          let c = k .sorted-exactly (placedPlace (elementIn q es)) (r .start) (r .size) .0 (r .is) in
-          let there = where-laid h q ∙ c .1 in (
-            c .0,
+          let r = admits-only d img q es (k .fits) (elementPlaceIn (k .number) d q (openImage d img)) (rw (k .is, written-opened h (k .number) (k .fits) q) at v) in
+          let c = for-exactly d img q (k .number) (r .start) (r .size) .0 (r .is) in
+          let there = c .1 in (
+            k .sorted-exactly .1 (c .0),
             record {
               start = r .start;
               size = r .size;
@@ -128,7 +135,7 @@ module _ {d img : List ℕ} {q : ElementName} {w : Place} {data′ : ℕ → Lis
               free = found-none h (r .start) (r .size) (r .allowed .free);
             },
           )
-      go (refuses r e) = absurd (refused-not r (rw (k .of-refused r e) at v))
+      go (refuses r e) = absurd (refused-not r (rw (k .is, written-refused d img r e (k .number) (k .fits) q) at v))
 
   -- every table and element stands where it stood
   element-stays : StaysPut ours d img (writtenWith img data′ w)
@@ -151,16 +158,14 @@ module _ (d img : List ℕ) (q : ElementName) (new : List ℕ) where
 
   -- the tests that it makes
   octets-write : Write d img q octetsPlace (λ n. new) (λ size. length new ≡ size) (Unit {0})
-  unfolding octetsPlaceIn
   octets-write =
       record {
         fits = λ l. length new =? l;
         fits-exactly = λ n. (eqb-true (length new) n, eq-eqb (length new) n);
         long = λ n e. e;
-        sorted = λ v. v;
-        sorted-exactly = λ v p n. (λ e. (tt, e), λ c. c .1);
-        of-opened = λ ts es s total e. rw e;
-        of-refused = λ r e. rw e;
+        number = false;
+        sorted-exactly = (λ x e. absurd (true≢false (sym e)), λ x. tt);
+        is = refl;
       }
 
   -- every table and element stands where it stood
@@ -198,16 +203,14 @@ module _ (d img : List ℕ) (q : ElementName) (x : ℕ) where
 
   -- the tests that it makes
   number-write : Write d img q numberPlace numberOctets (λ size. x < 256 ^ size) Integer
-  unfolding numberPlaceIn
   number-write =
       record {
         fits = λ l. x <? 256 ^ l;
         fits-exactly = λ n. (ltb-true x (256 ^ n), lt-ltb x (256 ^ n));
         long = λ n e. octets-long (dataOrder img) n x;
-        sorted = integerPlace d (q .item);
-        sorted-exactly = integer-exactly d (q .item);
-        of-opened = λ ts es s total e. rw e;
-        of-refused = λ r e. rw e;
+        number = true;
+        sorted-exactly = (λ x e. x, λ x. x refl);
+        is = refl;
       }
 
   -- a good element is the write's place
@@ -221,10 +224,11 @@ module _ (d img : List ℕ) (q : ElementName) (x : ℕ) where
 
   -- its octets make the number again
   number-back : (g : NumberGood ours d img q x) → elementNumberReply d (after (number-taken g)) q ≡ Reply.Number x
-  unfolding elementNumberReply integerPlace placeNumber numberAt
+  unfolding elementNumberReply integerPlaceReply placeNumber numberAt
   number-back g =
       let t = number-taken g in
-      rw (taken-stays t .elements q, g .1 .exists, g .0, taken-order t, taken-there t)
+      let there = for-exactly d (after t) q true (g .1 .start) (g .1 .size) .1 ((λ e. g .0), taken-stays t .elements q ∙ g .1 .exists) in
+      rw (there, taken-order t, taken-there t)
       (ap Reply.Number (octets-back (dataOrder img) (g .1 .size) x (g .1 .fits)))
 
   -- each octet written is one

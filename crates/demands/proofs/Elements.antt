@@ -2,7 +2,6 @@
 -- length, and elements stand in the description's order. Assumes nothing.
 use Prim.Native.Nat.{ℕ, _+_, _-_, _<_, _≤_}
 use mathlib.Core.Path.{_≡_, refl, sym, _∙_, ap}
-use mathlib.Core.Logic.{_⊎_, inl, inr}
 use mathlib.Core.Bool.{Bool, true, false}
 use mathlib.Core.List.{List, _++_}
 use lib.ListN.{length, replicate, length-append, length-replicate}
@@ -10,25 +9,27 @@ use lib.Seq.{take-append-seam}
 use borrow.Author.Tests.{le-leb}
 use native.Mathlib.Omega.{arith}
 use Rattle.meaning.specs.declared.ElementName.{ElementName}
+use Rattle.meaning.specs.Causes.{subscriptsOf}
 use Rattle.meaning.specs.declared.Reply.{Reply}
 use Rattle.meaning.specs.declared.Place.{Place}
 use Rattle.meaning.specs.Description.{itemCount, fieldsAt, isUint}
 use Rattle.meaning.specs.Layout.{Placed, Seat, Slots}
-use Rattle.meaning.specs.Numbers.{noElement}
-use Rattle.meaning.specs.Passed.{Exactly}
-use Rattle.meaning.specs.Refusals.{layoutReply, elementIn, placedPlace, elementPlaceReply, integerPlace, placeNumber, elementNumberReply}
+use Rattle.meaning.specs.Questions.{refusalIn}
+use Rattle.meaning.specs.Refusals.{openImage, placeReply, layoutReply, elementIn, placedPlace, elementPlaceIn, elementPlaceReply, integerPlaceReply, placeNumber, elementNumberReply}
 use Rattle.meaning.proofs.Ranges.{fields-range}
 use Rattle.laying.proofs.Cover.{EndsBy, Consecutive}
 use Rattle.laying.proofs.LaidOut.{elements-follow, elements-end, names-found, subscripts-few}
-use Rattle.demands.specs.Demand3.{Holds, OneElement, NoSuchElement, lengthIn, ElementsStand}
+use Rattle.demands.specs.Causes.{CausesSay}
+use Rattle.demands.specs.Demand3.{Holds, OneElement, lengthIn, ElementsStand}
 use Rattle.demands.specs.Replies.{ours, octetsAt, alone}
-use Rattle.demands.specs.Walk.{numbersIn, subscriptsOf, exists, wayTo, Earlier}
+use Rattle.demands.specs.Walk.{numbersIn, exists, wayTo, Earlier}
 use Rattle.laying.proofs.Opened.{Opens, where-laid, where-found, total-opens}
 use Rattle.laying.proofs.Among.{Among, every-among, ElementOf, named-among, Has, one-has, only-has}
-use Rattle.laying.proofs.Found.{own}
+use Rattle.laying.proofs.Found.{own, for-exactly}
 use Rattle.demands.proofs.Laid.{laid-facts}
-use Rattle.demands.proofs.Names.{cause, caused, dimension-exists, Found, name-found, none-found}
-use Rattle.meaning.proofs.Either.{clash}
+use Rattle.demands.proofs.Names.{dimension-exists, Found, name-found}
+use Rattle.demands.proofs.Causes.{causes-say}
+use Rattle.demands.proofs.Refused.{number-refusal, refused-by}
 
 -- an element's name: its item, and its subscripts filled up to four places
 abbrev pub nameOf : Placed → ElementName
@@ -103,7 +104,7 @@ module _ {d img : List ℕ} {ts : List Seat} {es : List Placed} {s : Slots} {tot
   -- NAMES: each that there is has an element
   pub name-told : (q : ElementName) → exists d (numbersIn d img) q ≡ true → (f : Found o q) × (elementPlaceReply d img q ≡ octetsAt (f .element .start) (f .element .size))
   unfolding placedPlace
-  name-told q h = let f = name-found o q h in (f, where-laid o q ∙ ap placedPlace (f .found))
+  name-told q h = let f = name-found o q h in (f, where-laid o q ∙ ap (placedPlace _) (f .found))
 
   -- as long as its item says
   is-there : (q : ElementName) → exists d (numbersIn d img) q ≡ true
@@ -114,33 +115,17 @@ module _ {d img : List ℕ} {ts : List Seat} {es : List Placed} {s : Slots} {tot
       let long = every-among _ (r .0 .element) es (laid-facts o .long) (n .among) ∙ ap (lengthIn d (numbersIn d img)) (n .item) in
       (r .0 .element .start, rw (← long) (r .1))
 
-  -- and no other has
-  no-such : (q : ElementName) → Exactly (elementPlaceReply d img q ≡ Place.Refused noElement) (NoSuchElement d (numbersIn d img) q)
-  unfolding placedPlace
-  no-such q = (go (exists d (numbersIn d img) q) refl, λ n. where-laid o q ∙ ap placedPlace (none-found o q (caused d (numbersIn d img) q n)))
-    where
-      go : (b : Bool) → exists d (numbersIn d img) q ≡ b → elementPlaceReply d img q ≡ Place.Refused noElement → NoSuchElement d (numbersIn d img) q
-      go true h e = clash (cc (name-told q h .1))
-      go false h e = cause d (numbersIn d img) q h
+  -- and no other has: the first cause is told
+  told-by : (number : Bool) (q : ElementName) → CausesSay number d (numbersIn d img) q (refusalIn (placeReply (elementPlaceIn number d q (openImage d img))))
+  told-by number q = rw (refused-by o number q) (causes-say d (numbersIn d img) q number)
 
-  -- nor has a BLOCK or SET a number
-  no-number : (q : ElementName) → Exactly (elementNumberReply d img q ≡ Reply.Refused noElement) (NoSuchElement d (numbersIn d img) q ⊎ (isUint (fieldsAt d (q .item)) ≡ false))
-  unfolding elementNumberReply integerPlace placeNumber
-  no-number q = (go (exists d (numbersIn d img) q) (isUint (fieldsAt d (q .item))) refl refl, back)
-    where
-      go : (b u : Bool) → exists d (numbersIn d img) q ≡ b → isUint (fieldsAt d (q .item)) ≡ u → elementNumberReply d img q ≡ Reply.Refused noElement
-          → NoSuchElement d (numbersIn d img) q ⊎ (isUint (fieldsAt d (q .item)) ≡ false)
-      go b false h g e = inr g
-      go false true h g e = inl (cause d (numbersIn d img) q h)
-      go true true h g e = let k = rw (name-told q h .1, g) at e in clash (cc)
+  no-element : (q : ElementName) → CausesSay false d (numbersIn d img) q (refusalIn (placeReply (elementPlaceReply d img q)))
+  unfolding elementPlaceReply
+  no-element q = told-by false q
 
-      back : NoSuchElement d (numbersIn d img) q ⊎ (isUint (fieldsAt d (q .item)) ≡ false) → elementNumberReply d img q ≡ Reply.Refused noElement
-      back (inl n) = rw (no-such q .1 n)
-      back (inr g) = other (exists d (numbersIn d img) q) refl
-        where
-          other : (b : Bool) → exists d (numbersIn d img) q ≡ b → elementNumberReply d img q ≡ Reply.Refused noElement
-          other true h = rw (name-told q h .1, g)
-          other false h = rw (no-such q .1 (cause d (numbersIn d img) q h))
+  no-number : (q : ElementName) → CausesSay true d (numbersIn d img) q (refusalIn (elementNumberReply d img q))
+  unfolding elementNumberReply integerPlaceReply
+  no-number q = rw (number-refusal img (elementPlaceIn true d q (openImage d img))) (told-by true q)
 
   -- the description's order
   in-order : (q r : ElementName) (p n x m : ℕ) → elementPlaceReply d img q ≡ octetsAt p n → elementPlaceReply d img r ≡ octetsAt x m
@@ -153,14 +138,15 @@ module _ {d img : List ℕ} {ts : List Seat} {es : List Placed} {s : Slots} {tot
 
   -- THE DIMENSIONS: the number question answers a slot's number
   dimension-number : (i : ℕ) → i < itemCount d → 0 < fieldsAt d i .sets → elementNumberReply d img (alone i) ≡ Reply.Number (numbersIn d img (fieldsAt d i .sets))
-  unfolding elementNumberReply integerPlace placeNumber
+  unfolding elementNumberReply integerPlaceReply placeNumber
   dimension-number i l sets =
       let r = name-told (alone i) (dimension-exists d (o .passes) (numbersIn d img) i l sets) in
       let e = r .0 .element in
       let m = r .0 .of .among in
       let slot : e .slot ≡ fieldsAt d i .sets = sym (own o e m .sets) ∙ ap (λ j. fieldsAt d j .sets) (r .0 .of .item) in
       let number = every-among _ e es (laid-facts o .dimensions) m (omega arith) in
-      rw (r .1, fields-range d i .dimension sets, number, slot)
+      let kind = fields-range d i .dimension sets in
+      rw (for-exactly d img (alone i) true (e .start) (e .size) .1 ((λ z. rw kind), r .1), number, slot)
 
 -- laid out, elements stand so
 pub elements-stand : (d img : List ℕ) (total : ℕ) → layoutReply d img ≡ Reply.Total total → ElementsStand ours d img total
@@ -171,7 +157,7 @@ elements-stand d img total e =
       ends = ends-by o;
       dimensions = dimension-number o;
       there = is-there o;
-      none = no-such o;
+      noElement = no-element o;
       noNumber = no-number o;
       order = in-order o;
     }

@@ -21,12 +21,12 @@ use Rattle.meaning.specs.declared.Quantity.{Quantity}
 use Rattle.meaning.specs.declared.Place.{Place}
 use Rattle.meaning.specs.declared.Refusal.{Refusal}
 use Rattle.meaning.specs.declared.Verdict.{Verdict}
-use Rattle.meaning.specs.Description.{itemCount, fieldsAt, isUint, checkReply}
+use Rattle.meaning.specs.Description.{itemCount, checkReply}
 use Rattle.meaning.specs.Layout.{Placed, Seat, Slots, tableNamed, dataOrder}
 use Rattle.meaning.specs.Refusals.{verdictReply, placeReply, refused, openImage, layoutIn, layoutReply, seatPlace, tablePlaceIn, tablePlaceReply, placePart, tablePartReply, rangeAt, readRangeReply, placeStart, placeLength}
-use Rattle.meaning.specs.Refusals.{elementIn, placedPlace, elementPlaceIn, elementPlaceReply, integerPlace, placeNumber, elementNumberReply, placeVerdict}
-use Rattle.meaning.specs.Refusals.{writable, anyDimension, allowed, rangeOf, rangeIn, rangePlace, writeRangeReply, fitting, allowedAt, octetsPlaceIn}
-use Rattle.meaning.specs.Refusals.{writeOctetsReply, numberPlaceIn, writeNumberReply, tableAround}
+use Rattle.meaning.specs.Refusals.{opened, elementPlaceIn, elementPlaceReply, integerPlaceReply, placeNumber, elementNumberReply, placeVerdict}
+use Rattle.meaning.specs.Refusals.{writable, anyDimension, allowed, rangeOf, rangeIn, rangePlace, writeRangeReply, fitting, allowedAt, writtenIn}
+use Rattle.meaning.specs.Refusals.{writeOctetsReply, writeNumberReply, tableAround}
 use Rattle.meaning.specs.Calendar.{Found, found, missing, realDate, realTime, controlsOf, table54Size, missingSpecial}
 use Rattle.meaning.specs.Calendar.{tierFrom, sized, seatOctets, seatsFound, calendarIn, calendar, tierOn, tierDay, tierIn, tierReply, seasonStands, seasonedIn, seasonedReply, weekdayReply}
 use Rattle.meaning.specs.Calendar.{matrixVerdictIn, matrixVerdict}
@@ -34,14 +34,18 @@ use Rattle.meaning.specs.Calendar.{tierBySchedule, datesOf}
 use Rattle.meaning.proofs.Either.{tested}
 use Rattle.meaning.specs.Questions as ask
 use Rattle.meaning.specs.Questions.{Question, refusalIn}
-use Rattle.meaning.specs.Numbers.{imageShort, noTable, noElement, outsideTable, notWritable, holdsDimension, wrongSize, notADate, seasonChangeArmed, noRowOrColumn, notACalendar}
-use Rattle.laying.proofs.Opened.{Opens, opening, opened-image, total-laid, table-laid, where-laid}
-use Rattle.demands.specs.Demand1.{given, firstOf, eight, nineFrom, ten, eleven, elevenNumber, twelve, thirteen, tableItem, fourteen, fifteen}
+use Rattle.meaning.specs.Numbers.{imageShort, noTable, outsideTable, notWritable, holdsDimension, wrongSize, notADate, seasonChangeArmed, noRowOrColumn, notACalendar}
+use Rattle.laying.proofs.Opened.{Opens, opening, opened-image, total-laid, table-laid}
+use Rattle.laying.proofs.Found.{for-exactly}
+use Rattle.demands.specs.Given.{given, firstOf}
+use Rattle.demands.specs.Demand1.{eight, nineFrom, ten, causesIn, twelve, thirteen, tableItem, fourteen, fifteen}
 use Rattle.demands.specs.Demand1.{twenty, nineteen, sixteenToNineteen, sixteen, ofCalendar, ofMoment, refusalsOf}
 use Rattle.demands.specs.Replies.{ours, outcomeBy}
 use Rattle.demands.specs.Walk.{octetBefore, runsPast, FirstPast}
 use Rattle.demands.proofs.Laid.{laid-facts, short-first}
-use Rattle.demands.proofs.Tests.{noSeat, noPlaced, table-test, table-item, element-test, dimension-test}
+use Rattle.demands.proofs.Tests.{noSeat, table-test, table-item, dimension-test}
+use Rattle.demands.proofs.Causes.{orElse, first-append}
+use Rattle.demands.proofs.Refused.{number-refusal, refused-by}
 
 -- the refusal of a verdict and of a place
 abbrev verdictRefusal : Verdict → Option Refusal
@@ -92,17 +96,6 @@ unfolding refusalIn placeReply rangeAt seatPlace firstOf given noSeat
 read-first o n none = refl
 read-first o n (some t) = test-first placeRefusal (t .size <? o .0 + n) outsideTable _ _ [] refl refl
 
-element-first : (x : Option Placed) → placeRefusal (placedPlace x) ≡ firstOf (given (noPlaced x) noElement ∷ [])
-unfolding refusalIn placeReply placedPlace firstOf given noPlaced
-element-first none = refl
-element-first (some e) = refl
-
-number-first : (d img : List ℕ) (i : ℕ) (x : Option Placed)
-    → refusalIn (placeNumber img (integerPlace d i (placedPlace x))) ≡ firstOf (given (noPlaced x || not (isUint (fieldsAt d i))) noElement ∷ [])
-unfolding refusalIn placeNumber integerPlace placedPlace firstOf given noPlaced
-number-first d img i none = refl
-number-first d img i (some e) = fails-first (λ v. refusalIn (placeNumber img v)) (isUint (fieldsAt d i)) noElement _ _ [] refl refl
-
 -- 13 and 14, and what comes behind them: a place that fits, or 15
 module _ (d img : List ℕ) (es : List Placed) where
   abbrev behind : (t p n : ℕ) → List (Option Refusal) → List (Option Refusal)
@@ -132,22 +125,15 @@ module _ (d img : List ℕ) (es : List Placed) where
       (test-first writeRefusal (t .size <? o .0 + n) outsideTable _ _ (behind (t .item) (t .start + o .0) n []) refl (allowed-first (t .item) (t .start + o .0) n))
 
   module _ (q : ElementName) (fits : ℕ → Bool) where
-    abbrev behindElement : Option Placed → List (Option Refusal)
-    behindElement x = behind (tableAround d (q .item)) (placeStart (placedPlace x)) (placeLength (placedPlace x)) (given (not (fits (placeLength (placedPlace x)))) wrongSize ∷ [])
+    abbrev behindElement : Place → List (Option Refusal)
+    behindElement x = behind (tableAround d (q .item)) (placeStart x) (placeLength x) (given (not (fits (placeLength x))) wrongSize ∷ [])
 
-    octets-first : (x : Option Placed) → writeRefusal (fitting fits (allowedAt d img q es (placedPlace x))) ≡ firstOf (given (noPlaced x) noElement ∷ behindElement x)
-    unfolding placedPlace allowedAt fitting noPlaced firstOf given refusalIn verdictReply placeVerdict
-    octets-first none = refl
-    octets-first (some e) = fitting-first fits (tableAround d (q .item)) (e .start) (e .size)
-
-    integer-first : (x : Option Placed)
-        → writeRefusal (fitting fits (allowedAt d img q es (integerPlace d (q .item) (placedPlace x))))
-        ≡ firstOf (given (noPlaced x || not (isUint (fieldsAt d (q .item)))) noElement ∷ behindElement x)
-    unfolding placedPlace integerPlace allowedAt fitting noPlaced firstOf given refusalIn verdictReply placeVerdict
-    integer-first none = refl
-    integer-first (some e) =
-        fails-first (λ v. writeRefusal (fitting fits (allowedAt d img q es v))) (isUint (fieldsAt d (q .item))) noElement _ _ (behindElement (some e)) refl
-        (fitting-first fits (tableAround d (q .item)) (e .start) (e .size))
+    -- where the element is, x; and y where its number isn't asked
+    element-first : (x y : Place) → ((p n : ℕ) → x ≡ Place.At (record { 0 = p }) n → y ≡ x)
+        → writeRefusal (fitting fits (allowedAt d img q es x)) ≡ orElse (placeRefusal x) (firstOf (behindElement y))
+    unfolding allowedAt fitting refusalIn verdictReply placeReply placeVerdict orElse
+    element-first (Place.At p n) y h = rw (h (p .0) n refl) (fitting-first fits (tableAround d (q .item)) (p .0) n)
+    element-first (Place.Refused r) y h = refl
 
 -- THE CALENDAR
 -- found, and none of 10 and 20 given; or one of them is
@@ -261,17 +247,17 @@ FirstGiven d img q = refusalIn (outcomeBy ours q d img .reply) ≡ firstOf (refu
 
 -- the questions opened, up to what the image came to
 unfoldable asking : Unit {0}
-unfolding outcomeBy refusalsOf elementPlaceReply elementPlaceIn elementNumberReply tierReply seasonedReply matrixVerdict calendar calendarIn
+unfolding outcomeBy refusalsOf elementPlaceReply elementPlaceIn elementNumberReply integerPlaceReply tierReply seasonedReply matrixVerdict calendar calendarIn
 asking = tt
 
 unfoldable writing : Unit {0}
-unfolding writeRangeReply rangePlace rangeIn writeOctetsReply octetsPlaceIn writeNumberReply numberPlaceIn
+unfolding writeRangeReply rangePlace rangeIn writeOctetsReply writeNumberReply writtenIn
 writing = tt
 
 -- one of 1 to 9 given: every question about an image gets it
 module _ (d img : List ℕ) (r : Refusal) (e : openImage d img ≡ refused r) (f : firstOf (refusalsOf ours ask.layout d img) ≡ some r) where
   refused-first : (q : Question) → FirstGiven d img q
-  unfolding asking writing firstOf refusalIn verdictReply placeReply layoutReply layoutIn tablePlaceReply tablePlaceIn readRangeReply rangeAt integerPlace placeNumber placeVerdict tierIn seasonedIn matrixVerdictIn
+  unfolding asking writing firstOf refusalIn verdictReply placeReply layoutReply layoutIn tablePlaceReply tablePlaceIn readRangeReply rangeAt placeNumber placeVerdict tierIn seasonedIn matrixVerdictIn
   refused-first ask.check = sound-given (verdictRefusal (checkReply d))
   refused-first ask.layout = rw e (sym f)
   refused-first (ask.tablePlace m k) = rw e
@@ -305,14 +291,6 @@ module _ {d img : List ℕ} {ts : List Seat} {es : List Placed} {s : Slots} {n :
   unfolding ten
   ten-is m k = rw (table-test o m k)
 
-  eleven-is : (q : ElementName) → eleven d img q ≡ given (noPlaced (elementIn q es)) noElement
-  unfolding eleven
-  eleven-is q = rw (element-test o q)
-
-  number-is : (q : ElementName) → elevenNumber d img q ≡ given (noPlaced (elementIn q es) || not (isUint (fieldsAt d (q .item)))) noElement
-  unfolding elevenNumber
-  number-is q = rw (element-test o q)
-
   fourteen-is : (p l : ℕ) → fourteen ours d img p l ≡ given (anyDimension es p l) holdsDimension
   unfolding fourteen
   fourteen-is p l = rw (dimension-test o p l)
@@ -329,12 +307,13 @@ module _ {d img : List ℕ} {ts : List Seat} {es : List Placed} {s : Slots} {n :
   unfolding outcomeBy refusalsOf readRangeReply twelve
   read-opened m k p l = rw (behind-layout, ten-is m k, table-laid o m k) (read-first p l (tableNamed m k ts))
 
-  element-opened : (q : ElementName) → placeRefusal (elementPlaceReply d img q) ≡ firstOf (refusalIn (layoutReply d img) ∷ eleven d img q ∷ [])
-  element-opened q = rw (behind-layout, eleven-is q, where-laid o q) (element-first (elementIn q es))
+  element-opened : (q : ElementName) → placeRefusal (elementPlaceReply d img q) ≡ firstOf (refusalIn (layoutReply d img) ∷ causesIn false d img q)
+  unfolding elementPlaceReply
+  element-opened q = rw behind-layout (refused-by o false q)
 
-  number-opened : (q : ElementName) → refusalIn (elementNumberReply d img q) ≡ firstOf (refusalIn (layoutReply d img) ∷ elevenNumber d img q ∷ [])
-  unfolding elementNumberReply
-  number-opened q = rw (behind-layout, number-is q, where-laid o q) (number-first d img (q .item) (elementIn q es))
+  number-opened : (q : ElementName) → refusalIn (elementNumberReply d img q) ≡ firstOf (refusalIn (layoutReply d img) ∷ causesIn true d img q)
+  unfolding elementNumberReply integerPlaceReply
+  number-opened q = rw behind-layout (number-refusal img _ ∙ refused-by o true q)
 
   -- the three writes
   range-opened : (m k : ℕ) (p : TableOffset) (new : List ℕ) → FirstGiven d img (ask.writeRange m k p new)
@@ -343,15 +322,24 @@ module _ {d img : List ℕ} {ts : List Seat} {es : List Placed} {s : Slots} {n :
       rw (behind-layout, ten-is m k, fourteen-is, table-laid o m k, opened-image o)
       (range-first d img es p (length new) (tableItem d (itemCount d) m k) (tableNamed m k ts) (table-item o m k))
 
+  -- of an element, behind its causes
+  written-first : (number : Bool) (fits : ℕ → Bool) (q : ElementName)
+      → writeRefusal (writtenIn number fits d img q (openImage d img)) ≡ firstOf (causesIn number d img q ++ behindElement d img es q fits (elementPlaceReply d img q))
+  unfolding writtenIn
+  written-first number fits q =
+      rw (first-append, ← refused-by o number q, opened-image o)
+      (element-first d img es q fits (elementPlaceIn number d q (opened ts es s n)) (elementPlaceReply d img q)
+      (λ p l e.
+      let there = for-exactly d img q number p l .0 (rw (opened-image o) e) .1 in
+      there ∙ sym e))
+
   octets-opened : (q : ElementName) (new : List ℕ) → FirstGiven d img (ask.writeOctets q new)
-  unfolding outcomeBy refusalsOf writeOctetsReply octetsPlaceIn thirteen fifteen
-  octets-opened q new =
-      rw (behind-layout, eleven-is q, fourteen-is, where-laid o q, opened-image o) (octets-first d img es q (λ l. length new =? l) (elementIn q es))
+  unfolding outcomeBy refusalsOf writeOctetsReply thirteen fifteen
+  octets-opened q new = rw (behind-layout, fourteen-is) (written-first false (λ l. length new =? l) q)
 
   integer-opened : (q : ElementName) (x : ℕ) → FirstGiven d img (ask.writeNumber q x)
-  unfolding outcomeBy refusalsOf writeNumberReply numberPlaceIn thirteen fifteen
-  integer-opened q x =
-      rw (behind-layout, number-is q, fourteen-is, where-laid o q, opened-image o) (integer-first d img es q (λ l. x <? 256 ^ l) (elementIn q es))
+  unfolding outcomeBy refusalsOf writeNumberReply thirteen fifteen
+  integer-opened q x = rw (behind-layout, fourteen-is) (written-first true (λ l. x <? 256 ^ l) q)
 
   -- the calendar
   calendar-is : ofCalendar ours d img ≡ tenAndTwenty img (tableNamed 0 0 ts) (tableNamed 0 51 ts) (tableNamed 0 54 ts)

@@ -10,12 +10,11 @@ use Rattle.meaning.specs.declared.Fields.{Fields}
 use Rattle.meaning.specs.Description.{itemCount, fieldsAt, nested}
 use Rattle.meaning.specs.Description.{inside as enclosed}
 use Rattle.meaning.specs.Layout.{bodyAt, tablesOf, treeOf, Slots, unread, Placed, fault, short, Laid, laid, stopped}
-use Rattle.meaning.specs.Layout.{Seat, Layout, laidOut, stoppedAt, before, seated, layTables, layOut, layBody}
+use Rattle.meaning.specs.Layout.{Seat, Layout, laidOut, stoppedAt, before, seated, layTables, layOut, layBody, Numbers, numberOf}
 use Rattle.meaning.specs.Passed.{PassedLaws, endOf}
 use Rattle.meaning.proofs.Rules.{slot-none}
 use Rattle.laying.specs.Every.{Every}
-use Rattle.laying.specs.Sizes.{Numbers}
-use Rattle.laying.specs.Slots.{numberOf, octetsOf, Matches}
+use Rattle.laying.specs.Slots.{octetsOf, Matches}
 use Rattle.laying.specs.Sound.{Known, noneKnown, afterBody}
 use Rattle.laying.proofs.Bodies.{Same}
 use Rattle.laying.proofs.Every.{every-append}

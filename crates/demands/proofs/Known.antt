@@ -2,31 +2,34 @@
 use Prim.Native.Nat.{ℕ, zero, suc, _+_}
 use mathlib.Core.Path.{_≡_, refl, sym, ap, subst}
 use mathlib.Core.Logic.{inl, inr}
-use mathlib.Core.Bool.{Bool, true, false, true≢false}
-use mathlib.Core.List.{List, [], _∷_}
+use mathlib.Core.Bool.{Bool, true, false, not, true≢false}
+use mathlib.Core.List.{List, [], _∷_, map}
 use mathlib.Core.Option.{Option, some, none}
 use borrow.Author.Tests.{le-leb, ne-eqb}
 use native.Mathlib.Omega.{arith}
+use Rattle.meaning.specs.declared.ElementName.{ElementName}
 use Rattle.meaning.specs.declared.Refusal.{Refusal}
 use Rattle.meaning.specs.declared.Verdict.{Verdict}
-use Rattle.meaning.specs.Description.{itemCount, checkReply}
+use Rattle.meaning.specs.Description.{itemCount, fieldsAt, isArray, checkReply}
 use Rattle.meaning.specs.Passed.{OfRules}
 use Rattle.meaning.proofs.Passed.{check-says}
 use Rattle.meaning.specs.Refusals.{verdictReply, layoutReply}
 use Rattle.meaning.specs.Questions as ask
 use Rattle.meaning.specs.Questions.{refusalIn}
-use Rattle.meaning.specs.Numbers.{reportsItem, isGiven, numbered, imageShort}
+use Rattle.meaning.specs.Numbers.{reportsItem, isGiven, numbered, imageShort, subscriptTooLarge}
 use Rattle.meaning.proofs.Either.{tested}
 use Rattle.laying.specs.Every.{Every}
-use Rattle.demands.specs.Demand1.{given, firstOf, eight, nineFrom, refusalsOf, OnPaper}
+use Rattle.demands.specs.Causes.{isOpen, toldAt, atNest, causesOf}
+use Rattle.demands.specs.Given.{given, firstOf}
+use Rattle.demands.specs.Demand1.{eight, nineFrom, refusalsOf, OnPaper}
 use Rattle.demands.specs.Replies.{ours, outcomeBy}
-use Rattle.demands.specs.Walk.{octetBefore, runsPast}
+use Rattle.demands.specs.Walk.{octetBefore, runsPast, nestsRound}
 use Rattle.demands.proofs.FirstGiven.{first-given}
 
 -- BY ITS NUMBER ON THE PAPER
 -- a number that reports nothing
 on-paper : (n : ℕ) → isGiven n ≡ true → OnPaper (numbered n)
-on-paper n h = record { listed = h; atItem = λ e. refl; atOctet = λ e. refl }
+on-paper n h = record { listed = h; atItem = λ e. refl; atOctet = λ e. refl; atDepth = λ e. refl }
 
 -- of a list
 unfoldable pub KnownIn : Option Refusal → Type 0
@@ -56,9 +59,10 @@ rules-known : (r : Refusal) → OfRules r → OnPaper r
 rules-known r (inl e) = subst OnPaper (sym e) (on-paper 1 refl)
 rules-known r (inr (least, most, e)) =
     record {
-      listed = rw (le-leb 1 (r .number) (omega arith), le-leb (r .number) 20 (omega arith), ne-eqb (r .number) 17 (λ e. omega arith));
+      listed = rw (le-leb 1 (r .number) (omega arith), le-leb (r .number) 20 (omega arith), ne-eqb (r .number) 11 (λ e. omega arith), ne-eqb (r .number) 17 (λ e. omega arith));
       atItem = λ f. absurd (clash f);
       atOctet = λ f. ap (λ (x : Refusal). x .octet) e;
+      atDepth = λ f. ap (λ (x : Refusal). x .depth) e;
     }
   where
     clash : reportsItem (r .number) ≡ false → ⊥
@@ -73,7 +77,7 @@ sound-known d = go (checkReply d) refl
     go (Verdict.Refused r) e = rules-known r (check-says d .nothingElse r e)
 
 short-known : (i p : ℕ) → OnPaper (imageShort i p)
-short-known i p = record { listed = refl; atItem = λ e. absurd (true≢false e); atOctet = λ e. absurd (true≢false e) }
+short-known i p = record { listed = refl; atItem = λ e. absurd (true≢false e); atOctet = λ e. absurd (true≢false e); atDepth = λ e. refl }
 
 nine-known : (d img : List ℕ) (n i : ℕ) → KnownIn (nineFrom d img n i)
 unfolding nineFrom KnownIn
@@ -108,3 +112,21 @@ three-known a b c p q r h i j = known-more _ _ (given-known a p h) (two-known b 
 pub four-known : (a b c d : Bool) (p q r s : ℕ) → isGiven p ≡ true → isGiven q ≡ true → isGiven r ≡ true → isGiven s ≡ true
     → Every KnownIn (given a (numbered p) ∷ given b (numbered q) ∷ given c (numbered r) ∷ given d (numbered s) ∷ [])
 four-known a b c d p q r s h i j k = known-more _ _ (given-known a p h) (three-known b c d q r s i j k)
+
+-- WHY THERE IS NO SUCH ELEMENT: 22, 26, 24, then 23 or 25 of each ARRAY and IF round it
+nest-known : (d : List ℕ) (v : ℕ → ℕ) (q : ElementName) (j : ℕ) → KnownIn (atNest d v q j)
+unfolding atNest toldAt given KnownIn
+nest-known d v q j = tested KnownIn (not (isOpen d v q j)) _ _ (λ h. tested OnPaper (isArray (fieldsAt d j)) _ _ (λ a. deep) (λ a. on-paper 23 refl)) (λ h. tt)
+  where
+    deep : {k : ℕ} → OnPaper (subscriptTooLarge k)
+    deep = record { listed = refl; atItem = λ e. refl; atOctet = λ e. refl; atDepth = λ e. absurd (true≢false e) }
+
+nests-known : (d : List ℕ) (v : ℕ → ℕ) (q : ElementName) (js : List ℕ) → Every KnownIn (map (atNest d v q) js)
+unfolding Every
+nests-known d v q [] = tt
+nests-known d v q (j ∷ js) = (nest-known d v q j, nests-known d v q js)
+
+pub causes-known : (number : Bool) (d : List ℕ) (v : ℕ → ℕ) (q : ElementName) → Every KnownIn (causesOf number d v q)
+unfolding causesOf
+causes-known number d v q =
+    known-more _ _ (given-known _ 22 refl) (known-more _ _ (given-known _ 26 refl) (known-more _ _ (given-known _ 24 refl) (nests-known d v q (nestsRound d (q .item)))))

@@ -9,11 +9,10 @@ use borrow.Author.Tests.{eqb-true, ltb-true, lt-ltb, eq-eqb}
 use native.Mathlib.Omega.{arith}
 use Rattle.meaning.specs.Basics.{_=?_, _<?_}
 use Rattle.meaning.specs.Description.{itemCount, fieldsAt, isElement}
-use Rattle.meaning.specs.Layout.{treeOf, Slots, Placed, short, Seat, stoppedAt, layOut}
+use Rattle.meaning.specs.Layout.{treeOf, Slots, Placed, short, Seat, stoppedAt, layOut, Numbers, slotNumbers}
 use Rattle.meaning.specs.Passed.{Passes}
 use Rattle.meaning.proofs.Passed.{passed-laws}
 use Rattle.laying.specs.Every.{Every}
-use Rattle.laying.specs.Sizes.{Numbers}
 use Rattle.laying.proofs.Among.{Among, every-among}
 use Rattle.laying.proofs.Cover.{Lies, Consecutive, no-more, next, consecutive-fill}
 use Rattle.laying.proofs.Every.{every-map}
@@ -114,6 +113,13 @@ laid-facts {d} {img} {ts} {es} {s} {total} o =
       order = λ e f a b k. stands-earlier d w (elements-follow d img ts es s total (o .laid)) (n .sorted) e f a b (rw (round-from d (e .item), round-from d (f .item)) k);
       dimensions = h .dimensions;
     }
+
+-- the numbers of the slots are those of the dimensions
+pub laid-numbers : {d img : List ℕ} {ts : List Seat} {es : List Placed} {s : Slots} {total : ℕ} → Opens d img ts es s total → slotNumbers s ≡ numbersIn d img
+laid-numbers {d} {img} {ts} {es} {s} {total} o =
+    let w = numbersIn d img in
+    let h : TablesWalked d img 0 (namesTables (treeOf d) w) ts es s total = subst (WalksAll d img 0 (namesTables (treeOf d) w)) (o .laid) (walks-all d img (passed-laws d (o .passes))) in
+    sym (ap (λ (r : Reached). r .numbers) (h .here))
 
 pub short-first : (d img : List ℕ) → Passes d → (es : List Placed) (i p : ℕ) → layOut d img ≡ stoppedAt es (short i p) → FirstPast d img i p
 short-first d img passes es i p e =

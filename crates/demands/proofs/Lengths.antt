@@ -7,8 +7,8 @@ use borrow.Author.Tests.{ne-eqb}
 use native.Mathlib.Omega.{arith}
 use Rattle.meaning.specs.Basics.{_<?_}
 use Rattle.meaning.specs.Description.{fieldsAt, isArray, isChoice, nested}
-use Rattle.meaning.specs.Layout.{branchesIn, ifBranches, branchesOf, taken, bodyIn, bodyAt, leafOctets}
-use Rattle.laying.specs.Sizes.{Numbers, value, bodySize, itemSize}
+use Rattle.meaning.specs.Layout.{branchesIn, ifBranches, branchesOf, taken, bodyIn, bodyAt, leafOctets, Numbers, value}
+use Rattle.laying.specs.Sizes.{bodySize, itemSize}
 use Rattle.laying.specs.Sound.{FitBody, FitNode}
 use Rattle.laying.specs.Tree.{innerAt, nodeAt}
 use Rattle.laying.proofs.Arms.{taken-size, taken-fit}

@@ -1,6 +1,7 @@
 pub mod Allowed
 pub mod Around
 pub mod Calendar
+pub mod Causes
 pub mod Demand1
 pub mod Demand2
 pub mod Demand3
@@ -37,6 +38,7 @@ pub mod Outcomes
 pub mod Pieces
 pub mod RangeWrites
 pub mod Reading
+pub mod Refused
 pub mod Rules
 pub mod Sending
 pub mod Serving
@@ -52,5 +54,6 @@ pub mod Weekdays
 pub mod Writable
 pub mod Writes
 pub mod Wrong
+pub mod WrongCauses
 pub mod WrongMessages
 pub mod WrongWeekdays

@@ -9,6 +9,7 @@ use lib.ListN.{length}
 use borrow.Author.Tests.{lt-ltb, ltb-true, eqb-true}
 use Rattle.meaning.specs.Basics.{if_then_else_, _=?_, _<?_, _≤?_}
 use Rattle.meaning.specs.declared.ElementName.{ElementName}
+use Rattle.meaning.specs.Causes.{subscriptsOf}
 use Rattle.meaning.specs.Description.{itemCount, fieldsAt, isElement, nests}
 use Rattle.meaning.specs.Layout.{Placed, Seat, Slots, elementNamed}
 use Rattle.meaning.specs.Passed.{Passes, endOf}
@@ -18,10 +19,9 @@ use Rattle.meaning.proofs.Ranges.{fields-range}
 use Rattle.laying.proofs.Among.{every-among, ElementOf, named-among}
 use Rattle.laying.proofs.LaidOut.{names-found}
 use Rattle.laying.proofs.Opened.{Opens}
-use Rattle.demands.specs.Demand3.{NoSuchElement, notOne, fewOrMany, notBelow, notChosen}
 use Rattle.demands.specs.Replies.{alone}
 use Rattle.demands.specs.Rules.{NestRound}
-use Rattle.demands.specs.Walk.{encloses, nestsIn, nestsRound, arraysOf, arraysRound, allChosen, isChosen, numbersIn, allBelow, hasElement, subscriptsOf, exists}
+use Rattle.demands.specs.Walk.{encloses, nestsIn, nestsRound, arraysOf, arraysRound, allChosen, isChosen, numbersIn, allBelow, hasElement, exists}
 use Rattle.demands.proofs.Laid.{laid-facts}
 use Rattle.demands.proofs.Rules.{check-in-words}
 
@@ -48,44 +48,17 @@ module _ (d : List ℕ) (v : ℕ → ℕ) (i : ℕ) (xs : List ℕ) where
   pub name-long : hasElement d v i xs ≡ true → length xs ≡ length (arraysRound d i)
   name-long h = eqb-true _ _ (name-tests h .1)
 
--- THE CAUSES OF "NO SUCH ELEMENT" are the tests that fail
-not-true : (b : Bool) → (b ≡ true → ⊥) → b ≡ false
-not-true true h = absurd (h refl)
-not-true false h = refl
-
-first-cause : {A : Type 0} (few one many low taken : Bool) → (one ≡ false → A) → ((few && many) ≡ false → A) → (low ≡ false → A) → (taken ≡ false → A)
-    → (few && (one && many && low && taken)) ≡ false → A
-first-cause false b c e f k l m n h = l refl
-first-cause true false c e f k l m n h = k refl
-first-cause true true false e f k l m n h = l refl
-first-cause true true true false f k l m n h = m refl
-first-cause true true true true f k l m n h = n h
-
+-- and there is one
 module _ (d : List ℕ) (v : ℕ → ℕ) (q : ElementName) where
-  pub cause : exists d v q ≡ false → NoSuchElement d v q
-  unfolding exists hasElement
-  cause =
-      first-cause (q .count ≤? 4) (isOne d v (q .item) (subscriptsOf q)) (asMany d v (q .item) (subscriptsOf q)) (below d v (q .item) (subscriptsOf q)) (isChosen d v (q .item))
-      notOne fewOrMany notBelow notChosen
-
   exists-tests : exists d v q ≡ true → ((q .count ≤? 4) ≡ true) × (hasElement d v (q .item) (subscriptsOf q) ≡ true)
   unfolding exists
   exists-tests h = and-eq-true-iff (q .count ≤? 4) (hasElement d v (q .item) (subscriptsOf q)) .0 h
 
-  no-cause : NoSuchElement d v q → exists d v q ≡ true → ⊥
-  no-cause n h = go n (exists-tests h .0) (name-tests d v (q .item) (subscriptsOf q) (exists-tests h .1))
-    where
-      go : NoSuchElement d v q → (q .count ≤? 4) ≡ true
-          → (isOne d v (q .item) (subscriptsOf q) ≡ true) × (asMany d v (q .item) (subscriptsOf q) ≡ true) × (below d v (q .item) (subscriptsOf q) ≡ true)
-          × (isChosen d v (q .item) ≡ true)
-          → ⊥
-      go (notOne f) few t = true≢false (sym (t .0) ∙ f)
-      go (fewOrMany f) few t = true≢false (rw (few, t .1) at f)
-      go (notBelow f) few t = true≢false (sym (t .2) ∙ f)
-      go (notChosen f) few t = true≢false (sym (t .3) ∙ f)
-
-  pub caused : NoSuchElement d v q → exists d v q ≡ false
-  caused n = not-true (exists d v q) (no-cause n)
+  -- its item is one of the description's
+  pub name-there : exists d v q ≡ true → (q .item <? itemCount d) ≡ true
+  name-there h =
+      and-eq-true-iff (q .item <? itemCount d) (isElement (fieldsAt d (q .item))) .0
+      (name-tests d v (q .item) (subscriptsOf q) (exists-tests h .1) .0) .0
 
 -- WHAT STANDS ROUND A DIMENSION: no ARRAY or IF
 module _ (d : List ℕ) where

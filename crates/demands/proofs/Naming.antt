@@ -13,12 +13,11 @@ use Rattle.meaning.specs.Basics.{if_then_else_, _<?_}
 use Rattle.meaning.specs.declared.Fields.{Fields}
 use Rattle.meaning.specs.Description.{itemCount, fieldsAt, isElement, isArray, isChoice, nests, nested}
 use Rattle.meaning.specs.Layout.{Node, Body, Arms, Tables, leaf, array, choice, stray, done, more, lastArm, arm, noMore, table, strayTable, leafOctets}
-use Rattle.meaning.specs.Layout.{Branches, otherwise, branch, branchesIn, ifBranches, branchesOf, taken, bodyIn, armsOf, bodyAt}
+use Rattle.meaning.specs.Layout.{Branches, otherwise, branch, branchesIn, ifBranches, branchesOf, taken, bodyIn, armsOf, bodyAt, Numbers, value}
 use Rattle.meaning.specs.Passed.{BodiesNest, endOf}
 use Rattle.meaning.proofs.Either.{tested}
 use Rattle.meaning.proofs.Ranges.{fields-range}
 use Rattle.laying.specs.Every.{Every}
-use Rattle.laying.specs.Sizes.{Numbers, value}
 use Rattle.laying.specs.Sound.{FitBody, FitNode}
 use Rattle.laying.specs.Tree.{innerAt, nodeAt}
 use Rattle.laying.proofs.Among.{Among, among-left, among-right}

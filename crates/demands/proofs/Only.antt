@@ -3,6 +3,7 @@
 -- count, a tier is answered by a tier or "none yet today", and whether a season record stands by yes or no. Assumes nothing but that both families meet the demands; proofs/Demands.antt has it of ours.
 use Prim.Native.Nat.{ℕ}
 use mathlib.Core.Path.{_≡_, refl}
+use mathlib.Core.Bool.{false}
 use mathlib.Core.List.{List}
 use borrow.Author.Tests.{le-leb}
 use Rattle.meaning.specs.declared.ElementName.{ElementName}
@@ -11,7 +12,8 @@ use Rattle.meaning.specs.declared.Date.{Date}
 use Rattle.meaning.specs.declared.Moment.{Moment}
 use Rattle.meaning.specs.declared.Quantity.{Quantity}
 use Rattle.meaning.specs.declared.Reply.{Reply}
-use Rattle.meaning.specs.Refusals.{Opened, opened, refused, openImage, elementIn, elementPlaceIn, elementPlaceReply}
+use Rattle.meaning.specs.Refusals.{Opened, opened, refused, openImage, elementIn, elementFor, elementPlaceIn, elementPlaceReply}
+use Rattle.meaning.specs.Causes.{whyNone}
 use Rattle.meaning.specs.Calendar.{Found, found, missing, calendar, tierIn, tierReply, seasonedIn, seasonedReply}
 use Rattle.demands.specs.Demands.{Demands}
 use Rattle.demands.specs.Replies.{Replies, ours}
@@ -26,10 +28,10 @@ use Rattle.demands.proofs.OnlyWrites.{range-only, octets-only, number-w
 
 -- OURS
 counted : Counted ours
-unfolding elementPlaceReply elementPlaceIn elementIn
+unfolding elementPlaceReply elementPlaceIn elementFor elementIn whyNone
 counted d img q t same few less = go (openImage d img)
   where
-    go : (o : Opened) → elementPlaceIn q o ≡ elementPlaceIn t o
+    go : (o : Opened) → elementPlaceIn false d q o ≡ elementPlaceIn false d t o
     go (opened ts es s n) = rw (le-leb _ _ few, le-leb _ _ less, same .item, same .subscripts)
     go (refused r) = refl
 

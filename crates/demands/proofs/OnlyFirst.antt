@@ -18,7 +18,8 @@ use Rattle.meaning.specs.Passed.{OfRules}
 use Rattle.meaning.specs.Questions.{Question, refusalIn}
 use Rattle.meaning.specs.Refusals.{verdictReply, placeReply}
 use Rattle.meaning.proofs.Passed.{check-says}
-use Rattle.demands.specs.Demand1.{given, firstOf, refusalsOf}
+use Rattle.demands.specs.Given.{given, firstOf}
+use Rattle.demands.specs.Demand1.{refusalsOf}
 use Rattle.demands.specs.Demands.{Demands}
 use Rattle.demands.specs.Replies.{Replies, outcomeBy}
 use Rattle.demands.specs.Rules.{CheckSays}

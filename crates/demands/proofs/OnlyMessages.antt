@@ -11,7 +11,7 @@ use Rattle.meaning.specs.Refusals.{placePart, tablePartReply, readRangePart}
 use Rattle.meaning.proofs.Either.{clash}
 use Rattle.meaning.proofs.Splices.{part-at, part-long}
 use Rattle.demands.specs.Bench.{Messages}
-use Rattle.demands.specs.Demand1.{firstOf}
+use Rattle.demands.specs.Given.{firstOf}
 use Rattle.demands.specs.Messages.{Octets, RequestForm, RequestFits, requestLong, requestData, ReplyForm, ReplyFits, replyLong, replyData, codeIn, requestFaults, ReadsRequest, ReadsReply}
 use Rattle.demands.specs.Messages.{tablesRefuse, asCode, tablesFaults, faults, Good, Answers, fits, doesNot, WrittenReply, MessagesSay}
 use Rattle.demands.specs.Replies.{Replies, ours}

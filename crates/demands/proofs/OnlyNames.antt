@@ -11,13 +11,14 @@ use native.Mathlib.Decide.{decLt}
 use native.Mathlib.Omega.{arith}
 use Rattle.meaning.specs.Basics.{_≤?_}
 use Rattle.meaning.specs.declared.ElementName.{ElementName}
+use Rattle.meaning.specs.Causes.{subscriptsOf}
 use Rattle.meaning.specs.Description.{itemCount, fieldsAt, isElement, isArray}
 use Rattle.meaning.proofs.Either.{tested}
 use Rattle.almanac.proofs.Tests.{both-true}
 use Rattle.laying.specs.Every.{Every}
-use Rattle.laying.specs.Sizes.{Numbers}
+use Rattle.meaning.specs.Layout.{Numbers}
 use Rattle.demands.specs.Demand3.{SameName}
-use Rattle.demands.specs.Walk.{arraysOf, arraysRound, hasElement, subscriptsOf, exists, way, wayTo, Earlier}
+use Rattle.demands.specs.Walk.{arraysOf, arraysRound, hasElement, exists, way, wayTo, Earlier}
 use Rattle.demands.proofs.OnlyTiles.{Compared, earlier, same, later}
 
 -- WAYS

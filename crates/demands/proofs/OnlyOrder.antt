@@ -10,21 +10,21 @@ use native.Mathlib.Decide.{decLt}
 use native.Mathlib.Omega.{arith}
 use Rattle.meaning.specs.Basics.{_≤?_, _=?_}
 use Rattle.meaning.specs.declared.ElementName.{ElementName}
+use Rattle.meaning.specs.Causes.{subscriptsOf}
 use Rattle.meaning.specs.declared.Reply.{Reply}
 use Rattle.meaning.specs.Description.{itemCount, fieldsAt, isTable, isTableNamed, isTable00, isDimension, isDataOrder}
-use Rattle.meaning.specs.Layout.{leafOctets}
+use Rattle.meaning.specs.Layout.{leafOctets, value}
 use Rattle.meaning.specs.Passed.{PassedLaws}
 use Rattle.meaning.specs.Questions.{refusalIn}
 use Rattle.meaning.proofs.Passed.{passed-laws}
 use Rattle.meaning.proofs.Ranges.{fields-range}
 use Rattle.almanac.proofs.Tests.{both-true}
 use Rattle.laying.specs.Every.{Every}
-use Rattle.laying.specs.Sizes.{value}
 use Rattle.demands.specs.Demand2.{NoDimension}
 use Rattle.demands.specs.Demand3.{SameName}
 use Rattle.demands.specs.Demands.{Demands}
 use Rattle.demands.specs.Replies.{Replies, octetsAt, alone}
-use Rattle.demands.specs.Walk.{octetsIn, numbersIn, arraysRound, subscriptsOf, way, wayTo, Earlier}
+use Rattle.demands.specs.Walk.{octetsIn, numbersIn, arraysRound, way, wayTo, Earlier}
 use Rattle.demands.proofs.OnlyFirst.{check-decided}
 use Rattle.demands.proofs.OnlyNames.{Element, Array, existing, arrays-are, names-compared}
 use Rattle.demands.proofs.OnlyPlaces.{told-none, passed-is, element-told, number-told, Is, start, size, set-out}

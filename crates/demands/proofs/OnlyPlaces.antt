@@ -5,7 +5,7 @@ use mathlib.Core.Path.{_≡_, refl, sym, _∙_, ap}
 use mathlib.Core.Logic.{inl, inr}
 use mathlib.Core.Bool.{Bool, true, false}
 use mathlib.Core.List.{List, [], _∷_}
-use mathlib.Core.Option.{none}
+use mathlib.Core.Option.{Option, none}
 use lib.ListN.{length}
 use borrow.Author.Tests.{ltb-false, not-false}
 use native.Mathlib.Omega.{arith}
@@ -16,12 +16,12 @@ use Rattle.meaning.specs.declared.Place.the-variants as place
 use Rattle.meaning.specs.declared.Refusal.{Refusal}
 use Rattle.meaning.specs.declared.Reply.{Reply}
 use Rattle.meaning.specs.Description.{itemCount, fieldsAt, isUint}
-use Rattle.meaning.specs.Numbers.{imageTooLong, noTable, noElement}
+use Rattle.meaning.specs.Numbers.{imageTooLong}
 use Rattle.meaning.specs.Questions as ask
 use Rattle.meaning.specs.Questions.{Question, refusalIn}
 use Rattle.meaning.specs.Refusals.{verdictReply, placeReply, placeStart, placeLength}
-use Rattle.meaning.proofs.Rules.{either-false}
-use Rattle.demands.specs.Demand1.{given, firstOf, eight, nineFrom, ten, eleven, elevenNumber, refusalsOf}
+use Rattle.demands.specs.Given.{given, firstOf}
+use Rattle.demands.specs.Demand1.{eight, nineFrom, ten, refusalsOf}
 use Rattle.demands.specs.Demand3.{Passed, LaysOrShort, SameName, lengthIn}
 use Rattle.demands.specs.Demands.{Demands}
 use Rattle.demands.specs.Replies.{Replies, outcomeBy, octetsAt}
@@ -72,32 +72,32 @@ module _ (R : Replies) (r : Demands R) (d img : List ℕ) where
       go (inl h) = h .reply ∙ ap (λ n. Reply.Total n) (sym (r .third d img .totalExactly (passed-is e) (h .total) .0 (h .reply) .ends))
       go (inr h) = clash (cc)
 
-  -- of what may be refused where the image doesn't lay out, and by one test more: where it isn't, the image lays out and the test fails
-  not-refused : (q : Question) (t : Bool) (x : Refusal) → refusalsOf R q d img ≡ refusalIn (R .layout d img) ∷ given t x ∷ [] → refusalIn (outcomeBy R q d img .reply) ≡ none
-      → (R .layout d img ≡ Reply.Total (octetsIn d img)) × (t ≡ false)
-  not-refused q t x are e =
-      let f = first-none _ (given t x ∷ []) (ap firstOf (sym are) ∙ sym (r .first d img .asked q .first) ∙ e) in
-      (total-is (f .0), given-none t x (first-none (given t x) [] (f .1) .0))
+  -- of what may be refused where the image doesn't lay out: where it isn't, the image lays out
+  not-refused : (q : Question) (rest : List (Option Refusal)) → refusalsOf R q d img ≡ refusalIn (R .layout d img) ∷ rest → refusalIn (outcomeBy R q d img .reply) ≡ none
+      → R .layout d img ≡ Reply.Total (octetsIn d img)
+  not-refused q rest are e = total-is (first-none _ rest (ap firstOf (sym are) ∙ sym (r .first d img .asked q .first) ∙ e) .0)
 
   -- so what is told is of an image that lays out, and of a name that there is
   pub table-told : (m k : ℕ) → refusalIn (placeReply (R .tablePlace d img m k)) ≡ none → R .layout d img ≡ Reply.Total (octetsIn d img)
   unfolding outcomeBy refusalsOf ten
-  table-told m k e = not-refused (ask.tablePlace m k) _ noTable refl e .0
+  table-told m k e = not-refused (ask.tablePlace m k) _ refl e
 
   pub record Told (Named : Type 0) : Type 0 where
     pub layout : R .layout d img ≡ Reply.Total (octetsIn d img)
     pub named : Named
 
   pub element-told : (q : ElementName) → refusalIn (placeReply (R .elementPlace d img q)) ≡ none → Told (Is d img q)
-  unfolding outcomeBy refusalsOf eleven
-  element-told q e = let f = not-refused (ask.elementPlace q) _ noElement refl e in record { layout = f .0; named = not-false _ (f .1) }
+  unfolding outcomeBy refusalsOf
+  element-told q e =
+      let laid = not-refused (ask.elementPlace q) _ refl e in
+      record { layout = laid; named = r .third d img .elementsStand _ laid .noElement q .granted .0 e .0 }
 
   pub number-told : (q : ElementName) → refusalIn (R .elementNumber d img q) ≡ none → Told (Is d img q × (isUint (fieldsAt d (q .item)) ≡ true))
-  unfolding outcomeBy refusalsOf elevenNumber
+  unfolding outcomeBy refusalsOf
   number-told q e =
-      let f = not-refused (ask.elementNumber q) _ noElement refl e in
-      let g = either-false _ _ (f .1) in
-      record { layout = f .0; named = (not-false _ (g .0), not-false _ (g .1)) }
+      let laid = not-refused (ask.elementNumber q) _ refl e in
+      let h = r .third d img .elementsStand _ laid .noNumber q .granted .0 e in
+      record { layout = laid; named = (h .0, not-false _ (h .1)) }
 
   -- THE ELEMENTS SET OUT, by their starts
   abbrev pub start : ElementName → ℕ

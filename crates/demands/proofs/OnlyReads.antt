@@ -13,7 +13,8 @@ use Rattle.meaning.specs.Numbers.{outsideTable}
 use Rattle.meaning.specs.Questions as ask
 use Rattle.meaning.specs.Questions.{refusalIn}
 use Rattle.meaning.specs.Refusals.{placeLength}
-use Rattle.demands.specs.Demand1.{given, firstOf, ten, twelve, refusalsOf}
+use Rattle.demands.specs.Given.{given, firstOf}
+use Rattle.demands.specs.Demand1.{ten, twelve, refusalsOf}
 use Rattle.demands.specs.Demand3.{SameName}
 use Rattle.demands.specs.Demands.{Demands}
 use Rattle.demands.specs.Replies.{Replies, outcomeBy, octetsAt}

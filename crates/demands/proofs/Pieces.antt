@@ -10,7 +10,7 @@ use native.Mathlib.Decide.{decLt}
 use native.Mathlib.Omega.{arith}
 use Rattle.meaning.specs.Basics.{if_then_else_}
 use Rattle.meaning.specs.Description.{itemCount, fieldsAt, refers, slotOctets}
-use Rattle.meaning.specs.Layout.{numberAt, bitRange}
+use Rattle.meaning.specs.Layout.{numberAt, bitRange, Numbers, value}
 use Rattle.meaning.specs.Passed.{PassedLaws}
 use Rattle.meaning.proofs.Either.{tested}
 use Rattle.meaning.proofs.Nesting.{upward}
@@ -18,7 +18,6 @@ use Rattle.meaning.proofs.Ranges.{fields-range}
 use Rattle.meaning.proofs.Rules.{slot-step}
 use Rattle.laying.specs.Every.{Every}
 use Rattle.laying.specs.Outcomes.{setNumber}
-use Rattle.laying.specs.Sizes.{Numbers, value}
 use Rattle.laying.proofs.Every.{every-map}
 use Rattle.demands.specs.Walk.{nestsRound, inChosen, allChosen, isChosen, isPiece, octetsOf, Reached, pastItem, reached, octetBefore, numbersBefore, numbersIn, runsPast}
 use Rattle.demands.proofs.Around.{from-range, round-from}

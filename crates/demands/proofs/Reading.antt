@@ -15,7 +15,7 @@ use Rattle.meaning.proofs.Either.{tested, clash}
 use Rattle.meaning.proofs.Splices.{part-at, part-long}
 use Rattle.almanac.proofs.Tests.{both-true}
 use Rattle.demands.specs.Bench.{ourMessages}
-use Rattle.demands.specs.Demand1.{given, firstOf}
+use Rattle.demands.specs.Given.{given, firstOf}
 use Rattle.demands.specs.Messages.{two, three, Data, RequestForm, ReplyForm, empty, isKnown, unknown, lengthBy, wrongLength, checks, checksBy, wrongCheck, requestFaults, codeIn, ReadsRequest, ReadsReply}
 use Rattle.demands.proofs.Forms.{request-one, reply-one}
 use Rattle.demands.proofs.Told.{Holds, onward, below, equal, both}

@@ -32,7 +32,8 @@ use Rattle.meaning.proofs.Splices.{part-long}
 use Rattle.laying.proofs.Opened.{opening, total-laid}
 use Rattle.almanac.proofs.Tests.{both-true}
 use Rattle.demands.specs.Bench.{ourMessages}
-use Rattle.demands.specs.Demand1.{given, firstOf, ten, refusalsOf}
+use Rattle.demands.specs.Given.{given, firstOf}
+use Rattle.demands.specs.Demand1.{ten, refusalsOf}
 use Rattle.demands.specs.Messages.{ReplyFits, makerOf, numberOf, overLast, otherCount, offset, empty, unknown, wrongLength, wrongCheck, requestFaults, codeIn, tablesRefuse, asCode, tablesFaults, faults, Good, Answers, fits, doesNot, WrittenReply, Serves}
 use Rattle.demands.specs.Replies.{ours, outcomeBy}
 use Rattle.demands.proofs.Demand1.{demand-1}

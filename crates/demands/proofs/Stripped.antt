@@ -11,9 +11,9 @@ use Rattle.meaning.specs.declared.Fields.{Fields}
 use Rattle.meaning.specs.Description.{refers}
 use Rattle.meaning.specs.Layout.{Node, Body, Arms, leaf, array, choice, stray, done, more, lastArm, arm, leafOctets, bitRange}
 use Rattle.meaning.specs.Layout.{Slots, setSlot, Placed, Laid, laid, stopped, also, andThen, inImage, placed, under, asElement, repeated, layBody, layNode, layArms}
+use Rattle.meaning.specs.Layout.{Numbers, value, slotNumbers}
 use Rattle.meaning.proofs.Either.{tested}
-use Rattle.laying.specs.Sizes.{Numbers, value}
-use Rattle.laying.specs.Slots.{numbersOf, Matches}
+use Rattle.laying.specs.Slots.{Matches}
 use Rattle.laying.specs.Sound.{Known, GoodReference, SoundBody, SoundNode, SoundArms}
 use Rattle.laying.proofs.Bodies.{quiet-node}
 use Rattle.laying.proofs.Whole.{value-is}
@@ -69,7 +69,7 @@ module _ (s : Slots) where
 -- a sound body inside an ARRAY
 module _ (img : List ℕ) (s : Slots) (κ : Known) (m : Matches s κ) where
   abbrev v : Numbers
-  v = numbersOf s
+  v = slotNumbers s
 
   s-leaf : (i : ℕ) (f : Fields) (p n : ℕ) → f .sets ≡ 0 → Strips s (record { item = i; subscripts = []; octets = n } ∷ []) (placed i f img s p n)
   unfolding placed setSlot strip

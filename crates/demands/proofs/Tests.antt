@@ -35,10 +35,6 @@ unfoldable pub noSeat : Option Seat → Bool
 noSeat none = true
 noSeat (some t) = false
 
-unfoldable pub noPlaced : Option Placed → Bool
-noPlaced none = true
-noPlaced (some e) = false
-
 -- SEARCHES
 -- a TABLE that is given is an item
 abbrev IsItem : (description : List ℕ) → (n m k : ℕ) → Type 0
@@ -127,17 +123,6 @@ module _ {d img : List ℕ} {ts : List Seat} {es : List Placed} {s : Slots} {tot
   pub table-item : (m k : ℕ) (t : Seat) → tableNamed m k ts ≡ some t → tableItem d (itemCount d) m k ≡ t .item
   table-item m k t e = let i = found-table o e in item-search i (itemCount d) (i .there) (omega arith)
 
-  -- an element exists exactly where it is found
-  pub element-test : (q : ElementName) → not (exists d (numbersIn d img) q) ≡ noPlaced (elementIn q es)
-  unfolding noPlaced
-  element-test q = go (elementIn q es) refl (exists d (numbersIn d img) q) refl
-    where
-      go : (x : Option Placed) → elementIn q es ≡ x → (b : Bool) → exists d (numbersIn d img) q ≡ b → not b ≡ noPlaced x
-      go none e false g = refl
-      go none e true g = clash (cc (name-found o q g .found))
-      go (some f) e true g = refl
-      go (some f) e false g = absurd (true≢false (sym (found-name o q f e) ∙ g))
-
   -- A DIMENSION'S ELEMENT has no subscripts, so it is where its item's alone is
   no-subscripts : (e : Placed) → Among e es → 0 < e .slot → e .subscripts ≡ []
   unfolding hasElement arraysOf
@@ -151,7 +136,7 @@ module _ {d img : List ℕ} {ts : List Seat} {es : List Placed} {s : Slots} {tot
   unfolding placedPlace
   dimension-told e m k =
       let n : ElementOf (e .item) [] es e = record { among = m; item = refl; subscripts = no-subscripts e m k } in
-      where-laid o (alone (e .item)) ∙ ap placedPlace (is-found o (alone (e .item)) e n refl)
+      where-laid o (alone (e .item)) ∙ ap (placedPlace _) (is-found o (alone (e .item)) e n refl)
 
   -- octets are a dimension's, by the items, exactly where they are by the elements
   touched : (p n : ℕ) → anyDimension es p n ≡ false → touchesDimension ours d img p n ≡ false

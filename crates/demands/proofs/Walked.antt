@@ -12,7 +12,7 @@ use Rattle.meaning.specs.declared.Fields.{Fields}
 use Rattle.meaning.specs.declared.Round.{Round}
 use Rattle.meaning.specs.Description.{itemCount, fieldsAt, isElement, isArray, isChoice, nests, nested, inside, slotOctets}
 use Rattle.meaning.specs.Layout.{Body, branchesIn, ifBranches, branchesOf, taken, bodyIn, onlyBody, bodyAt, leafOctets, numberAt}
-use Rattle.meaning.specs.Layout.{Slots, Placed, short, Laid, laid, stopped, inImage, placed, sizeFrom, repeated, layBody, layNode}
+use Rattle.meaning.specs.Layout.{Slots, Placed, short, Laid, laid, stopped, inImage, placed, sizeFrom, repeated, layBody, layNode, Numbers, value, slotNumbers}
 use Rattle.meaning.specs.Passed.{PassedLaws, endOf}
 use Rattle.meaning.proofs.Either.{tested}
 use Rattle.meaning.proofs.Ranges.{fields-range, sets-none}
@@ -20,8 +20,8 @@ use Rattle.meaning.proofs.Rules.{slot-step}
 use Rattle.laying.specs.Every.{Every}
 use Rattle.laying.specs.Outcomes.{setNumber}
 use Rattle.laying.specs.Rows.{Spot, bodyRow}
-use Rattle.laying.specs.Sizes.{Numbers, value, bodySize, itemSize}
-use Rattle.laying.specs.Slots.{numbersOf, Matches}
+use Rattle.laying.specs.Sizes.{bodySize, itemSize}
+use Rattle.laying.specs.Slots.{Matches}
 use Rattle.laying.specs.Sound.{Known, setKnown, SoundBody, SoundNode, afterNode, afterBody, FitNode}
 use Rattle.laying.specs.Tree.{innerAt, nodeAt}
 use Rattle.laying.proofs.Arms.{taken-lay, taken-sound}
@@ -91,17 +91,17 @@ module _ (d img : List ℕ) (p : PassedLaws d) where
       rw (is-chosen d img p i r, h) (and-false ((isElement (fieldsAt d i) || isArray (fieldsAt d i)) && isNone (arraysOf d (nestsRound d i))))
 
   -- A PIECE at item a, of n octets from q on, that sets its slot to the number there
-  module _ (a : ℕ) (s : Slots) (q n : ℕ) (here : At d img a s q) (piece : isPiece d (numbersBefore d img a) a ≡ true) (long : octetsOf d (numbersOf s) a ≡ n) where
+  module _ (a : ℕ) (s : Slots) (q n : ℕ) (here : At d img a s q) (piece : isPiece d (numbersBefore d img a) a ≡ true) (long : octetsOf d (slotNumbers s) a ≡ n) where
     octet-here : octetBefore d img a ≡ q
     octet-here = ap (λ (r : Reached). r .octet) here
 
-    numbers-here : numbersBefore d img a ≡ numbersOf s
+    numbers-here : numbersBefore d img a ≡ slotNumbers s
     numbers-here = ap (λ (r : Reached). r .numbers) here
 
     end-here : octetBefore d img a + octetsOf d (numbersBefore d img a) a ≡ q + n
     end-here = rw (numbers-here, octet-here, long)
 
-    past-piece : reached d img (a + 1) ≡ record { octet = q + n; numbers = setNumber (fieldsAt d a .sets) (numberAt img q n) (numbersOf s) }
+    past-piece : reached d img (a + 1) ≡ record { octet = q + n; numbers = setNumber (fieldsAt d a .sets) (numberAt img q n) (slotNumbers s) }
     past-piece = piece-reached d img a piece ∙ rw (numbers-here, octet-here, long)
 
     -- it ends inside the image
@@ -124,38 +124,38 @@ module _ (d img : List ℕ) (p : PassedLaws d) where
 
   -- a UINT, BLOCK or SET
   walks-leaf : (a : ℕ) (s : Slots) (κ : Known) (q : ℕ) → At d img a s q → Matches s κ → a < itemCount d → isPiece d (numbersBefore d img a) a ≡ true
-      → 2 ≤ fieldsAt d a .kind → fieldsAt d a .kind ≤ 4 → (0 < fieldsAt d a .sets → fieldsAt d a .slot ≡ 0) → value (numbersOf s) (fieldsAt d a) ≡ value v (fieldsAt d a)
+      → 2 ≤ fieldsAt d a .kind → fieldsAt d a .kind ≤ 4 → (0 < fieldsAt d a .sets → fieldsAt d a .slot ≡ 0) → value (slotNumbers s) (fieldsAt d a) ≡ value v (fieldsAt d a)
       → Walks d img a (a + 1) (setKnown (fieldsAt d a .sets) (fieldsAt d a .octets) κ)
       (record { item = a; subscripts = []; octets = leafOctets (fieldsAt d a) (value v (fieldsAt d a)) } ∷ [])
-      (inImage false (length img) a q (placed a (fieldsAt d a) img s q (leafOctets (fieldsAt d a) (value (numbersOf s) (fieldsAt d a)))))
+      (inImage false (length img) a q (placed a (fieldsAt d a) img s q (leafOctets (fieldsAt d a) (value (slotNumbers s) (fieldsAt d a)))))
   unfolding placed strip Every
   walks-leaf a s κ q here m l piece two four owns same =
       let f = fieldsAt d a in
-      let n = leafOctets f (value (numbersOf s) f) in
-      let long = element-octets d (numbersOf s) 4 a two four in
+      let n = leafOctets f (value (slotNumbers s) f) in
+      let long = element-octets d (slotNumbers s) 4 a two four in
       let past = past-piece a s q n here piece long in
       walks-piece a s q n here piece long (setKnown (f .sets) (f .octets) κ) _ _ _
       (past ∙ ap (λ (w : Numbers). record { octet = q + n; numbers = w }) (sym (numbers-set (f .sets) n (numberAt img q n) s)))
-      (matches-leaf f (value (numbersOf s) f) (numberAt img q n) s κ (f .sets) m owns)
+      (matches-leaf f (value (slotNumbers s) f) (numberAt img q n) s κ (f .sets) m owns)
       (ap (λ (x : ℕ). record { item = a; subscripts = []; octets = leafOctets f x } ∷ []) same)
       (λ some. sym (read-on n some (ap (λ (r : Reached). r .numbers (f .sets)) past)), tt)
     where
       -- what it sets is what its slot has from there on
       read-on : (n : ℕ) → 0 < fieldsAt d a .sets
-          → numbersBefore d img (a + 1) (fieldsAt d a .sets) ≡ setNumber (fieldsAt d a .sets) (numberAt img q n) (numbersOf s) (fieldsAt d a .sets) → v (fieldsAt d a .sets) ≡ numberAt img q n
+          → numbersBefore d img (a + 1) (fieldsAt d a .sets) ≡ setNumber (fieldsAt d a .sets) (numberAt img q n) (slotNumbers s) (fieldsAt d a .sets) → v (fieldsAt d a .sets) ≡ numberAt img q n
       read-on n some past =
           let k = fieldsAt d a .sets in
           let set : 0 < slotOctets d (a + 1) k = rw (slot-step d a k, eq-eqb k k refl) (fields-range d a .some-octets some) in
-          number-stays d img p k (a + 1) (itemCount d) some (omega arith) (omega arith) set ∙ past ∙ set-same k (numberAt img q n) (numbersOf s) some
+          number-stays d img p k (a + 1) (itemCount d) some (omega arith) (omega arith) set ∙ past ∙ set-same k (numberAt img q n) (slotNumbers s) some
 
   -- an outermost ARRAY: what is laid whole, with these names
   walks-array : (a : ℕ) (s : Slots) (κ : Known) (q n : ℕ) (ns : List Name) (f : ℕ → List ℕ → Spot) (o : Laid) → At d img a s q → Matches s κ → endOf d a ≤ itemCount d
-      → isPiece d (numbersBefore d img a) a ≡ true → isArray (fieldsAt d a) ≡ true → fieldsAt d a .sets ≡ 0 → octetsOf d (numbersOf s) a ≡ n
+      → isPiece d (numbersBefore d img a) a ≡ true → isArray (fieldsAt d a) ≡ true → fieldsAt d a .sets ≡ 0 → octetsOf d (slotNumbers s) a ≡ n
       → Whole s q n f o → Strips s ns o → Walks d img a (endOf d a) κ ns (inImage false (length img) a q o)
   walks-array a s κ q n ns f (laid ps t r) here m room piece is sets long h names =
       rw (h .same, h .ends)
       (walks-after d img a (a + 1) (endOf d a) κ ns (inImage false (length img) a q (laid ps s (q + n))) (λ i l u. array-piece d (numbersBefore d img i) a i is (omega arith) u) (omega arith)
-      (walks-piece a s q n here piece long κ ns ps s (past-piece a s q n here piece long ∙ rw sets (set-nothing q n (numberAt img q n) (numbersOf s))) m (names .1)
+      (walks-piece a s q n here piece long κ ns ps s (past-piece a s q n here piece long ∙ rw sets (set-nothing q n (numberAt img q n) (slotNumbers s))) m (names .1)
       (every-map (λ x. x .slot ≡ 0) (DimensionIs d img) (λ x z some. absurd (omega arith)) ps (h .unset))))
   walks-array a s κ q n ns f (stopped ps x) here m room piece is sets long h names = absurd h
 
@@ -166,7 +166,7 @@ module _ (d img : List ℕ) (p : PassedLaws d) where
       → Walks d img a (a + m) (afterBody (b a m) κ) (namesBody (b a m) v) (layBody (b a m) img false s q)
 
   -- slots known by then have the numbers that they keep
-  agrees : (a : ℕ) (s : Slots) (κ : Known) (q : ℕ) → a ≤ itemCount d → Same d κ a → At d img a s q → Agree κ (numbersOf s) v
+  agrees : (a : ℕ) (s : Slots) (κ : Known) (q : ℕ) → a ≤ itemCount d → Same d κ a → At d img a s q → Agree κ (slotNumbers s) v
   agrees a s κ q l same here k some h =
       sym (ap (λ (r : Reached). r .numbers k) here) ∙ sym (number-stays d img p k a (itemCount d) some l (omega arith) (omega (arith, same k some)))
 
@@ -196,7 +196,7 @@ module _ (d img : List ℕ) (p : PassedLaws d) where
     same-in k x y j some =
         same j some ∙ sym (still p run l nest j some k x y ∙ slot-step d a j ∙ rw (ne-eqb (fieldsAt d a .sets) j (λ z. omega (arith, sets-nothing))))
 
-    agree : Agree κ (numbersOf s) v
+    agree : Agree κ (slotNumbers s) v
     agree = agrees a s κ q (omega arith) same here
 
     -- an IF takes one of its bodies
@@ -249,7 +249,7 @@ module _ (d img : List ℕ) (p : PassedLaws d) where
       let f = fieldsAt d a in
       let ends = first-ends p run l in
       let room = run .whole in
-      let w = numbersOf s in
+      let w = slotNumbers s in
       node-cases (λ t. itemSize t w ≡ octetsOf d w a → RisesNode d 0 a (endOf d a) t → SoundNode free κ t → Walks d img a (endOf d a) (afterNode t κ) (namesNode t v) (layNode t img false s q))
       (innerAt k d) d a n
       (λ lost long rises h. absurd h)

@@ -7,12 +7,11 @@ use mathlib.Core.List.{List, [], _∷_, _++_}
 use native.Mathlib.Omega.{arith}
 use Rattle.meaning.specs.Description.{fieldsAt, isElement, isArray}
 use Rattle.meaning.specs.Layout.{numberAt}
-use Rattle.meaning.specs.Layout.{Slots, Placed, fault, short, Laid, laid, stopped, also, andThen}
+use Rattle.meaning.specs.Layout.{Slots, Placed, fault, short, Laid, laid, stopped, also, andThen, Numbers, slotNumbers}
 use Rattle.meaning.specs.Passed.{endOf}
 use Rattle.meaning.proofs.Either.{tested}
 use Rattle.laying.specs.Every.{Every}
-use Rattle.laying.specs.Sizes.{Numbers}
-use Rattle.laying.specs.Slots.{numbersOf, Matches}
+use Rattle.laying.specs.Slots.{Matches}
 use Rattle.laying.specs.Sound.{Known}
 use Rattle.laying.proofs.Every.{every-append}
 use Rattle.demands.specs.Walk.{nestsRound, arraysOf, allChosen, isNone, isPiece, reached, octetBefore, numbersBefore, numbersIn, runsPast}
@@ -46,7 +45,7 @@ module _ (d img : List ℕ) where
 
   -- ITEM `at` IS REACHED at octet q, with slots s
   abbrev pub At : (at : ℕ) → Slots → (q : ℕ) → Type 0
-  At at s q = reached d img at ≡ record { octet = q; numbers = numbersOf s }
+  At at s q = reached d img at ≡ record { octet = q; numbers = slotNumbers s }
 
   -- round the items from a up to e stand, before a, no ARRAY and no IF that chooses another branch
   abbrev pub Open : (a e : ℕ) → Type 0

@@ -15,7 +15,8 @@ use Rattle.meaning.specs.declared.Verdict.{Verdict}
 use Rattle.meaning.specs.Description.{checkReply, fieldsAt, isUint, isDimension}
 use Rattle.meaning.specs.Examples.{D, D-writable, first, second, at, offset, clock, clock-image, moment, date}
 use Rattle.meaning.specs.Layout.{numberAt}
-use Rattle.meaning.specs.Refusals.{layoutReply, elementPlaceReply, placeStart, placeLength}
+use Rattle.meaning.specs.Questions.{refusalIn}
+use Rattle.meaning.specs.Refusals.{placeReply, layoutReply, elementPlaceReply, placeStart, placeLength}
 use Rattle.meaning.specs.Calendar.{tierReply, seasonedReply, matrixVerdict}
 use Rattle.meaning.proofs.Computing.{computing}
 use Rattle.demands.specs.Demand3.{Passed, AllInside, ElementsStand, lengthIn}
@@ -24,7 +25,6 @@ use Rattle.demands.specs.Walk.{numbersIn, exists}
 use Rattle.demands.specs.Wrong.{TotalsOfD, CalendarRead, two-seasons, WrongPrograms}
 use Rattle.demands.proofs.Calendar.{tier-says, seasoned-says}
 use Rattle.demands.proofs.Demand3.{demand-3}
-use Rattle.demands.proofs.Names.{cause}
 use Rattle.meaning.proofs.Either.{clash}
 
 -- OUR REPLIES, COMPUTED
@@ -116,11 +116,8 @@ laid img n l e = demand-3 D img .totalExactly (record { passes = D-passed; allow
 -- AN ELEMENT THAT STANDS SOMEWHERE is one that there is, and as long as its item says
 module _ (R : Replies) (d img : List ℕ) (total : ℕ) (stand : ElementsStand R d img total) where
   is-there : (q : ElementName) (p n : ℕ) → R .elementPlace d img q ≡ octetsAt p n → exists d (numbersIn d img) q ≡ true
-  is-there q p n e = go (exists d (numbersIn d img) q) refl
-    where
-      go : (b : Bool) → exists d (numbersIn d img) q ≡ b → exists d (numbersIn d img) q ≡ true
-      go true h = h
-      go false h = let none = stand .none q .1 (cause d (numbersIn d img) q h) in clash (cc)
+  unfolding refusalIn placeReply
+  is-there q p n e = stand .noElement q .granted .0 (rw e) .0
 
   as-long : (q : ElementName) (p n : ℕ) → R .elementPlace d img q ≡ octetsAt p n → n ≡ lengthIn d (numbersIn d img) (q .item)
   as-long q p n e = let t = stand .there q (is-there q p n e) in ap placeLength (sym e ∙ t .1)
@@ -178,12 +175,12 @@ module _ (R : Replies) where
             let back = subst (λ (img : List ℕ). R .elementNumber D img (at 7 0) ≡ Reply.Number 1) (w .number D first (at 7 0) 1) (writes .readBack yes-said) in
             let told = reads .number (at 7 0) 4 2 place integer in
             let z : _≡_ {A = ℕ} 0x1234 1 = cc (back, told, unwritten-number) in omega arith;
-        padded = λ w stand. let t = stand .there (at 7 0) number-is in let none = w .rest (at 7 0) (omega arith) in clash (cc (t .1, none));
+        padded = λ w stand. let t = stand .there (at 7 0) number-is in w .rest (at 7 0) (omega arith) _ _ (t .1);
         stretched = λ w stand.
             let long = as-long R D first 8 stand (alone 5) 2 6 (w .place) in
             let ours-long = as-long ours D first 8 D-stands (alone 5) 2 2 block-there in
             omega (arith, long, ours-long);
-        alwaysEleven = λ w stand. let t = stand .there (at 7 0) number-is in let none = w .none D first (at 7 0) in clash (cc (t .1, none));
+        neverThere = λ w stand. let t = stand .there (at 7 0) number-is in w .none D first (at 7 0) _ _ (t .1);
         alwaysZero = λ w c.
             let told = tier-alike R (clock 12) clock-image clock-had c (moment 2024 3 5 7 30) Quantity.Summations 2 half-past in
             let zero = w .zero (clock 12) clock-image (moment 2024 3 5 7 30) Quantity.Summations 2 told in

@@ -15,7 +15,7 @@ use Rattle.meaning.specs.Questions.{refusalIn}
 use Rattle.meaning.specs.Refusals.{tablePartReply, writeRangeImage}
 use Rattle.meaning.proofs.Computing.{computing}
 use Rattle.demands.specs.Bench.{Messages}
-use Rattle.demands.specs.Demand1.{firstOf}
+use Rattle.demands.specs.Given.{firstOf}
 use Rattle.demands.specs.Messages.{two, Data, RequestForm, ReplyForm, replyLong, replyData, isKnown, lengthBy, checks, checksBy, requestFaults, Stands, fits, doesNot, Written, WritesRequest, WrittenReply}
 use Rattle.demands.specs.Messages.{overLast, otherCount, offset, tablesRefuse, asCode, tablesFaults, faults, Good}
 use Rattle.demands.specs.Replies.{ours}

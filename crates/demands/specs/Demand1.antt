@@ -26,22 +26,13 @@ use Rattle.meaning.specs.Refusals.{refusedWith, toldBy, verdictReply, tableArou
 use Rattle.meaning.specs.Calendar.{realDate, realTime, dayNumber, controlsOf, table54Size, datesOf, seasonOn, inSeason, specialOn, missingSpecial}
 use Rattle.meaning.specs.Questions as ask
 use Rattle.meaning.specs.Questions.{Question, refusalIn}
-use Rattle.meaning.specs.Numbers.{reportsItem, reportsOctet, isGiven, nothingRefused, imageTooLong, imageShort, noTable, noElement, outsideTable}
+use Rattle.meaning.specs.Numbers.{reportsItem, reportsOctet, reportsDepth, isGiven, nothingRefused, imageTooLong, imageShort, noTable, outsideTable}
 use Rattle.meaning.specs.Numbers.{notWritable, holdsDimension, wrongSize, notADate, seasonChangeArmed, noRowOrColumn, notACalendar}
+use Rattle.demands.specs.Causes.{causesOf}
+use Rattle.demands.specs.Given.{given, firstOf}
 use Rattle.demands.specs.Replies.{Replies, outcomeBy, alone}
 use Rattle.demands.specs.Rules.{CheckSays}
-use Rattle.demands.specs.Walk.{octetBefore, runsPast, numbersIn, exists}
-
--- A LIST OF REFUSALS, or of the codes that refuse a message (specs/Messages)
--- one of them, where its test holds
-unfoldable pub given : {A : Type 0} → Bool → A → Option A
-given test r = if test then some r else none
-
--- the first of those given
-unfoldable pub firstOf : {A : Type 0} → List (Option A) → Option A
-firstOf [] = none
-firstOf (none ∷ rest) = firstOf rest
-firstOf (some r ∷ rest) = some r
+use Rattle.demands.specs.Walk.{octetBefore, runsPast, numbersIn}
 
 -- 1 TO 9
 -- 8: image over 65,535 octets
@@ -53,17 +44,14 @@ unfoldable pub nineFrom : (description image : List ℕ) → (n i : ℕ) → Opt
 nineFrom d img zero i = none
 nineFrom d img (suc n) i = if runsPast d img i then some (imageShort i (octetBefore d img i)) else nineFrom d img n (i + 1)
 
--- 10 TO 15
+-- 10, 22 TO 26, 12 TO 15
 -- 10: no such table
 unfoldable pub ten : (description : List ℕ) → (manufacturer number : ℕ) → Option Refusal
 ten d m k = given (not (tableGiven d (itemCount d) m k)) noTable
 
--- 11: no such element; of a number, an item that is no UINT
-unfoldable pub eleven : (description image : List ℕ) → ElementName → Option Refusal
-eleven d img q = given (not (exists d (numbersIn d img) q)) noElement
-
-unfoldable pub elevenNumber : (description image : List ℕ) → ElementName → Option Refusal
-elevenNumber d img q = given (not (exists d (numbersIn d img) q) || not (isUint (fieldsAt d (q .item)))) noElement
+-- 22 to 26: why there is no such element, or no such number (specs/Causes)
+abbrev pub causesIn : (number : Bool) → (description image : List ℕ) → ElementName → List (Option Refusal)
+causesIn number d img q = causesOf number d (numbersIn d img) q
 
 -- 12: offset + length over the table's size
 unfoldable pub twelve : (size offset length : ℕ) → Option Refusal
@@ -131,9 +119,9 @@ refusalsOf R ask.check d img = refusalIn (verdictReply (R .check d)) ∷ []
 refusalsOf R ask.layout d img = refusalIn (verdictReply (R .check d)) ∷ eight img ∷ nineFrom d img (itemCount d) 0 ∷ []
 refusalsOf R (ask.tablePlace m k) d img = refusalIn (R .layout d img) ∷ ten d m k ∷ []
 refusalsOf R (ask.tablePart m k) d img = refusalIn (R .layout d img) ∷ ten d m k ∷ []
-refusalsOf R (ask.elementPlace q) d img = refusalIn (R .layout d img) ∷ eleven d img q ∷ []
-refusalsOf R (ask.elementPart q) d img = refusalIn (R .layout d img) ∷ eleven d img q ∷ []
-refusalsOf R (ask.elementNumber q) d img = refusalIn (R .layout d img) ∷ elevenNumber d img q ∷ []
+refusalsOf R (ask.elementPlace q) d img = refusalIn (R .layout d img) ∷ causesIn false d img q
+refusalsOf R (ask.elementPart q) d img = refusalIn (R .layout d img) ∷ causesIn false d img q
+refusalsOf R (ask.elementNumber q) d img = refusalIn (R .layout d img) ∷ causesIn true d img q
 refusalsOf R (ask.writeRange m k o new) d img =
     refusalIn (R .layout d img)
     ∷ ten d m k
@@ -143,15 +131,15 @@ refusalsOf R (ask.writeRange m k o new) d img =
     ∷ []
 refusalsOf R (ask.writeOctets q new) d img =
     refusalIn (R .layout d img)
-    ∷ eleven d img q
-    ∷ thirteen d img (tableAround d (q .item))
+    ∷ causesIn false d img q
+    ++ thirteen d img (tableAround d (q .item))
     ∷ fourteen R d img (placeStart (R .elementPlace d img q)) (placeLength (R .elementPlace d img q))
     ∷ fifteen (length new =? placeLength (R .elementPlace d img q))
     ∷ []
 refusalsOf R (ask.writeNumber q x) d img =
     refusalIn (R .layout d img)
-    ∷ elevenNumber d img q
-    ∷ thirteen d img (tableAround d (q .item))
+    ∷ causesIn true d img q
+    ++ thirteen d img (tableAround d (q .item))
     ∷ fourteen R d img (placeStart (R .elementPlace d img q)) (placeLength (R .elementPlace d img q))
     ∷ fifteen (x <? 256 ^ placeLength (R .elementPlace d img q))
     ∷ []
@@ -161,12 +149,13 @@ refusalsOf R (ask.seasoned t) d img = refusalIn (R .layout d img) ∷ ofCalendar
 refusalsOf R (ask.readRange m k o n) d img = refusalIn (R .layout d img) ∷ ten d m k ∷ twelve (placeLength (R .tablePlace d img m k)) (o .0) n ∷ []
 refusalsOf R (ask.weekday t) d img = sixteen t
 
--- AN ANSWER OR ONE OF THE NUMBERED REFUSALS: number, item and octet; then the answer's own values, 0 on refusal
--- the numbers of the table; 2 to 7 report the item, 9 the item and octet, others nothing more
+-- AN ANSWER OR ONE OF THE NUMBERED REFUSALS: number, item, octet and depth; then the answer's own values, 0 on refusal
+-- the numbers of the table; 2 to 7 report the item, 9 the item and octet, 25 the depth, others nothing more
 pub record OnPaper (r : Refusal) : Type 0 where
   pub listed : isGiven (r .number) ≡ true
   pub atItem : reportsItem (r .number) ≡ false → r .item ≡ 0
   pub atOctet : reportsOctet (r .number) ≡ false → r .octet ≡ 0
+  pub atDepth : reportsDepth (r .number) ≡ false → r .depth ≡ 0
 
 pub record Refused (r : Refusal) (t : Told) : Type 0 where
   pub are : t ≡ refusedWith r

@@ -6,25 +6,28 @@
 use Prim.Native.Nat.{ℕ, zero, suc, _+_, _<_, _≤_}
 use mathlib.Core.Path.{_≡_}
 use mathlib.Core.Logic.{_⊎_}
-use mathlib.Core.Bool.{true, false, _&&_}
+use mathlib.Core.Bool.{true, false}
 use mathlib.Core.List.{List, [], _∷_}
 use lib.ListN.{length}
 use Rattle.offsets.specs.declared.TableOffset.{TableOffset}
-use Rattle.meaning.specs.Basics.{if_then_else_, _=?_, _<?_, _≤?_}
+use Rattle.meaning.specs.Basics.{if_then_else_}
 use Rattle.meaning.specs.declared.ElementName.{ElementName}
+use Rattle.meaning.specs.Causes.{subscriptsOf}
 use Rattle.meaning.specs.declared.Reply.{Reply}
 use Rattle.meaning.specs.declared.Place.{Place}
 use Rattle.meaning.specs.declared.Verdict.{Verdict}
-use Rattle.meaning.specs.Description.{itemCount, fieldsAt, isTable, isUint, isElement, isTableNamed}
+use Rattle.meaning.specs.Description.{itemCount, fieldsAt, isTable, isTableNamed}
 use Rattle.meaning.specs.Passed.{Exactly, endOf}
-use Rattle.meaning.specs.Layout.{Placed, Seat, unreadDimension, bitOutside, unequalElements, noItem, stoppedAt, layOut, leafOctets}
-use Rattle.meaning.specs.Numbers.{imageShort, noElement}
+use Rattle.meaning.specs.Layout.{Placed, Seat, unreadDimension, bitOutside, unequalElements, noItem, stoppedAt, layOut, leafOctets, Numbers, value}
+use Rattle.meaning.specs.Numbers.{imageShort}
+use Rattle.meaning.specs.Questions.{refusalIn}
+use Rattle.meaning.specs.Refusals.{placeReply}
 use Rattle.laying.specs.Cover.{Follow}
 use Rattle.laying.specs.Every.{Every}
-use Rattle.laying.specs.Sizes.{Numbers, value}
+use Rattle.demands.specs.Causes.{CausesSay}
 use Rattle.demands.specs.Replies.{Replies, octetsAt, alone}
 use Rattle.demands.specs.Rules.{MeetsRules}
-use Rattle.demands.specs.Walk.{octetBefore, octetsIn, numbersIn, runsPast, FirstPast, arraysRound, isChosen, allBelow, subscriptsOf, exists, wayTo, Earlier}
+use Rattle.demands.specs.Walk.{octetBefore, octetsIn, numbersIn, runsPast, FirstPast, exists, wayTo, Earlier}
 
 -- A DESCRIPTION IS PASSED EXACTLY WHEN IT MEETS THE RULES
 abbrev pub PassedExactly : Replies → (description : List ℕ) → Type 0
@@ -80,13 +83,6 @@ abbrev pub TablesStand : Replies → (description image : List ℕ) → Type 0
 TablesStand R d img = (m k p n : ℕ) → Exactly (R .tablePlace d img m k ≡ octetsAt p n) (Seated d img m k p n)
 
 -- WHICH ELEMENTS THERE ARE, AND HOW LONG, where slots have the numbers v
--- the causes of "no such element": the item isn't one; subscripts too few or many; one not below its count; a branch not chosen
-pub data NoSuchElement (d : List ℕ) (v : Numbers) (q : ElementName) : Type 0 where
-  notOne : (q .item <? itemCount d && isElement (fieldsAt d (q .item))) ≡ false → NoSuchElement d v q
-  fewOrMany : (q .count ≤? 4 && length (subscriptsOf q) =? length (arraysRound d (q .item))) ≡ false → NoSuchElement d v q
-  notBelow : allBelow d v (arraysRound d (q .item)) (subscriptsOf q) ≡ false → NoSuchElement d v q
-  notChosen : isChosen d v (q .item) ≡ false → NoSuchElement d v q
-
 -- as long as its item says: a UINT or BLOCK by its octets, a SET by the number of its dimension
 abbrev pub lengthIn : (description : List ℕ) → Numbers → (i : ℕ) → ℕ
 lengthIn d v i = leafOctets (fieldsAt d i) (value v (fieldsAt d i))
@@ -116,12 +112,11 @@ pub record ElementsStand (R : Replies) (d img : List ℕ) (total : ℕ) : Type 0
   pub ends : (q : ElementName) (p n : ℕ) → R .elementPlace d img q ≡ octetsAt p n → p + n ≤ total
   -- THE DIMENSIONS have the numbers that the number question answers
   pub dimensions : (i : ℕ) → i < itemCount d → 0 < fieldsAt d i .sets → R .elementNumber d img (alone i) ≡ Reply.Number (numbersIn d img (fieldsAt d i .sets))
-  -- each name that there is has an element, of its length; no other has
+  -- each name that there is has an element, of its length
   pub there : (q : ElementName) → exists d (numbersIn d img) q ≡ true → (p : ℕ) × (R .elementPlace d img q ≡ octetsAt p (lengthIn d (numbersIn d img) (q .item)))
-  pub none : (q : ElementName) → Exactly (R .elementPlace d img q ≡ Place.Refused noElement) (NoSuchElement d (numbersIn d img) q)
-  -- and of a number also an item that is no UINT
-  pub noNumber : (q : ElementName)
-      → Exactly (R .elementNumber d img q ≡ Reply.Refused noElement) (NoSuchElement d (numbersIn d img) q ⊎ (isUint (fieldsAt d (q .item)) ≡ false))
+  -- no other has, and the first cause is told; of a number too
+  pub noElement : (q : ElementName) → CausesSay false d (numbersIn d img) q (refusalIn (placeReply (R .elementPlace d img q)))
+  pub noNumber : (q : ElementName) → CausesSay true d (numbersIn d img) q (refusalIn (R .elementNumber d img q))
   -- THE DESCRIPTION'S ORDER: items of a body one after another, an array's elements one after another
   pub order : (q r : ElementName) (p n x m : ℕ) → R .elementPlace d img q ≡ octetsAt p n → R .elementPlace d img r ≡ octetsAt x m → Earlier (wayTo d q) (wayTo d r) → p + n ≤ x
 

@@ -4,6 +4,8 @@ pub mod Rules
 pub mod Calendar
 pub mod Demand3
 pub mod Demand2
+pub mod Given
+pub mod Causes
 pub mod Demand1
 pub mod Bench
 pub mod Messages

@@ -24,7 +24,7 @@ use Rattle.meaning.specs.Questions.{refusalIn}
 use Rattle.meaning.specs.Refusals.{verdictReply, placeReply, placeLength}
 use Rattle.laying.specs.Every.{Every}
 use Rattle.demands.specs.Bench.{Messages}
-use Rattle.demands.specs.Demand1.{given, firstOf}
+use Rattle.demands.specs.Given.{given, firstOf}
 use Rattle.demands.specs.Demand2.{OthersSame}
 use Rattle.demands.specs.Replies.{Replies}
 

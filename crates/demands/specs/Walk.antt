@@ -6,14 +6,14 @@ use mathlib.Core.Path.{_≡_}
 use mathlib.Core.Logic.{_⊎_}
 use mathlib.Core.Bool.{Bool, true, false, _&&_, _||_}
 use mathlib.Core.List.{List, [], _∷_}
-use lib.ListN.{length, take}
+use lib.ListN.{length}
 use Rattle.meaning.specs.Basics.{if_then_else_, _=?_, _<?_, _≤?_}
 use Rattle.meaning.specs.declared.ElementName.{ElementName}
+use Rattle.meaning.specs.Causes.{subscriptsOf}
 use Rattle.meaning.specs.Description.{itemCount, fieldsAt, isElement, isArray, isChoice, nests, nested}
-use Rattle.meaning.specs.Layout.{leafOctets, numberAt}
+use Rattle.meaning.specs.Layout.{leafOctets, numberAt, Numbers, value}
 use Rattle.meaning.specs.Passed.{endOf}
 use Rattle.laying.specs.Outcomes.{setNumber}
-use Rattle.laying.specs.Sizes.{Numbers, value}
 
 -- WHAT STANDS ROUND AN ITEM
 -- item j encloses item i: counts include nested items
@@ -132,7 +132,7 @@ allBelow d v [] xs = true
 allBelow d v (a ∷ more) [] = true
 allBelow d v (a ∷ more) (x ∷ xs) = x <? value v (fieldsAt d a) && allBelow d v more xs
 
--- there is an element of item i with those subscripts
+-- there is an element of item i with those subscripts: the item is an element, as many subscripts as ARRAYs, each below its count, each branch chosen
 unfoldable pub hasElement : (description : List ℕ) → Numbers → (i : ℕ) → (subscripts : List ℕ) → Bool
 hasElement d v i xs =
     i <? itemCount d
@@ -140,10 +140,6 @@ hasElement d v i xs =
     && length xs =? length (arraysRound d i)
     && allBelow d v (arraysRound d i) xs
     && isChosen d v i
-
--- the subscripts that a name gives: four places and a count, places past the count aren't read
-abbrev pub subscriptsOf : ElementName → List ℕ
-subscriptsOf q = take (q .count) (q .subscripts)
 
 unfoldable pub exists : (description : List ℕ) → Numbers → ElementName → Bool
 exists d v q = q .count ≤? 4 && hasElement d v (q .item) (subscriptsOf q)

@@ -1,7 +1,7 @@
 -- WRONG PROGRAMS, each with the clause that it breaks: those that document 01 lists where it says how full a statement it expects, and some more. A wrong program is any family of
 -- replies or of messages that does what is said of it, on whatever description or image; the clause that refutes it is said of the example D and its first image, with what the
 -- clause leans on; of weekdays, which need no description and no image, it is the whole of `WeekdaysSay` and nothing besides. proofs/Wrong.antt proves 1 to 13,
--- proofs/WrongMessages.antt 14 to 18, proofs/WrongWeekdays.antt 19 to 22. Assumes nothing.
+-- proofs/WrongMessages.antt 14 to 18, proofs/WrongWeekdays.antt 19 to 22, proofs/WrongCauses.antt 23 to 27. Assumes nothing.
 use Prim.Native.Nat.{ℕ, _+_, _-_, _*_, _/_, _%_, _<_}
 use mathlib.Core.Path.{_≡_}
 use mathlib.Core.List.{List, [], _∷_}
@@ -14,9 +14,10 @@ use Rattle.meaning.specs.declared.Place.{Place}
 use Rattle.meaning.specs.declared.Quantity.{Quantity}
 use Rattle.meaning.specs.declared.Reply.{Reply}
 use Rattle.meaning.specs.declared.Verdict.{Verdict}
-use Rattle.meaning.specs.Examples.{D, D-writable, first, at, offset, clock, clock-image, moment, date}
+use Rattle.meaning.specs.Careful.{with-subscripts, maze, two-by-two, none-outside}
+use Rattle.meaning.specs.Examples.{D, D-writable, first, plain, at, offset, clock, clock-image, moment, date}
 use Rattle.meaning.specs.Messages.{fullWrite, sumOf}
-use Rattle.meaning.specs.Numbers.{noElement, notADate}
+use Rattle.meaning.specs.Numbers.{notADate, branchNotChosen, subscriptCount, subscriptTooLarge}
 use Rattle.meaning.specs.Layout.{dataOrder}
 use Rattle.meaning.specs.Refusals.{tablePartReply}
 use Rattle.almanac.specs.Days.{IsReal}
@@ -61,15 +62,15 @@ module _ (R : Replies) where
 
   -- 5. THE FIRST TABLE LAID AND THE REST PADDED, so that no item after the first table's has an element, breaks "each name that there is has an element"
   pub record Padded : Type 0 where
-    pub rest : (q : ElementName) → 2 < q .item → R .elementPlace D first q ≡ Place.Refused noElement
+    pub rest : (q : ElementName) → 2 < q .item → (p n : ℕ) → R .elementPlace D first q ≡ octetsAt p n → ⊥
 
   -- 6. AN ELEMENT STRETCHED OVER ITS NEIGHBOURS' OCTETS, here the block of Table 5 over the whole table, breaks its length
   pub record Stretched : Type 0 where
     pub place : R .elementPlace D first (alone 5) ≡ octetsAt 2 6
 
   -- 7. NO SUCH ELEMENT, WHATEVER IS ASKED, breaks what 5 does
-  pub record AlwaysEleven : Type 0 where
-    pub none : (d img : List ℕ) (q : ElementName) → R .elementPlace d img q ≡ Place.Refused noElement
+  pub record NeverThere : Type 0 where
+    pub none : (d img : List ℕ) (q : ElementName) (p n : ℕ) → R .elementPlace d img q ≡ octetsAt p n → ⊥
 
   -- 8. A TIER THAT IS ALWAYS 0 breaks "tier x is that of the latest switch"
   pub record AlwaysZero : Type 0 where
@@ -118,7 +119,7 @@ pub record WrongPrograms (R : Replies) : Type 0 where
       → Reads R D first → NumberWrites R D first (at 7 0) 1 → ⊥
   pub padded : Padded R → ElementsStand R D first 8 → ⊥
   pub stretched : Stretched R → ElementsStand R D first 8 → ⊥
-  pub alwaysEleven : AlwaysEleven R → ElementsStand R D first 8 → ⊥
+  pub neverThere : NeverThere R → ElementsStand R D first 8 → ⊥
   pub alwaysZero : AlwaysZero R → CalendarRead R (clock 12) clock-image → ⊥
   pub writesDimensions : WritesDimensions R → R .tablePlace D-writable first 0 0 ≡ octetsAt 0 2 → R .elementPlace D-writable first (alone 2) ≡ octetsAt 1 1
       → RangeWrites R D-writable first 0 0 (offset 1) (0 ∷ []) → ⊥
@@ -209,3 +210,33 @@ pub record WrongWeekdays (R : Replies) : Type 0 where
   pub oneOff : OneOff R → WeekdaysSay (R .weekday) → ⊥
   pub commonYear : CommonYear R → WeekdaysSay (R .weekday) → ⊥
   pub mondayFirst : MondayFirst R → WeekdaysSay (R .weekday) → ⊥
+
+-- CAUSES of "no such element", in the maze of crate meaning, specs/Careful: item 8 is a BLOCK inside two arrays, item 7 a number beside it; item 10 stands in the branch not chosen
+module _ (R : Replies) where
+  -- 23. 24 BEFORE 26, where a number is asked of a BLOCK with no subscripts, breaks "the first cause in its order is told"
+  pub record CountFirst : Type 0 where
+    pub told : R .elementNumber maze two-by-two (plain 8) ≡ Reply.Refused subscriptCount
+
+  -- 24. AN INNER SUBSCRIPT TOLD WHERE AN OUTER BRANCH ISN'T CHOSEN breaks "none outside it is in the way"
+  pub record InnerFirst : Type 0 where
+    pub told : R .elementPlace maze two-by-two (with-subscripts 10 2 1 9) ≡ Place.Refused (subscriptTooLarge 1)
+
+  -- 25. A DEPTH COUNTED FROM THE INSIDE, here of the outer array, breaks "its depth is how many ARRAYs stand outside"
+  pub record FromInside : Type 0 where
+    pub told : R .elementPlace maze two-by-two (with-subscripts 7 2 2 0) ≡ Place.Refused (subscriptTooLarge 1)
+
+  -- 26. A DEPTH THAT COUNTS CHOICES, here of the inner array, which stands in a choice, breaks the same
+  pub record CountsChoices : Type 0 where
+    pub told : R .elementPlace maze two-by-two (with-subscripts 7 2 0 2) ≡ Place.Refused (subscriptTooLarge 2)
+
+  -- 27. 23 FOR AN ARRAY OF COUNT 0 breaks "23 is told of a branch"
+  pub record EmptyUnchosen : Type 0 where
+    pub told : R .elementPlace maze none-outside (with-subscripts 7 2 0 0) ≡ Place.Refused branchNotChosen
+
+-- ALL OF THEM
+pub record WrongCauses (R : Replies) : Type 0 where
+  pub countFirst : CountFirst R → ElementsStand R maze two-by-two 10 → ⊥
+  pub innerFirst : InnerFirst R → ElementsStand R maze two-by-two 10 → ⊥
+  pub fromInside : FromInside R → ElementsStand R maze two-by-two 10 → ⊥
+  pub countsChoices : CountsChoices R → ElementsStand R maze two-by-two 10 → ⊥
+  pub emptyUnchosen : EmptyUnchosen R → ElementsStand R maze none-outside 2 → ⊥

@@ -6,9 +6,9 @@ use mathlib.Core.Bool.{Bool, true, false}
 use mathlib.Core.List.{List}
 use Rattle.meaning.specs.Basics.{if_then_else_}
 use Rattle.meaning.specs.declared.Inner.{Inner}
-use Rattle.meaning.specs.Layout.{Body, Branches, otherwise, branch, taken, bodyIn, armsOf, Slots, layBody, layArms}
+use Rattle.meaning.specs.Layout.{Body, Branches, otherwise, branch, taken, bodyIn, armsOf, Slots, layBody, layArms, Numbers}
 use Rattle.laying.specs.Rows.{bodyRow, armsRow, walkBody, walkArms}
-use Rattle.laying.specs.Sizes.{Numbers, bodySize, armsSize}
+use Rattle.laying.specs.Sizes.{bodySize, armsSize}
 use Rattle.laying.specs.Sound.{Known, FitBody, FitArms, SoundBody, SoundArms}
 use Rattle.laying.proofs.Branches.{Within}
 use Rattle.meaning.proofs.Either.{tested}

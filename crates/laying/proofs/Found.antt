@@ -1,18 +1,29 @@
 -- What a reply finds: an element is one of those laid out, of its item, and ends by the total; so does a table. A passed description has whole items.
 -- Assumes nothing.
-use Prim.Native.Nat.{ℕ, _+_, _≤_}
-use mathlib.Core.Path.{subst}
+use Prim.Native.Nat.{ℕ, _+_, _<_, _≤_}
+use mathlib.Core.Path.{_≡_, refl, _∙_, ap, subst, sym}
+use mathlib.Core.Bool.{Bool, true, false, and-eq-true-iff}
 use mathlib.Core.List.{List, [], _∷_}
+use mathlib.Core.Option.{Option, some, none}
 use lib.ListN.{take}
+use borrow.Author.Tests.{lt-ltb}
 use native.Mathlib.Omega.{arith}
+use Rattle.meaning.specs.Basics.{if_then_else_, _<?_}
 use Rattle.meaning.specs.declared.ElementName.{ElementName}
-use Rattle.meaning.specs.Layout.{Placed, Seat, Slots}
+use Rattle.meaning.specs.declared.Place.{Place}
+use Rattle.meaning.specs.declared.Refusal.{Refusal}
+use Rattle.meaning.specs.Causes.{suits, whyNone}
+use Rattle.meaning.specs.Description.{itemCount, fieldsAt, isUint}
+use Rattle.meaning.specs.Layout.{Placed, Seat, Slots, slotNumbers}
+use Rattle.meaning.specs.Passed.{Exactly}
+use Rattle.meaning.specs.Refusals.{openImage, elementIn, elementFor, placedPlace, elementPlaceIn, elementPlaceReply}
+use Rattle.meaning.proofs.Either.{clash}
 use Rattle.laying.specs.Cover.{Follow}
 use Rattle.laying.specs.Every.{Every}
 use Rattle.laying.specs.Own.{OfItem}
 use Rattle.laying.proofs.Among.{Among, every-among, ElementOf, named-among, SeatOf, seat-among}
 use Rattle.laying.proofs.Cover.{EndsBy}
-use Rattle.laying.proofs.Opened.{Opens, ElementAt, TableOf}
+use Rattle.laying.proofs.Opened.{Opens, Came, opens, refuses, came, for-laid, where-laid, ElementAt, where-opens, TableOf}
 use Rattle.laying.proofs.LaidOut.{elements-own, elements-end, tables-follow}
 
 -- each element laid out is of its item
@@ -42,6 +53,45 @@ module _ {d img : List ℕ} {q : ElementName} {p n : ℕ} (a : ElementAt d img q
         every-among (EndsBy (a .total)) (a .at .element) (a .elements)
             (elements-end d img (a .seats) (a .elements) (a .slots) (a .total) (a .opens .laid)) (element-of .among),
       )
+
+-- AN ELEMENT WHOSE NUMBER IS ASKED is a UINT, where it is anyway
+-- found, it has a place, whatever the refusal else
+placed-same : (why other : Refusal) (x : Option Placed) (p n : ℕ) → placedPlace why x ≡ Place.At (record { 0 = p }) n → placedPlace other x ≡ Place.At (record { 0 = p }) n
+unfolding placedPlace
+placed-same why other none p n e = clash (cc)
+placed-same why other (some x) p n e = e
+
+module _ (d img : List ℕ) (q : ElementName) (number : Bool) (p n : ℕ) where
+  abbrev Integer : Type 0
+  Integer = number ≡ true → isUint (fieldsAt d (q .item)) ≡ true
+
+  suits-integer : suits number d q ≡ true → Integer
+  suits-integer h e = and-eq-true-iff (q .item <? itemCount d) (isUint (fieldsAt d (q .item))) .0 (rw e at h) .1
+
+  integer-suits : q .item < itemCount d → Integer → suits number d q ≡ true
+  integer-suits l h = go number refl
+    where
+      go : (b : Bool) → number ≡ b → suits b d q ≡ true
+      go true e = rw (lt-ltb (q .item) (itemCount d) l, h e)
+      go false e = refl
+
+  pub for-exactly : Exactly (elementPlaceIn number d q (openImage d img) ≡ Place.At (record { 0 = p }) n) (Integer × (elementPlaceReply d img q ≡ Place.At (record { 0 = p }) n))
+  unfolding elementFor placedPlace elementPlaceReply elementPlaceIn
+  for-exactly = go (came d img)
+    where
+      go : Came d img → Exactly (elementPlaceIn number d q (openImage d img) ≡ Place.At (record { 0 = p }) n) (Integer × (elementPlaceReply d img q ≡ Place.At (record { 0 = p }) n))
+      go (refuses r h) = (λ e. clash (cc (ap (elementPlaceIn number d q) h)), λ c. clash (cc (c .1, ap (elementPlaceIn false d q) h)))
+      go (opens ts es s m o) = (λ e. there (suits number d q) refl (sym (for-laid o number q) ∙ e), back)
+        where
+          there : (b : Bool) → suits number d q ≡ b → placedPlace (whyNone number d (slotNumbers s) q) (if b then elementIn q es else none) ≡ Place.At (record { 0 = p }) n
+              → Integer × (elementPlaceReply d img q ≡ Place.At (record { 0 = p }) n)
+          there true h e = (suits-integer h, where-laid o q ∙ placed-same _ _ (elementIn q es) p n e)
+          there false h e = clash (cc)
+
+          back : Integer × (elementPlaceReply d img q ≡ Place.At (record { 0 = p }) n) → elementPlaceIn number d q (openImage d img) ≡ Place.At (record { 0 = p }) n
+          back c =
+              let l = element-own (where-opens d img q p n (c .1)) .there in
+              for-laid o number q ∙ rw (integer-suits l (c .0)) (placed-same _ _ (elementIn q es) p n (sym (where-laid o q) ∙ c .1))
 
 -- A TABLE WHOSE PLACE IS REPLIED
 -- tables that follow one another end by the last one's end

@@ -216,7 +216,7 @@ module _ (d : List ℕ) where
           keeps-valued s f i (λ c. keeps-image a i (keeps-map (λ e k. k .0)
           (keeps-repeated (λ j e k. record { low = k .low; high = k .high; few = omega (arith, k .few); of = k .of })
           _ (λ t q. keeps-body b (n + 1) lo hi h true t q) i _ c 0 s p)))
-      keeps-node (choice i f arms) n lo hi h a s p = keeps-valued s f i (λ x. keeps-arms arms n lo hi (h .2) x a s p)
+      keeps-node (choice i f arms) n lo hi h a s p = keeps-valued s f i (λ x. keeps-arms arms n lo hi h x a s p)
       keeps-node (stray i) n lo hi h a s p = faults
 
       -- the arm that is taken

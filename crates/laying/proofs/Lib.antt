@@ -9,7 +9,6 @@ pub mod Tops
 pub mod Rows
 pub mod Spots
 pub mod Whole
-pub mod Standing
 pub mod Reaches
 pub mod Arms
 pub mod Cover

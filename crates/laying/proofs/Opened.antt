@@ -13,12 +13,13 @@ use Rattle.meaning.specs.declared.Refusal.{Refusal}
 use Rattle.meaning.specs.declared.Verdict.{Verdict}
 use Rattle.meaning.specs.declared.Reply.{Reply}
 use Rattle.meaning.specs.declared.Place.{Place}
-use Rattle.meaning.specs.Description.{checkReply, fieldsAt, isUint}
-use Rattle.meaning.specs.Passed.{Passes, Exactly}
-use Rattle.meaning.specs.Layout.{Placed, Seat, Slots, fault, short, Layout, laidOut, stoppedAt, layOut, elementNamed, tableNamed}
+use Rattle.meaning.specs.Causes.{whyNone}
+use Rattle.meaning.specs.Description.{checkReply}
+use Rattle.meaning.specs.Passed.{Passes}
+use Rattle.meaning.specs.Layout.{Placed, Seat, Slots, fault, short, Layout, laidOut, stoppedAt, layOut, elementNamed, tableNamed, slotNumbers}
 use Rattle.meaning.specs.Refusals.{stopRefusal, opened, refused, openLaid, openSound, openImage, layoutIn, layoutReply, placeStart, placeLength}
-use Rattle.meaning.specs.Refusals.{seatPlace, tablePlaceIn, tablePlaceReply, elementIn, placedPlace, elementPlaceIn, elementPlaceReply, integerPlace}
-use Rattle.meaning.specs.Numbers.{imageTooLong, imageShort, noElement}
+use Rattle.meaning.specs.Refusals.{seatPlace, tablePlaceIn, tablePlaceReply, elementIn, elementFor, placedPlace, elementPlaceIn, elementPlaceReply}
+use Rattle.meaning.specs.Numbers.{imageTooLong, imageShort}
 use Rattle.laying.specs.Outcomes.{Lays}
 use Rattle.laying.proofs.Reaches.{passed-lays}
 use Rattle.meaning.proofs.Either.{clash}
@@ -77,10 +78,14 @@ module _ {d img : List ℕ} {ts : List Seat} {es : List Placed} {s : Slots} {n :
   unfolding tablePlaceReply tablePlaceIn
   table-laid m k = rw opened-image
 
-  -- where an element is
-  pub where-laid : (q : ElementName) → elementPlaceReply d img q ≡ placedPlace (elementIn q es)
-  unfolding elementPlaceReply elementPlaceIn
-  where-laid q = rw opened-image
+  -- where an element is, of which the number is asked or not
+  pub for-laid : (number : Bool) (q : ElementName) → elementPlaceIn number d q (openImage d img) ≡ placedPlace (whyNone number d (slotNumbers s) q) (elementFor number d q es)
+  unfolding elementPlaceIn
+  for-laid number q = rw opened-image
+
+  pub where-laid : (q : ElementName) → elementPlaceReply d img q ≡ placedPlace (whyNone false d (slotNumbers s) q) (elementIn q es)
+  unfolding elementPlaceReply elementFor
+  where-laid q = for-laid false q
 
 -- THE REPLIES, READ BACK
 -- the image opened, with that total
@@ -101,18 +106,6 @@ total-opens d img n e = go (came d img)
         subst (TotalOf d img) h (record { seats = ts; elements = es; slots = s; opens = o })
     go (refuses r h) = clash (cc (ap layoutIn h))
 
--- the place of an integer is where the element is
-pub integer-exactly : (d : List ℕ) (i : ℕ) (v : Place) (p n : ℕ)
-    → Exactly (integerPlace d i v ≡ Place.At (record { 0 = p }) n) ((isUint (fieldsAt d i) ≡ true) × (v ≡ Place.At (record { 0 = p }) n))
-unfolding integerPlace
-integer-exactly d i (Place.At s l) p n = (go (isUint (fieldsAt d i)) refl, λ c. rw (c .0) (c .1))
-  where
-    go : (b : Bool) → isUint (fieldsAt d i) ≡ b → (if b then Place.At s l else Place.Refused noElement) ≡ Place.At (record { 0 = p }) n
-        → (isUint (fieldsAt d i) ≡ true) × (Place.At s l ≡ Place.At (record { 0 = p }) n)
-    go true e h = (e, h)
-    go false e h = clash (cc)
-integer-exactly d i (Place.Refused r) p n = (λ e. clash (cc), λ c. c .1)
-
 -- an element was found, at p and n octets long
 pub record FoundAt (o : Option Placed) (p n : ℕ) : Type 0 where
   pub element : Placed
@@ -121,10 +114,10 @@ pub record FoundAt (o : Option Placed) (p n : ℕ) : Type 0 where
   pub size : element .size ≡ n
 
 -- where a place is replied, one was
-found-at : (o : Option Placed) (p n : ℕ) → placedPlace o ≡ Place.At (record { 0 = p }) n → FoundAt o p n
+found-at : (why : Refusal) (o : Option Placed) (p n : ℕ) → placedPlace why o ≡ Place.At (record { 0 = p }) n → FoundAt o p n
 unfolding placedPlace
-found-at none p n e = clash (cc)
-found-at (some x) p n e = record { element = x; found = refl; start = ap placeStart e; size = ap placeLength e }
+found-at why none p n e = clash (cc)
+found-at why (some x) p n e = record { element = x; found = refl; start = ap placeStart e; size = ap placeLength e }
 
 -- a table was found, at p and n octets long
 pub record SeatAt (o : Option Seat) (p n : ℕ) : Type 0 where
@@ -143,11 +136,11 @@ seat-at (some t) p n e = record { seat = t; found = refl; start = ap placeStart 
 pub where-found : {d img : List ℕ} {ts : List Seat} {es : List Placed} {s : Slots} {total : ℕ} → Opens d img ts es s total → (q : ElementName) (p n : ℕ)
     → elementPlaceReply d img q ≡ Place.At (record { 0 = p }) n → FoundAt (elementNamed (q .item) (take (q .count) (q .subscripts)) es) p n
 unfolding elementIn placedPlace
-where-found {es = es} o q p n e = go (q .count ≤? 4) (sym (where-laid o q) ∙ e)
+where-found {d} {es = es} {s} o q p n e = go (q .count ≤? 4) (sym (where-laid o q) ∙ e)
   where
-    go : (b : Bool) → placedPlace (if b then elementNamed (q .item) (take (q .count) (q .subscripts)) es else none) ≡ Place.At (record { 0 = p }) n
+    go : (b : Bool) → placedPlace (whyNone false d (slotNumbers s) q) (if b then elementNamed (q .item) (take (q .count) (q .subscripts)) es else none) ≡ Place.At (record { 0 = p }) n
         → FoundAt (elementNamed (q .item) (take (q .count) (q .subscripts)) es) p n
-    go true h = found-at _ p n h
+    go true h = found-at _ _ p n h
     go false h = clash (cc)
 
 -- the image opened, and that table found
@@ -184,4 +177,4 @@ where-opens d img q p n e = go (came d img)
   where
     go : Came d img → ElementAt d img q p n
     go (opens ts es s l o) = record { seats = ts; elements = es; slots = s; total = l; opens = o; at = where-found o q p n e }
-    go (refuses r h) = clash (cc (ap (elementPlaceIn q) h))
+    go (refuses r h) = clash (cc (ap (elementPlaceIn false d q) h))

@@ -15,24 +15,24 @@ use Rattle.meaning.specs.Description.{refers}
 use Rattle.meaning.specs.Passed.{Passes}
 use Rattle.meaning.specs.Layout.{Node, Body, Arms, Tables, leaf, array, choice, stray, done, more, lastArm, arm, noMore, table, strayTable, treeOf}
 use Rattle.meaning.specs.Layout.{Slots, unread, holds, setSlot, leafOctets, numberAt, Placed, Stop, fault, short, Laid, laid, stopped, also, andThen, inImage, placed}
-use Rattle.meaning.specs.Layout.{layBody, layNode, layArms, Seat, Layout, laidOut, stoppedAt, before, seated, layTables, layOut}
+use Rattle.meaning.specs.Layout.{layBody, layNode, layArms, Seat, Layout, laidOut, stoppedAt, before, seated, layTables, layOut, value, numberOf, slotNumbers}
 use Rattle.laying.specs.Outcomes.{Lays, setNumber}
-use Rattle.laying.specs.Rows.{Row, noRow, rowSpot, firstRow, onward, passedOver, bodyRow, itemRow, rowAfter, walkBody, walkNode, walkArms}
+use Rattle.laying.specs.Rows.{Row, noRow, rowSpot, firstRow, onward, bodyRow, itemRow, rowAfter, walkBody, walkNode, walkArms}
 use Rattle.laying.specs.Rows.{walkTables, rowOf, seen}
-use Rattle.laying.specs.Sizes.{value, bodySize, itemSize}
-use Rattle.laying.specs.Slots.{numberOf, octetsOf, numbersOf, Matches}
+use Rattle.laying.specs.Sizes.{bodySize, itemSize}
+use Rattle.laying.specs.Slots.{octetsOf, Matches}
 use Rattle.laying.specs.Sound.{Known, noneKnown, setKnown, SoundBody, SoundNode, SoundArms, SoundTables, afterNode, afterBody}
 use Rattle.laying.proofs.Bodies.{quiet-body}
 use Rattle.meaning.proofs.Either.{tested}
 use Rattle.laying.proofs.Rising.{RisesBody, RisesNode, RisesArms, RisesTables, afterTable, rises-tree}
-use Rattle.laying.proofs.Rows.{Other, other-narrower, first-none, onward-none, over-none, over-absent, parted, first-alone}
+use Rattle.laying.proofs.Rows.{Other, other-narrower, first-none, onward-none, parted}
 use Rattle.laying.proofs.Spots.{orElse, seen-none, seen-append, seen-one, row-onward, row-absent, row-first}
 use Rattle.laying.proofs.Tops.{passed-sound}
 use Rattle.laying.proofs.Whole.{other-node, Whole, value-is, w-body, w-array}
 
 -- THE SLOTS
 -- a slot that is set, on each side
-pub numbers-set : (k o x : ℕ) (s : Slots) → numbersOf (setSlot k (holds o x) s) ≡ setNumber k x (numbersOf s)
+pub numbers-set : (k o x : ℕ) (s : Slots) → slotNumbers (setSlot k (holds o x) s) ≡ setNumber k x (slotNumbers s)
 unfolding setSlot setNumber numberOf
 numbers-set zero o x s = refl
 numbers-set (suc k) o x s = fun-ext (λ j. go j (eqb j (suc k)))
@@ -75,10 +75,9 @@ module _ (d img : List ℕ) (i : ℕ) where
         (after-none (layNode x img false s p) _ (λ t q. elsewhere-body n (h .0) hi b (h .4) (other-narrower lo hi (h .0) hi i (h .1) (omega arith) o) t q))
 
     elsewhere-node : (n lo hi : ℕ) (x : Node) → RisesNode d n lo hi x → Other lo hi i → (s : Slots) (p : ℕ) → walkNode x img s p i ≡ noRow
-    elsewhere-node n lo hi (leaf j f) h o s p = onward-none p _ (other-node d (numbersOf s) i n lo hi (leaf j f) h o)
-    elsewhere-node n lo hi (array j f b) h o s p = onward-none p _ (other-node d (numbersOf s) i n lo hi (array j f b) h o)
-    elsewhere-node n lo hi (choice j f arms) h o s p =
-        first-none _ _ (elsewhere-arms n lo hi arms (value (numbersOf s) f) (h .2) o s p) (over-none lo hi j f i (h .0) (h .1) o)
+    elsewhere-node n lo hi (leaf j f) h o s p = onward-none p _ (other-node d (slotNumbers s) i n lo hi (leaf j f) h o)
+    elsewhere-node n lo hi (array j f b) h o s p = onward-none p _ (other-node d (slotNumbers s) i n lo hi (array j f b) h o)
+    elsewhere-node n lo hi (choice j f arms) h o s p = elsewhere-arms n lo hi arms (value (slotNumbers s) f) h o s p
     elsewhere-node n lo hi (stray j) h o s p = refl
 
     elsewhere-arms : (n lo hi : ℕ) (arms : Arms) (x : ℕ) → RisesArms d n lo hi arms → Other lo hi i → (s : Slots) (p : ℕ) → walkArms arms x img s p i ≡ noRow
@@ -109,11 +108,6 @@ pub record Reached (κ : Known) (r : ℕ → Row) (ps : List Placed) (t : Slots)
 abbrev pub Reaches : Known → (ℕ → Row) → Laid → Type 0
 Reaches κ r (laid ps t q) = Reached κ r ps t
 Reaches κ r (stopped ps x) = Stops x
-
--- the same by another name for rows
-r-as : (κ : Known) (r q : ℕ → Row) (o : Laid) → ((i : ℕ) (xs : List ℕ) → rowSpot (r i) xs ≡ rowSpot (q i) xs) → Reaches κ r o → Reaches κ q o
-r-as κ r q (laid ps t p) e h = record { matches = h .matches; stand = λ i xs. h .stand i xs ∙ e i xs }
-r-as κ r q (stopped ps x) e h = h
 
 -- elements before others, of other items
 stand-append : (r q : ℕ → Row) (ps qs : List Placed) → ((i : ℕ) → (r i ≡ noRow) ⊎ (q i ≡ noRow)) → ((i : ℕ) (xs : List ℕ) → seen i xs ps ≡ rowSpot (r i) xs)
@@ -153,13 +147,13 @@ module _ (img : List ℕ) where
 
   -- a leaf may set a slot
   r-leaf : (i : ℕ) (f : Fields) (s : Slots) (κ : Known) (p : ℕ) → Matches s κ → (0 < f .sets → f .slot ≡ 0)
-      → Reaches (setKnown (f .sets) (f .octets) κ) (λ j. onward p (itemRow (leaf i f) (numbersOf s) j)) (placed i f img s p (leafOctets f (value (numbersOf s) f)))
+      → Reaches (setKnown (f .sets) (f .octets) κ) (λ j. onward p (itemRow (leaf i f) (slotNumbers s) j)) (placed i f img s p (leafOctets f (value (slotNumbers s) f)))
   unfolding placed itemRow
   r-leaf i f s κ p m owns =
-      let n = leafOctets f (value (numbersOf s) f) in
+      let n = leafOctets f (value (slotNumbers s) f) in
       record {
-        matches = matches-leaf f (value (numbersOf s) f) (numberAt img p n) s κ (f .sets) m owns;
-        stand = λ j xs. seen-one i (f .sets) p n j xs ∙ sym (row-onward p (itemRow (leaf i f) (numbersOf s) j) xs);
+        matches = matches-leaf f (value (slotNumbers s) f) (numberAt img p n) s κ (f .sets) m owns;
+        stand = λ j xs. seen-one i (f .sets) p n j xs ∙ sym (row-onward p (itemRow (leaf i f) (slotNumbers s) j) xs);
       }
 
   -- a body, each item in it and the arms of a choice
@@ -180,14 +174,11 @@ module _ (img : List ℕ) where
           → Reaches (afterNode x κ) (λ i. walkNode x img s p i) (layNode x img false s p)
       r-node (leaf i f) free n lo hi s κ p m h r = rw (value-is s κ f i _ m (h .refers)) (r-image _ _ i p _ (r-leaf i f s κ p m (h .owns)))
       r-node (array i f b) free n lo hi s κ p m h r =
-          let v = numbersOf s in
+          let v = slotNumbers s in
           rw (value-is s κ f i _ m (h .0))
           (r-whole s κ (itemRow (array i f b) v) i p (itemSize (array i f b) v) _ m
           (w-array s (λ t q. layBody b img true t q) (bodySize b v) (λ j. bodyRow b v j) (λ q. w-body d img s κ m b (n + 1) lo hi q (h .1) r) i (value v f) p))
-      r-node (choice j f arms) free n lo hi s κ p m h r =
-          let x = value (numbersOf s) f in
-          rw (value-is s κ f j _ m (h .0))
-          (r-as κ _ _ (layArms arms x img false s p) (λ i xs. first-alone (walkArms arms x img s p i) (passedOver j f i) xs (over-absent j f i xs)) (r-arms arms x n lo hi s κ p m (h .1) (r .2)))
+      r-node (choice j f arms) free n lo hi s κ p m h r = rw (value-is s κ f j _ m (h .0)) (r-arms arms (value (slotNumbers s) f) n lo hi s κ p m (h .1) r)
       r-node (stray i) free n lo hi s κ p m h r = absurd h
 
       r-arms : (arms : Arms) (x n lo hi : ℕ) (s : Slots) (κ : Known) (p : ℕ) → Matches s κ → SoundArms κ arms → RisesArms d n lo hi arms

@@ -36,7 +36,7 @@ module _ (d : List ℕ) where
     pub RisesNode : (n lo hi : ℕ) → Node → Type 0
     RisesNode n lo hi (leaf i f) = Leaf n lo hi i f
     RisesNode n lo hi (array i f b) = RisesBody (n + 1) lo hi b
-    RisesNode n lo hi (choice i f arms) = (lo ≤ i + 1) × (i + 1 + nested f ≤ hi) × RisesArms n lo hi arms
+    RisesNode n lo hi (choice i f arms) = RisesArms n lo hi arms
     RisesNode n lo hi (stray i) = Unit {0}
 
     pub RisesArms : (n lo hi : ℕ) → Arms → Type 0
@@ -85,7 +85,7 @@ module _ (d : List ℕ) where
         node-cases (RisesNode n lo hi) inner d at m (λ s. tt)
         (λ l a b. record { few = few; low = omega arith; high = omega arith; own = of-item at (omega arith) a b })
         (λ l k. deeper (n + 1) (at + 1 + 0) (f .first) lo hi (omega arith) (omega arith))
-        (λ l k. (omega arith, omega arith, rises-arms at (nested f) lo hi (omega arith) (branchesOf d at) (branches-within d at)))
+        (λ l k. rises-arms at (nested f) lo hi (omega arith) (branchesOf d at) (branches-within d at))
 
     -- and a body
     rises-of : (m skip at lo hi : ℕ) → Room skip at m lo hi → RisesBody n lo hi (bodyOf inner d m skip at)

@@ -10,7 +10,7 @@ use borrow.Author.Tests.{eqb-true, eqb-false, ltb-true, ltb-false, lt-ltb, le-lt
 use native.Mathlib.Nat.{zero-mul, suc-mul}
 use native.Mathlib.Omega.{arith}
 use Rattle.meaning.specs.Layout.{Placed, under, sameList, elementNamed}
-use Rattle.laying.specs.Rows.{Array, Row, row, notChosen, noRow, Spot, spot, absent, spotIn, rowSpot, firstRow, onward, inArray, spotOf, seen}
+use Rattle.laying.specs.Rows.{Array, Row, row, noRow, Spot, spot, absent, spotIn, rowSpot, firstRow, onward, inArray, spotOf, seen}
 
 -- the first that is somewhere
 unfoldable pub orElse : Spot → Spot → Spot
@@ -175,7 +175,6 @@ spot-onward k p n (a ∷ rest) (x ∷ xs) = go (ltb x (a .count)) (spot-onward k
 pub row-onward : (k : ℕ) (r : Row) (xs : List ℕ) → rowSpot (onward k r) xs ≡ further k (rowSpot r xs)
 unfolding rowSpot onward further
 row-onward k (row p n rest) xs = spot-onward k p n rest xs
-row-onward k (notChosen rest) xs = refl
 row-onward k noRow xs = refl
 
 pub row-absent : (xs : List ℕ) → rowSpot noRow xs ≡ absent
@@ -189,7 +188,6 @@ row-array c w r [] = none-named r
   where
     none-named : (r : Row) → absent ≡ rowSpot (inArray c w r) []
     none-named (row p n rest) = refl
-    none-named (notChosen rest) = refl
     none-named noRow = refl
 row-array c w r (x ∷ xs) =
     let h : 0 ≤ x = omega arith in
@@ -207,7 +205,6 @@ row-array c w r (x ∷ xs) =
 
     go : (r : Row) → cond (ltb x c) (further (x * w) (rowSpot r xs)) absent ≡ rowSpot (inArray c w r) (x ∷ xs)
     go (row p n rest) = pick (ltb x c) p n rest
-    go (notChosen rest) = gone (ltb x c)
     go noRow = gone (ltb x c)
 
 -- of two rows of which one at most is a row
@@ -215,5 +212,4 @@ pub row-first : (r q : Row) (xs : List ℕ) → (r ≡ noRow) ⊎ (q ≡ noRow) 
 unfolding rowSpot firstRow orElse
 row-first r q xs (inl e) = rw e
 row-first (row p n rest) q xs (inr e) = rw e (sym (or-absent (spotIn p n rest xs)))
-row-first (notChosen rest) q xs (inr e) = rw e
 row-first noRow q xs (inr e) = refl

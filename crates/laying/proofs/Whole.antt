@@ -13,17 +13,17 @@ use Rattle.meaning.specs.declared.Fields.{Fields}
 use Rattle.meaning.specs.Description.{refers}
 use Rattle.meaning.specs.Layout.{Node, Body, Arms, leaf, array, choice, stray, done, more, lastArm, arm}
 use Rattle.meaning.specs.Layout.{Slot, Slots, unread, holds, setSlot, bitRange, leafOctets, Placed, Laid, laid, stopped, also, andThen, reading, valued}
-use Rattle.meaning.specs.Layout.{inImage, placed, sizeFrom, under, asElement, repeated, layBody, layNode, layArms}
+use Rattle.meaning.specs.Layout.{inImage, placed, sizeFrom, under, asElement, repeated, layBody, layNode, layArms, Numbers, value, numberOf, slotNumbers}
 use Rattle.laying.specs.Every.{Every}
-use Rattle.laying.specs.Rows.{Row, row, noRow, Spot, absent, rowSpot, onward, inArray, passedOver, bodyRow, itemRow, armsRow, seen}
-use Rattle.laying.specs.Sizes.{Numbers, value, bodySize, itemSize, armsSize}
-use Rattle.laying.specs.Slots.{numberOf, octetsOf, numbersOf, Matches}
+use Rattle.laying.specs.Rows.{Row, row, noRow, Spot, absent, rowSpot, onward, inArray, bodyRow, itemRow, armsRow, seen}
+use Rattle.laying.specs.Sizes.{bodySize, itemSize, armsSize}
+use Rattle.laying.specs.Slots.{octetsOf, Matches}
 use Rattle.laying.specs.Sound.{Known, GoodReference, SoundBody, SoundNode, SoundArms}
 use Rattle.laying.proofs.Bodies.{quiet-node}
 use Rattle.meaning.proofs.Either.{tested}
 use Rattle.laying.proofs.Every.{every-append}
 use Rattle.laying.proofs.Rising.{RisesBody, RisesNode, RisesArms}
-use Rattle.laying.proofs.Rows.{Other, other-narrower, first-none, onward-none, array-none, over-none, over-absent, parted, first-alone}
+use Rattle.laying.proofs.Rows.{Other, other-narrower, first-none, onward-none, array-none, parted}
 use Rattle.laying.proofs.Spots.{orElse, further, further-or, further-twice, further-absent, seen-none, seen-append, seen-one, someSpot, some-none}
 use Rattle.laying.proofs.Spots.{some-more, row-onward, row-absent, row-array, row-first}
 
@@ -47,7 +47,7 @@ module _ (d : List ℕ) (v : Numbers) (i : ℕ) where
     pub other-node : (n lo hi : ℕ) (x : Node) → RisesNode d n lo hi x → Other lo hi i → itemRow x v i ≡ noRow
     other-node n lo hi (leaf j f) h o = rw (ne-eqb j i (other-item lo hi j i (h .low) (h .high) o))
     other-node n lo hi (array j f b) h o = array-none _ _ _ (other-body (n + 1) lo hi b h o)
-    other-node n lo hi (choice j f arms) h o = first-none _ _ (other-arms n lo hi arms (value v f) (h .2) o) (over-none lo hi j f i (h .0) (h .1) o)
+    other-node n lo hi (choice j f arms) h o = other-arms n lo hi arms (value v f) h o
     other-node n lo hi (stray j) h o = refl
 
     pub other-arms : (n lo hi : ℕ) (arms : Arms) (x : ℕ) → RisesArms d n lo hi arms → Other lo hi i → armsRow arms x v i ≡ noRow
@@ -155,7 +155,7 @@ unfolding placed setSlot Every
 stand-placed i f img s p n e = record { same = rw e; ends = refl; seen-at = λ j xs. seen-one i (f .sets) p n j xs; unset = (e, tt) }
 
 -- a good reference is read
-pub value-is : (s : Slots) (κ : Known) (f : Fields) (i : ℕ) (g : ℕ → Laid) → Matches s κ → GoodReference κ f → valued s f i g ≡ g (value (numbersOf s) f)
+pub value-is : (s : Slots) (κ : Known) (f : Fields) (i : ℕ) (g : ℕ → Laid) → Matches s κ → GoodReference κ f → valued s f i g ≡ g (value (slotNumbers s) f)
 unfolding valued value reading numberOf octetsOf
 value-is s κ f i g m h = by-test (refers f) refl
   where
@@ -177,7 +177,7 @@ w-pick s p false n m r q o u h k = k
 -- a sound body that rises is laid whole, and so is each item in it
 module _ (d img : List ℕ) (s : Slots) (κ : Known) (m : Matches s κ) where
   abbrev v : Numbers
-  v = numbersOf s
+  v = slotNumbers s
 
   mutual
     unfolding layBody SoundBody RisesBody bodySize bodyRow inImage
@@ -198,9 +198,7 @@ module _ (d img : List ℕ) (s : Slots) (κ : Known) (m : Matches s κ) where
     w-node (array j f b) n lo hi p h r =
         rw (value-is s κ f j _ m (h .0))
         (w-array s (λ t q. layBody b img true t q) (bodySize b v) (bodyRow b v) (λ q. w-body b (n + 1) lo hi q (h .1) r) j (value v f) p)
-    w-node (choice j f arms) n lo hi p h r =
-        rw (value-is s κ f j _ m (h .0))
-        (w-as s p (armsSize arms (value v f) v) _ _ _ (layArms arms (value v f) img true s p) refl (λ i xs. first-alone (armsRow arms (value v f) v i) (passedOver j f i) xs (over-absent j f i xs)) (w-arms arms (value v f) n lo hi p (h .1) (r .2)))
+    w-node (choice j f arms) n lo hi p h r = rw (value-is s κ f j _ m (h .0)) (w-arms arms (value v f) n lo hi p (h .1) r)
     w-node (stray j) n lo hi p h r = absurd h
 
     w-arms : (arms : Arms) (x n lo hi p : ℕ) → SoundArms κ arms → RisesArms d n lo hi arms

@@ -1,8 +1,7 @@
 -- WHAT LAYING OUT COMES TO for a passed description, and the number that a dimension read gives its slot. Assumes nothing.
 use Prim.Native.Nat.{ℕ, zero, suc}
 use Rattle.meaning.specs.Basics.{if_then_else_, _=?_}
-use Rattle.meaning.specs.Layout.{fault, short, Layout, laidOut, stoppedAt}
-use Rattle.laying.specs.Sizes.{Numbers}
+use Rattle.meaning.specs.Layout.{fault, short, Layout, laidOut, stoppedAt, Numbers}
 
 -- the whole image is laid out, or it is short; nothing else stops it
 unfoldable pub Lays : Layout → Type 0

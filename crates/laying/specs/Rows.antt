@@ -1,27 +1,22 @@
 -- ROWS: what laying out finds for an element's item; of other items a row says nothing. Where the element of some subscripts stands is then arithmetic.
 -- Assumes nothing.
 use Prim.Native.Nat.{ℕ, _+_, _*_}
-use mathlib.Core.Bool.{Bool, false, _&&_}
+use mathlib.Core.Bool.{false}
 use mathlib.Core.List.{List, [], _∷_}
 use mathlib.Core.Option.{Option, some, none}
-use Rattle.meaning.specs.Basics.{if_then_else_, _=?_, _≤?_, _<?_}
-use Rattle.meaning.specs.declared.Fields.{Fields}
-use Rattle.meaning.specs.Description.{nested}
+use Rattle.meaning.specs.Basics.{if_then_else_, _=?_, _<?_}
 use Rattle.meaning.specs.Layout.{Node, Body, Arms, Tables, leaf, array, choice, stray, done, more, lastArm, arm, noMore, table, strayTable, treeOf, leafOctets}
-use Rattle.meaning.specs.Layout.{Slots, unread, Placed, Laid, laid, stopped, layNode, layBody, elementNamed}
-use Rattle.laying.specs.Sizes.{Numbers, value, bodySize, itemSize}
-use Rattle.laying.specs.Slots.{numbersOf}
+use Rattle.meaning.specs.Layout.{Slots, unread, Placed, Laid, laid, stopped, layNode, layBody, elementNamed, Numbers, value, slotNumbers}
+use Rattle.laying.specs.Sizes.{bodySize, itemSize}
 
 -- an ARRAY round an element: its count, and how many octets its elements stand apart
 pub record Array : Type 0 where
   pub count : ℕ
   pub stride : ℕ
 
--- the first octet and the length of an item's element, with the ARRAYs round it, outside in; or that the item stands in a branch not chosen, with the ARRAYs
--- outside that; or the item isn't one of an element that stands here
+-- the first octet and the length of an item's element, with the ARRAYs round it, outside in; or the item isn't one of an element that stands here
 pub data Row : Type 0 where
   row : (first length : ℕ) → List Array → Row
-  notChosen : List Array → Row
   noRow : Row
 
 -- WHERE AN ELEMENT IS
@@ -39,35 +34,23 @@ spotIn p n (a ∷ rest) (x ∷ xs) = if x <? a .count then spotIn (p + x * a .st
 
 unfoldable pub rowSpot : Row → (subscripts : List ℕ) → Spot
 rowSpot (row p n rest) xs = spotIn p n rest xs
-rowSpot (notChosen rest) xs = absent
 rowSpot noRow xs = absent
 
 -- THE ROW OF AN ITEM
 -- the one of the two that is a row
 unfoldable pub firstRow : Row → Row → Row
 firstRow (row p n rest) r = row p n rest
-firstRow (notChosen rest) r = notChosen rest
 firstRow noRow r = r
 
 -- so many octets further on
 unfoldable pub onward : (octets : ℕ) → Row → Row
 onward k (row p n rest) = row (k + p) n rest
-onward k (notChosen rest) = notChosen rest
 onward k noRow = noRow
 
 -- inside an ARRAY
 unfoldable pub inArray : (count stride : ℕ) → Row → Row
 inArray c w (row p n rest) = row p n (record { count = c; stride = w } ∷ rest)
-inArray c w (notChosen rest) = notChosen (record { count = c; stride = w } ∷ rest)
 inArray c w noRow = noRow
-
--- item i is one of n items from `at` on
-abbrev pub among : (at n i : ℕ) → Bool
-among at n i = at ≤? i && i <? at + n
-
--- an item that stands in a choice, which is item j, but isn't found in the arm taken
-unfoldable pub passedOver : (j : ℕ) → Fields → (i : ℕ) → Row
-passedOver j f i = if among (j + 1) (nested f) i then notChosen [] else noRow
 
 -- the row of item i, counted from the first octet of a body or an item, where slots have these numbers
 unfoldable mutual
@@ -78,7 +61,7 @@ unfoldable mutual
   pub itemRow : Node → Numbers → (i : ℕ) → Row
   itemRow (leaf j f) v i = if j =? i then row 0 (leafOctets f (value v f)) [] else noRow
   itemRow (array j f b) v i = inArray (value v f) (bodySize b v) (bodyRow b v i)
-  itemRow (choice j f arms) v i = firstRow (armsRow arms (value v f) v i) (passedOver j f i)
+  itemRow (choice j f arms) v i = armsRow arms (value v f) v i
   itemRow (stray j) v i = noRow
 
   pub armsRow : Arms → (value : ℕ) → Numbers → (i : ℕ) → Row
@@ -96,9 +79,9 @@ unfoldable mutual
   walkBody (more n b) img s p i = firstRow (walkNode n img s p i) (rowAfter (layNode n img false s p) (λ t q. walkBody b img t q i))
 
   pub walkNode : Node → (image : List ℕ) → Slots → (p i : ℕ) → Row
-  walkNode (leaf j f) img s p i = onward p (itemRow (leaf j f) (numbersOf s) i)
-  walkNode (array j f b) img s p i = onward p (itemRow (array j f b) (numbersOf s) i)
-  walkNode (choice j f arms) img s p i = firstRow (walkArms arms (value (numbersOf s) f) img s p i) (passedOver j f i)
+  walkNode (leaf j f) img s p i = onward p (itemRow (leaf j f) (slotNumbers s) i)
+  walkNode (array j f b) img s p i = onward p (itemRow (array j f b) (slotNumbers s) i)
+  walkNode (choice j f arms) img s p i = walkArms arms (value (slotNumbers s) f) img s p i
   walkNode (stray j) img s p i = noRow
 
   pub walkArms : Arms → (value : ℕ) → (image : List ℕ) → Slots → (p i : ℕ) → Row

@@ -2,17 +2,7 @@
 -- limit. Assumes nothing.
 use Prim.Native.Nat.{ℕ, _+_, _*_}
 use Rattle.meaning.specs.Basics.{if_then_else_}
-use Rattle.meaning.specs.declared.Fields.{Fields}
-use Rattle.meaning.specs.Description.{refers}
-use Rattle.meaning.specs.Layout.{Node, Body, Arms, leaf, array, choice, stray, done, more, lastArm, arm, bitRange, leafOctets}
-
--- the number of each slot
-abbrev pub Numbers : Type 0
-Numbers = ℕ → ℕ
-
--- a reference's value, where slots have these numbers; 0 for an item without one
-unfoldable pub value : Numbers → Fields → ℕ
-value v f = if refers f then bitRange (v (f .slot)) f else 0
+use Rattle.meaning.specs.Layout.{Node, Body, Arms, leaf, array, choice, stray, done, more, lastArm, arm, leafOctets, Numbers, value}
 
 unfoldable mutual
   -- a body is as long as its items

@@ -78,17 +78,17 @@ all-at f from (r ∷ rs) h (suc k) l =
     let e : from + suc k ≡ from + 1 + k = omega arith in
     rw e (all-at f (from + 1) rs (and-eq-true-iff (f from r) _ .0 h .1) k (le-of-suc-le-suc l))
 
--- at most D and M, and seven numbers, with room for seven limits; at most five numbers told; octets told by the rows that `put_part` knows
+-- at most D and M, and seven numbers, with room for seven limits; at most six numbers told; octets told by the rows that `put_part` knows
 knows : (kind : ℕ) → Bool
 knows k = eqb k 3 || (eqb k 5 || (eqb k 11 || (eqb k 13 || leb 14 k)))
 
 fits : ℕ → Row → Bool
-fits k r = leb (r .form .lent) 2 && (leb (r .form .numbers) 7 && (eqb (length (r .form .most)) 7 && (leb (r .form .told) 5 && (knows k || not (r .form .part)))))
+fits k r = leb (r .form .lent) 2 && (leb (r .form .numbers) 7 && (eqb (length (r .form .most)) 7 && (leb (r .form .told) 6 && (knows k || not (r .form .part)))))
 
 pub record RowFits (kind : ℕ) : Type 0 where
   pub lent : formOf kind .lent ≤ 2
   pub numbers : OfSeven (formOf kind .numbers) (formOf kind .most)
-  pub told : formOf kind .told ≤ 5
+  pub told : formOf kind .told ≤ 6
   pub part : kind < 14 → (kind ≡ 3 → ⊥) → (kind ≡ 5 → ⊥) → (kind ≡ 11 → ⊥) → (kind ≡ 13 → ⊥) → formOf kind .part ≡ false
 
 pub row-fits : (kind : ℕ) → kind < length rows → RowFits kind
@@ -98,7 +98,7 @@ row-fits kind h =
     let lent = and-eq-true-iff (leb (f .lent) 2) _ .0 (rw (zero-add kind) at (all-at fits 0 rows refl kind h)) in
     let all = and-eq-true-iff (leb (f .numbers) 7) _ .0 (lent .1) in
     let rest = and-eq-true-iff (eqb (length (f .most)) 7) _ .0 (all .1) in
-    let last = and-eq-true-iff (leb (f .told) 5) _ .0 (rest .1) in
+    let last = and-eq-true-iff (leb (f .told) 6) _ .0 (rest .1) in
     record {
       lent = leb-true _ _ (lent .0);
       numbers = record { few = leb-true _ _ (all .0); long = eqb-true _ _ (rest .0) };

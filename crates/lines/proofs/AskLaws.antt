@@ -78,7 +78,7 @@ pub place-short : (m : List ℕ) (p : Place) (octets : List ℕ) → octets ≡ 
 place-short m p octets e = rw e (part-short m p)
 
 -- THE WHOLE REPLY: what was asked, then its numbers, its octets and the image afterwards, put one after another
-pub told-few : {kind : ℕ} {f : Form} → f ≡ formOf kind → kind < length rows → f .told ≤ 5
+pub told-few : {kind : ℕ} {f : Form} → f ≡ formOf kind → kind < length rows → f .told ≤ 6
 told-few {kind} e h = rw e (row-fits kind h .told)
 
 module _ {kind : ℕ} (s : Said) (told : List ℕ) {out later : List ℕ} {f : Form} (is-form : f ≡ formOf kind) (inside : kind < length rows)

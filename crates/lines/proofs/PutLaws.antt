@@ -99,20 +99,20 @@ module _ {out text now : List ℕ} {at : ℕ} (p : Replied out text now at) wher
   put-more : {more later : List ℕ} {next : ℕ} → IsPut now at more later next → length text + length more ≤ length out → Replied out (text ++ more) later next
   put-more q h = record { room = simp length-append h; put = put-then (p .put) q (omega arith) }
 
--- the first i of five numbers stand at the start of `now`, which is `out` otherwise; the next place is `at`
+-- the first i of six numbers stand at the start of `now`, which is `out` otherwise; the next place is `at`
 abbrev first : (numbers : List ℕ) → (i : ℕ) → List ℕ
 first numbers i = addWords [] (map decimalText (take i numbers))
 
 pub record Counted (out numbers : List ℕ) (count : ℕ) (now : List ℕ) (at i : ℕ) : Type 0 where
   pub within : i ≤ count
-  pub few : count ≤ 5
-  pub five : length numbers ≡ 5
-  pub room : 105 ≤ length out
+  pub few : count ≤ 6
+  pub six : length numbers ≡ 6
+  pub room : 126 ≤ length out
   pub is : IsPut out 0 (first numbers i) now at
 
-pub counted-none : (out numbers : List ℕ) (count : ℕ) → count ≤ 5 → length numbers ≡ 5 → 105 ≤ length out → Counted out numbers count out 0 0
+pub counted-none : (out numbers : List ℕ) (count : ℕ) → count ≤ 6 → length numbers ≡ 6 → 126 ≤ length out → Counted out numbers count out 0 0
 unfolding addWords
-counted-none out numbers count f l h = record { within = zero-le; few = f; five = l; room = h; is = put-nothing out 0 (omega arith) }
+counted-none out numbers count f l h = record { within = zero-le; few = f; six = l; room = h; is = put-nothing out 0 (omega arith) }
 
 module _ {out numbers : List ℕ} {count : ℕ} {now : List ℕ} {at i : ℕ} (s : Counted out numbers count now at i) where
   short-first : length (first numbers i) ≤ 21 * i
@@ -134,7 +134,7 @@ module _ {out numbers : List ℕ} {count : ℕ} {now : List ℕ} {at i : ℕ} (s
       record {
         within = omega arith;
         few = s .few;
-        five = s .five;
+        six = s .six;
         room = s .room;
         is = rw e (put-more first-so p (omega (arith, short-first, behind-short at (decimalText x), text-short x)) .put);
       }
@@ -143,10 +143,10 @@ module _ {out numbers : List ℕ} {count : ℕ} {now : List ℕ} {at i : ℕ} (s
   counted-all h = let e : i ≡ count = omega arith in rw e at (s .is)
 
 -- THE WHOLE REPLY: numbers, then octets where it has them, then the image afterwards where it has that; the line feed
-module _ (m octets image numbers : List ℕ) (count : ℕ) (part after : Bool) {out : List ℕ} (few : count ≤ 5) (room : roomFor m ≤ length out)
+module _ (m octets image numbers : List ℕ) (count : ℕ) (part after : Bool) {out : List ℕ} (few : count ≤ 6) (room : roomFor m ≤ length out)
     (short-octets : part ≡ true → length octets ≤ length m + 150000) (short-image : length image ≤ length m) {now₁ : List ℕ} {at₁ : ℕ}
     (p₁ : IsPut out 0 (first numbers count) now₁ at₁) where
-  count-short : length (first numbers count) ≤ 105
+  count-short : length (first numbers count) ≤ 126
   count-short = omega (arith, numbers-long [] (take count numbers), length-take count numbers)
 
   first-put : Replied out (first numbers count) now₁ at₁
@@ -159,7 +159,7 @@ module _ (m octets image numbers : List ℕ) (count : ℕ) (part after : Bool) {
     told : List ℕ
     told = first numbers count ++ hexBehind at₁ part octets
 
-    told-short : length told ≤ 2 * length m + 300107
+    told-short : length told ≤ 2 * length m + 300128
     unfolding told
     told-short = simp length-append (omega (arith, count-short, hex-room at₁ part octets (length m + 150000) short-octets))
 

@@ -148,13 +148,13 @@ abbrev pub ofRequest : (d m numbers new : List ℕ) → Said
 ofRequest d m n new = record { numbers = requestNumbers (requestTold (requestedBy (requestIn d))); octets = requestData (requestIn d); image = m }
   where
     requestNumbers : RequestTold → List ℕ
-    requestNumbers t = t .code ∷ t .kind ∷ t .id ∷ t .offset ∷ t .count ∷ []
+    requestNumbers t = t .code ∷ t .kind ∷ t .id ∷ t .offset ∷ t .count ∷ 0 ∷ []
 
 abbrev pub ofReply : (d m numbers new : List ℕ) → Said
 ofReply d m n new = record { numbers = replyNumbers (replyTold (heardBy (replyIn d))); octets = replyData (replyIn d); image = m }
   where
     replyNumbers : ReplyTold → List ℕ
-    replyNumbers t = t .refusal .number ∷ t .kind ∷ t .code ∷ 0 ∷ 0 ∷ []
+    replyNumbers t = t .refusal .number ∷ t .kind ∷ t .code ∷ 0 ∷ 0 ∷ 0 ∷ []
 
 -- a request and a reply written: `kind id offset count room`, `kind code room`
 abbrev pub ofWrittenRequest : (d m numbers new : List ℕ) → Said
@@ -171,7 +171,7 @@ abbrev pub ofWeekday : (d m numbers new : List ℕ) → Said
 ofWeekday d m n new = record { numbers = weekdayNumbers (toldTo (ask.weekday (dateOf n)) d m); octets = []; image = m }
   where
     weekdayNumbers : Told → List ℕ
-    weekdayNumbers t = t .refusal .number ∷ t .first ∷ 0 ∷ 0 ∷ 0 ∷ []
+    weekdayNumbers t = t .refusal .number ∷ t .first ∷ 0 ∷ 0 ∷ 0 ∷ 0 ∷ []
 
 -- THE TABLE. A row: the question's name; the form of its lines and of its reply; what it comes to, by the octets of D and M, its numbers and the octets of DATA
 pub record Row : Type 0 where
@@ -201,7 +201,7 @@ form lent limits given told part after =
 
 -- how many numbers a refusal tells; the answer's own stand behind them
 abbrev pub refusal : ℕ
-refusal = 3
+refusal = 4
 
 abbrev row : String → Form → ((d m numbers new : List ℕ) → Said) → Row
 row name f says = record { name = ascii name; form = f; says = says; kinds = [] }
@@ -343,9 +343,9 @@ unfoldable pub answerText : List ℕ → List ℕ
 answerText line = if 300000 <? length line then noForm else answerWords (lineWords line)
 
 -- MEMORY that the program lends itself: room for any reply, for the octets of a description, an image and data in a line that is taken. The longest reply that a row
--- could have: five numbers of 20 digits, a part of the image or 150,000 octets more, as many as a message in a line may have, and the image, both in hex, and what stands between
+-- could have: six numbers of 20 digits, a part of the image or 150,000 octets more, as many as a message in a line may have, and the image, both in hex, and what stands between
 abbrev pub roomFor : (image : List ℕ) → ℕ
-roomFor image = 4 * length image + 300110
+roomFor image = 4 * length image + 300131
 
 pub record Memory (out description image given : List ℕ) : Type 0 where
   pub reply : roomFor image ≤ length out

@@ -3,9 +3,9 @@
 
 // The longest line that is taken, and one octet more, by which a longer line is told.
 pub const LINE: usize = 300001;
-// The longest reply that any row could have: five numbers, a part of the image, the matrix or a
+// The longest reply that any row could have: six numbers, a part of the image, the matrix or a
 // message, and the image, both in hex.
-pub const REPLY: usize = 900110;
+pub const REPLY: usize = 900131;
 // The octets of a description, an image, what is to be written or a message: no line that is taken
 // has hex digits for more.
 pub const OCTETS: usize = 150000;

@@ -12,7 +12,7 @@ ghost use Rattle.lines.specs.Ask.{ReadAs, MessageAsked};
 
 // What a row told: its numbers, and how many octets.
 pub struct Answered {
-    pub numbers: [u64; 5],
+    pub numbers: [u64; 6],
     pub count: usize,
 }
 
@@ -33,7 +33,7 @@ fn read_request(d: &[u8], part: &mut [u8]) -> Answered
     let told = replies::request_told(messages::read_request(d));
     let count = bytes::copy(messages::request_data(d), part);
     Answered {
-        numbers: [told.code, told.kind, told.id, told.offset, told.count],
+        numbers: [told.code, told.kind, told.id, told.offset, told.count, 0],
         count,
     }
 }
@@ -46,7 +46,7 @@ fn read_reply(d: &[u8], part: &mut [u8]) -> Answered
     let count = bytes::copy(messages::reply_data(d), part);
     let refusal = told.refusal;
     Answered {
-        numbers: [refusal.number, told.kind, told.code, 0, 0],
+        numbers: [refusal.number, told.kind, told.code, 0, 0, 0],
         count,
     }
 }

@@ -37,10 +37,10 @@ fn put_number(out: &mut [u8], at: usize, n: u64) -> usize
     words::put_number(out, to, n)
 }
 
-// The first of five numbers, so many as count.
-pub fn put_numbers(out: &mut [u8], numbers: [u64; 5], count: usize) -> usize
-    requires { ⌜ count ≤ 5 ⌝ }
-    requires { ⌜ 105 ≤ length (now out) ⌝ }
+// The first of six numbers, so many as count.
+pub fn put_numbers(out: &mut [u8], numbers: [u64; 6], count: usize) -> usize
+    requires { ⌜ count ≤ 6 ⌝ }
+    requires { ⌜ 126 ≤ length (now out) ⌝ }
     ensures { λ r. ⌜ IsPut (now (out .entry)) 0 (addWords [] (map decimalText (take count numbers))) (now (out .exit)) r ⌝ }
 {
     let mut at = 0;

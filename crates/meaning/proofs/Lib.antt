@@ -2,6 +2,7 @@ pub mod Either
 pub mod Computing
 pub mod Examples
 pub mod Unpassed
+pub mod Causes
 pub mod Careful
 pub mod Ranges
 pub mod Rules

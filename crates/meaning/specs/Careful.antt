@@ -1,4 +1,4 @@
--- What is easy to get wrong, and what the starred examples don't reach, worked by hand: four statements, proved in proofs/Careful.antt.
+-- What is easy to get wrong, and what the starred examples don't reach, worked by hand: five statements, proved in proofs/Careful.antt.
 -- With the starred one they notice a changed operand nearly anywhere in the definitions.
 use Prim.Native.Nat.{ℕ}
 use mathlib.Core.Path.{_≡_}
@@ -14,7 +14,7 @@ use Rattle.meaning.specs.Calendar.{leap, tierReply, seasonedReply, weekd
 use Rattle.meaning.specs.Messages.{Request, fullRead, offsetRead, fullWrite, offsetWrite, isRequest, notRequest, MeterReply, holds, done, refuses}
 use Rattle.meaning.specs.Messages.{checkOctet, requestOctets, requestFits, requestIn, requestedBy, requestTold, replyOctets, replyFits, replyIn, heardBy, replyTold}
 use Rattle.meaning.specs.Messages.{writeRequestReply, writeRequestRoom, writeReplyReply, writeReplyRoom, requestOf, requestSent, replyOf, replySent, serveReply, serveRoom, serveImage}
-use Rattle.meaning.specs.Examples.{items, D, D-writable, D-unset, first, first-cut, plain, at, offset, gives, refusal, clock, clock-image, moment, date}
+use Rattle.meaning.specs.Examples.{items, D, D-writable, D-unset, first, first-cut, plain, at, offset, gives, refusal, too-large, clock, clock-image, moment, date}
 
 -- THE RULES
 abbrev pub broken : (rule item : ℕ) → List ℕ
@@ -22,7 +22,7 @@ broken n i = refusal n i 0 []
 
 -- the verdict on a description given by its words
 abbrev pub judged : List ℕ → List ℕ
-judged ws = numbersOf 3 (verdictReply (checkReply (items ws)))
+judged ws = numbersOf 4 (verdictReply (checkReply (items ws)))
 
 -- table 00 of n items, of which the first is DATA_ORDER, in slot 1
 abbrev pub begun : (item0 : ℕ) → List ℕ → List ℕ
@@ -30,8 +30,8 @@ begun w rest = w ∷ 0x20100000 ∷ rest
 
 pub record RulesCareful : Type 0 where
   -- 1: length 0; not a multiple of 4
-  pub no-length : numbersOf 3 (verdictReply (checkReply [])) ≡ refusal 1 0 0 []
-  pub odd-length : numbersOf 3 (verdictReply (checkReply (0x10 ∷ 0 ∷ 0 ∷ 0 ∷ 0 ∷ []))) ≡ refusal 1 0 0 []
+  pub no-length : numbersOf 4 (verdictReply (checkReply [])) ≡ refusal 1 0 0 []
+  pub odd-length : numbersOf 4 (verdictReply (checkReply (0x10 ∷ 0 ∷ 0 ∷ 0 ∷ 0 ∷ []))) ≡ refusal 1 0 0 []
   -- 2: kind unknown; width code 3; a spare bit of a UINT, a BLOCK, a SET; a BLOCK of no octets; a count or slot below its least. Also on item 0
   pub kind-0 : judged (0 ∷ []) ≡ broken 2 0
   pub kind-7 : judged (begun 0x10000002 (0x70400001 ∷ [])) ≡ broken 2 2
@@ -109,68 +109,131 @@ with-subscripts i n s t = record { item = i; count = n; subscripts = s ∷ t ∷
 abbrev pub nest : List ℕ
 nest = items (begun 0x10000006 (0x50421004 ∷ 0x50421003 ∷ 0x50421002 ∷ 0x50421001 ∷ 0x20000000 ∷ []))
 
-abbrev pub no-element : List ℕ
-no-element = refusal 11 0 0 (0 ∷ 0 ∷ [])
+-- no place, by that number
+abbrev pub nowhere : (number : ℕ) → List ℕ
+nowhere n = refusal n 0 0 (0 ∷ 0 ∷ [])
 
 pub record LayoutCareful : Type 0 where
-  pub passed : numbersOf 3 (verdictReply (checkReply mixed)) ≡ gives []
-  pub total : numbersOf 4 (layoutReply mixed mixed0) ≡ gives (27 ∷ [])
+  pub passed : numbersOf 4 (verdictReply (checkReply mixed)) ≡ gives []
+  pub total : numbersOf 5 (layoutReply mixed mixed0) ≡ gives (27 ∷ [])
   -- an image of 65,535 octets, of one more
-  pub longest : numbersOf 4 (layoutReply (items (begun 0x10000001 [])) (replicate 65535 0)) ≡ gives (1 ∷ [])
-  pub too-long : numbersOf 4 (layoutReply (items (begun 0x10000001 [])) (replicate 65536 0)) ≡ refusal 8 0 0 (0 ∷ [])
-  pub longer : numbersOf 4 (layoutReply mixed (mixed0 ++ 0 ∷ [])) ≡ gives (27 ∷ [])
-  pub table-9 : numbersOf 5 (placeReply (tablePlaceReply mixed mixed0 1 9)) ≡ gives (3 ∷ 24 ∷ [])
-  pub manufacturer-0 : numbersOf 5 (placeReply (tablePlaceReply mixed mixed0 1 0)) ≡ refusal 10 0 0 (0 ∷ 0 ∷ [])
-  pub other-table : numbersOf 5 (placeReply (tablePlaceReply mixed mixed0 0 9)) ≡ refusal 10 0 0 (0 ∷ 0 ∷ [])
+  pub longest : numbersOf 5 (layoutReply (items (begun 0x10000001 [])) (replicate 65535 0)) ≡ gives (1 ∷ [])
+  pub too-long : numbersOf 5 (layoutReply (items (begun 0x10000001 [])) (replicate 65536 0)) ≡ refusal 8 0 0 (0 ∷ [])
+  pub longer : numbersOf 5 (layoutReply mixed (mixed0 ++ 0 ∷ [])) ≡ gives (27 ∷ [])
+  pub table-9 : numbersOf 6 (placeReply (tablePlaceReply mixed mixed0 1 9)) ≡ gives (3 ∷ 24 ∷ [])
+  pub manufacturer-0 : numbersOf 6 (placeReply (tablePlaceReply mixed mixed0 1 0)) ≡ refusal 10 0 0 (0 ∷ 0 ∷ [])
+  pub other-table : numbersOf 6 (placeReply (tablePlaceReply mixed mixed0 0 9)) ≡ refusal 10 0 0 (0 ∷ 0 ∷ [])
   pub table-0 : tablePartReply mixed mixed0 0 0 ≡ 0x01 ∷ 0x90 ∷ 0x23 ∷ []
   -- slot 2, a BLOCK, a SET of two octets by slot 1 and a number of four octets follow one another; DATA_ORDER is bit 0 alone
   pub four-octets :
-      numbersOf 4 (elementNumberReply (items (begun 0x10000005 (0x20200000 ∷ 0x30020000 ∷ 0x40401000 ∷ 0x28000000 ∷ [])))
+      numbersOf 5 (elementNumberReply (items (begun 0x10000005 (0x20200000 ∷ 0x30020000 ∷ 0x40401000 ∷ 0x28000000 ∷ [])))
       (2 ∷ 1 ∷ 1 ∷ 2 ∷ 9 ∷ 9 ∷ 3 ∷ 4 ∷ 5 ∷ 6 ∷ []) (plain 5)) ≡ gives (0x06050403 ∷ [])
   -- 64 flags take eight octets
-  pub flags-64 : numbersOf 4 (layoutReply (items (begun 0x10000003 (0x20200000 ∷ 0x40807800 ∷ []))) (0 ∷ 64 ∷ replicate 8 0)) ≡ gives (10 ∷ [])
+  pub flags-64 : numbersOf 5 (layoutReply (items (begun 0x10000003 (0x20200000 ∷ 0x40807800 ∷ []))) (0 ∷ 64 ∷ replicate 8 0)) ≡ gives (10 ∷ [])
   -- reading a two-octet dimension in one fixed order, numbering its bits from the top
-  pub slot-2 : numbersOf 4 (elementNumberReply mixed mixed0 (plain 2)) ≡ gives (0x9023 ∷ [])
-  pub other-order : numbersOf 4 (layoutReply mixed (0 ∷ 0x23 ∷ 0x90 ∷ [])) ≡ refusal 9 4 3 (0 ∷ [])
+  pub slot-2 : numbersOf 5 (elementNumberReply mixed mixed0 (plain 2)) ≡ gives (0x9023 ∷ [])
+  pub other-order : numbersOf 5 (layoutReply mixed (0 ∷ 0x23 ∷ 0x90 ∷ [])) ≡ refusal 9 4 3 (0 ∷ [])
   -- a count of 0 takes none; the false branch
-  pub none-true : numbersOf 4 (layoutReply mixed (0 ∷ 0 ∷ 0 ∷ 1 ∷ 2 ∷ 3 ∷ 4 ∷ 5 ∷ [])) ≡ gives (8 ∷ [])
-  pub false-short : numbersOf 4 (layoutReply mixed (0 ∷ 0 ∷ 0 ∷ 1 ∷ 2 ∷ 3 ∷ 4 ∷ [])) ≡ refusal 9 11 3 (0 ∷ [])
+  pub none-true : numbersOf 5 (layoutReply mixed (0 ∷ 0 ∷ 0 ∷ 1 ∷ 2 ∷ 3 ∷ 4 ∷ 5 ∷ [])) ≡ gives (8 ∷ [])
+  pub false-short : numbersOf 5 (layoutReply mixed (0 ∷ 0 ∷ 0 ∷ 1 ∷ 2 ∷ 3 ∷ 4 ∷ [])) ≡ refusal 9 11 3 (0 ∷ [])
   -- subscripts, outermost first, from 0: too few, too many, not below their counts, a count over four
-  pub number-2-1 : numbersOf 4 (elementNumberReply mixed mixed0 (with-subscripts 7 2 2 1)) ≡ gives (0x1415 ∷ [])
-  pub flags-1 : numbersOf 5 (placeReply (elementPlaceReply mixed mixed0 (at 8 1))) ≡ gives (15 ∷ 2 ∷ [])
-  pub too-few : numbersOf 5 (placeReply (elementPlaceReply mixed mixed0 (at 7 2))) ≡ no-element
-  pub too-many : numbersOf 5 (placeReply (elementPlaceReply mixed mixed0 (with-subscripts 7 3 2 1))) ≡ no-element
-  pub over-outer : numbersOf 5 (placeReply (elementPlaceReply mixed mixed0 (with-subscripts 7 2 3 0))) ≡ no-element
-  pub over-inner : numbersOf 5 (placeReply (elementPlaceReply mixed mixed0 (with-subscripts 7 2 0 2))) ≡ no-element
-  pub four-arrays : numbersOf 5 (placeReply (elementPlaceReply nest (2 ∷ 7 ∷ []) (with-subscripts 6 4 0 0))) ≡ gives (1 ∷ 1 ∷ [])
-  pub over-four : numbersOf 5 (placeReply (elementPlaceReply nest (2 ∷ 7 ∷ []) (with-subscripts 6 5 0 0))) ≡ no-element
+  pub number-2-1 : numbersOf 5 (elementNumberReply mixed mixed0 (with-subscripts 7 2 2 1)) ≡ gives (0x1415 ∷ [])
+  pub flags-1 : numbersOf 6 (placeReply (elementPlaceReply mixed mixed0 (at 8 1))) ≡ gives (15 ∷ 2 ∷ [])
+  pub too-few : numbersOf 6 (placeReply (elementPlaceReply mixed mixed0 (at 7 2))) ≡ nowhere 24
+  pub too-many : numbersOf 6 (placeReply (elementPlaceReply mixed mixed0 (with-subscripts 7 3 2 1))) ≡ nowhere 24
+  pub over-outer : numbersOf 6 (placeReply (elementPlaceReply mixed mixed0 (with-subscripts 7 2 3 0))) ≡ too-large 0 (0 ∷ 0 ∷ [])
+  pub over-inner : numbersOf 6 (placeReply (elementPlaceReply mixed mixed0 (with-subscripts 7 2 0 2))) ≡ too-large 1 (0 ∷ 0 ∷ [])
+  pub four-arrays : numbersOf 6 (placeReply (elementPlaceReply nest (2 ∷ 7 ∷ []) (with-subscripts 6 4 0 0))) ≡ gives (1 ∷ 1 ∷ [])
+  pub over-four : numbersOf 6 (placeReply (elementPlaceReply nest (2 ∷ 7 ∷ []) (with-subscripts 6 5 0 0))) ≡ nowhere 24
   -- the chosen branch, the other one, an item that is no element, a number asked of a BLOCK
   pub block-octets : elementPartReply mixed mixed0 (plain 10) ≡ block0
-  pub not-chosen : numbersOf 5 (placeReply (elementPlaceReply mixed mixed0 (plain 11))) ≡ no-element
-  pub not-element : numbersOf 5 (placeReply (elementPlaceReply mixed mixed0 (plain 9))) ≡ no-element
-  pub no-number : numbersOf 4 (elementNumberReply mixed mixed0 (plain 10)) ≡ refusal 11 0 0 (0 ∷ [])
+  pub not-chosen : numbersOf 6 (placeReply (elementPlaceReply mixed mixed0 (plain 11))) ≡ nowhere 23
+  pub not-element : numbersOf 6 (placeReply (elementPlaceReply mixed mixed0 (plain 9))) ≡ nowhere 22
+  pub no-number : numbersOf 5 (elementNumberReply mixed mixed0 (plain 10)) ≡ refusal 26 0 0 (0 ∷ [])
   -- writes: read back, every other octet the same
-  pub range-accepted : numbersOf 3 (verdictReply (writeRangeReply mixed mixed0 1 9 (offset 22) (0xAA ∷ 0xBB ∷ []))) ≡ gives []
+  pub range-accepted : numbersOf 4 (verdictReply (writeRangeReply mixed mixed0 1 9 (offset 22) (0xAA ∷ 0xBB ∷ []))) ≡ gives []
   pub range-image : writeRangeImage mixed mixed0 1 9 (offset 22) (0xAA ∷ 0xBB ∷ []) ≡ mixed-image number0 (0x18 ∷ 0xAA ∷ 0xBB ∷ [])
-  pub octets-accepted : numbersOf 3 (verdictReply (writeOctetsReply mixed mixed0 (plain 10) (0xAA ∷ 0xBB ∷ 0xCC ∷ []))) ≡ gives []
+  pub octets-accepted : numbersOf 4 (verdictReply (writeOctetsReply mixed mixed0 (plain 10) (0xAA ∷ 0xBB ∷ 0xCC ∷ []))) ≡ gives []
   pub octets-image : writeOctetsImage mixed mixed0 (plain 10) (0xAA ∷ 0xBB ∷ 0xCC ∷ []) ≡ mixed-image number0 (0xAA ∷ 0xBB ∷ 0xCC ∷ [])
-  pub flags-accepted : numbersOf 3 (verdictReply (writeOctetsReply mixed mixed0 (at 8 1) (0 ∷ 0 ∷ []))) ≡ gives []
-  pub number-accepted : numbersOf 3 (verdictReply (writeNumberReply mixed mixed0 (with-subscripts 7 2 2 1) 0xFFFF)) ≡ gives []
+  pub flags-accepted : numbersOf 4 (verdictReply (writeOctetsReply mixed mixed0 (at 8 1) (0 ∷ 0 ∷ []))) ≡ gives []
+  pub number-accepted : numbersOf 4 (verdictReply (writeNumberReply mixed mixed0 (with-subscripts 7 2 2 1) 0xFFFF)) ≡ gives []
   pub number-image : writeNumberImage mixed mixed0 (with-subscripts 7 2 2 1) 0xFF00 ≡ mixed-image (0xFF ∷ 0x00 ∷ []) block0
   -- 15: another length, a number of three octets; the image stays
-  pub wrong-length : numbersOf 3 (verdictReply (writeOctetsReply mixed mixed0 (plain 10) (0xAA ∷ 0xBB ∷ []))) ≡ refusal 15 0 0 []
+  pub wrong-length : numbersOf 4 (verdictReply (writeOctetsReply mixed mixed0 (plain 10) (0xAA ∷ 0xBB ∷ []))) ≡ refusal 15 0 0 []
   pub wrong-unchanged : writeOctetsImage mixed mixed0 (plain 10) (0xAA ∷ 0xBB ∷ []) ≡ mixed0
-  pub wrong-number : numbersOf 3 (verdictReply (writeNumberReply mixed mixed0 (with-subscripts 7 2 2 1) 0x10000)) ≡ refusal 15 0 0 []
-  pub block-number : numbersOf 3 (verdictReply (writeNumberReply mixed mixed0 (plain 10) 0)) ≡ refusal 11 0 0 []
+  pub wrong-number : numbersOf 4 (verdictReply (writeNumberReply mixed mixed0 (with-subscripts 7 2 2 1) 0x10000)) ≡ refusal 15 0 0 []
+  pub block-number : numbersOf 4 (verdictReply (writeNumberReply mixed mixed0 (plain 10) 0)) ≡ refusal 26 0 0 []
   -- 14, which comes before 15: a write that alters the count by which the array was measured
-  pub dimension-number : numbersOf 3 (verdictReply (writeNumberReply mixed mixed0 (plain 2) 0x10000)) ≡ refusal 14 0 0 []
-  pub dimension-octets : numbersOf 3 (verdictReply (writeOctetsReply mixed mixed0 (plain 2) [])) ≡ refusal 14 0 0 []
-  pub dimension-slot-1 : numbersOf 3 (verdictReply (writeRangeReply mixed mixed0 0 0 (offset 0) (1 ∷ []))) ≡ refusal 14 0 0 []
-  pub dimension-last : numbersOf 3 (verdictReply (writeRangeReply mixed mixed0 0 0 (offset 2) (0 ∷ []))) ≡ refusal 14 0 0 []
+  pub dimension-number : numbersOf 4 (verdictReply (writeNumberReply mixed mixed0 (plain 2) 0x10000)) ≡ refusal 14 0 0 []
+  pub dimension-octets : numbersOf 4 (verdictReply (writeOctetsReply mixed mixed0 (plain 2) [])) ≡ refusal 14 0 0 []
+  pub dimension-slot-1 : numbersOf 4 (verdictReply (writeRangeReply mixed mixed0 0 0 (offset 0) (1 ∷ []))) ≡ refusal 14 0 0 []
+  pub dimension-last : numbersOf 4 (verdictReply (writeRangeReply mixed mixed0 0 0 (offset 2) (0 ∷ []))) ≡ refusal 14 0 0 []
   -- a range of length 0 holds no octet; past the size it is 12
-  pub inside-dimension : numbersOf 3 (verdictReply (writeRangeReply mixed mixed0 0 0 (offset 2) [])) ≡ gives []
-  pub past-size : numbersOf 3 (verdictReply (writeRangeReply mixed mixed0 0 0 (offset 4) [])) ≡ refusal 12 0 0 []
-  pub no-table : numbersOf 3 (verdictReply (writeRangeReply mixed mixed0 0 9 (offset 0) [])) ≡ refusal 10 0 0 []
+  pub inside-dimension : numbersOf 4 (verdictReply (writeRangeReply mixed mixed0 0 0 (offset 2) [])) ≡ gives []
+  pub past-size : numbersOf 4 (verdictReply (writeRangeReply mixed mixed0 0 0 (offset 4) [])) ≡ refusal 12 0 0 []
+  pub no-table : numbersOf 4 (verdictReply (writeRangeReply mixed mixed0 0 9 (offset 0) [])) ≡ refusal 10 0 0 []
+
+-- A MAZE. Table 5, which isn't writable: an array (item 4) of a choice (item 5). If it is true, an array (item 6) of a number (item 7) and a BLOCK (item 8); else an array (item 9) of a SET
+-- (item 10), and a number (item 11). By slot 2: the outer count bits 0 and 1, the choice bit 2, the inner counts bits 3 and 4
+abbrev pub maze : List ℕ
+maze =
+    items
+    (0x10000002 ∷ 0x20100000 ∷ 0x20200000 ∷ 0x10050008 ∷ 0x50801007 ∷ 0x608400C3 ∷ 0x50861002 ∷ 0x20000000 ∷ 0x30010000 ∷ 0x50861001 ∷ 0x40801000 ∷ 0x20000000 ∷ [])
+
+-- two times, true, two times: the total is 10. No times outside; none inside
+abbrev pub two-by-two : List ℕ
+two-by-two = 0x00 ∷ 0x16 ∷ replicate 8 0
+
+abbrev pub none-outside : List ℕ
+none-outside = 0x00 ∷ 0x14 ∷ []
+
+abbrev pub none-inside : List ℕ
+none-inside = 0x00 ∷ 0x06 ∷ []
+
+abbrev pub place-of : (image : List ℕ) → ElementName → List ℕ
+place-of img q = numbersOf 6 (placeReply (elementPlaceReply maze img q))
+
+abbrev pub number-of : ElementName → List ℕ
+number-of q = numbersOf 5 (elementNumberReply maze two-by-two q)
+
+pub record CausesCareful : Type 0 where
+  pub there : place-of two-by-two (with-subscripts 7 2 1 1) ≡ gives (8 ∷ 1 ∷ [])
+  -- 22: a TABLE, an ARRAY, an IF and a number past the last item; before 24 and 26
+  pub is-table : place-of two-by-two (plain 3) ≡ nowhere 22
+  pub is-array : place-of two-by-two (at 4 9) ≡ nowhere 22
+  pub is-choice : number-of (plain 5) ≡ refusal 22 0 0 (0 ∷ [])
+  pub is-past : place-of two-by-two (plain 12) ≡ nowhere 22
+  -- 26: before 24, 25 and 23; of a number alone
+  pub block-number : number-of (with-subscripts 8 2 1 1) ≡ refusal 26 0 0 (0 ∷ [])
+  pub block-few : number-of (plain 8) ≡ refusal 26 0 0 (0 ∷ [])
+  pub block-large : number-of (with-subscripts 8 2 3 0) ≡ refusal 26 0 0 (0 ∷ [])
+  pub set-unchosen : number-of (with-subscripts 10 2 0 0) ≡ refusal 26 0 0 (0 ∷ [])
+  pub block-place : place-of two-by-two (with-subscripts 8 2 0 1) ≡ gives (5 ∷ 1 ∷ [])
+  -- 24: too few, too many, over four; before 25 and 23
+  pub few-large : place-of two-by-two (at 7 9) ≡ nowhere 24
+  pub many-large : place-of two-by-two (with-subscripts 7 3 9 9) ≡ nowhere 24
+  pub over-four : place-of two-by-two (with-subscripts 7 5 0 0) ≡ nowhere 24
+  pub few-unchosen : place-of two-by-two (at 10 0) ≡ nowhere 24
+  pub many-unchosen : place-of two-by-two (with-subscripts 11 2 0 0) ≡ nowhere 24
+  -- 25: at the count, the outer one and the inner one, whose depth counts no choice; of both the outer
+  pub outer : place-of two-by-two (with-subscripts 7 2 2 0) ≡ too-large 0 (0 ∷ 0 ∷ [])
+  pub inner : place-of two-by-two (with-subscripts 7 2 0 2) ≡ too-large 1 (0 ∷ 0 ∷ [])
+  pub both : place-of two-by-two (with-subscripts 7 2 2 2) ≡ too-large 0 (0 ∷ 0 ∷ [])
+  pub inner-number : number-of (with-subscripts 7 2 1 3) ≡ too-large 1 (0 ∷ [])
+  -- 23: before a subscript inside it that is too large, after one outside
+  pub unchosen : place-of two-by-two (with-subscripts 10 2 1 0) ≡ nowhere 23
+  pub unchosen-large : place-of two-by-two (with-subscripts 10 2 1 9) ≡ nowhere 23
+  pub large-unchosen : place-of two-by-two (with-subscripts 10 2 2 0) ≡ too-large 0 (0 ∷ 0 ∷ [])
+  pub unchosen-number : number-of (at 11 1) ≡ refusal 23 0 0 (0 ∷ [])
+  -- any subscript of an array of count 0 is 25, not 23
+  pub none-at-all : (s : ℕ) → place-of none-outside (with-subscripts 7 2 s 0) ≡ too-large 0 (0 ∷ 0 ∷ [])
+  pub none-unchosen : (s : ℕ) → place-of none-outside (at 11 s) ≡ too-large 0 (0 ∷ 0 ∷ [])
+  pub none-in-each : (s : ℕ) → place-of none-inside (with-subscripts 7 2 1 s) ≡ too-large 1 (0 ∷ 0 ∷ [])
+  -- all of them before 13
+  pub write-unchosen : numbersOf 4 (verdictReply (writeOctetsReply maze two-by-two (with-subscripts 10 2 1 0) [])) ≡ refusal 23 0 0 []
+  pub write-large : numbersOf 4 (verdictReply (writeNumberReply maze two-by-two (with-subscripts 7 2 1 2) 0)) ≡ too-large 1 []
+  pub write-block : numbersOf 4 (verdictReply (writeNumberReply maze two-by-two (with-subscripts 8 2 1 1) 0)) ≡ refusal 26 0 0 []
+  pub write-there : numbersOf 4 (verdictReply (writeNumberReply maze two-by-two (with-subscripts 7 2 1 1) 0)) ≡ refusal 13 0 0 []
 
 -- A CALENDAR, most significant octet first. Table 51: anchor date flagged, separate summations and demands, two seasons and two special schedules, weekdays share
 -- a column; five non-recurring dates, one recurring, six switches. `flags1` takes the place of its first octet
@@ -191,7 +254,7 @@ year-image flags1 =
     ∷ []
 
 abbrev pub year-tier : Quantity → (year month day hour minute : ℕ) → List ℕ
-year-tier q y mo d h mi = numbersOf 5 (tierReply (clock 48) (year-image 0x20) (moment y mo d h mi) q)
+year-tier q y mo d h mi = numbersOf 6 (tierReply (clock 48) (year-image 0x20) (moment y mo d h mi) q)
 
 -- a tier; "none yet today"
 abbrev pub tier : ℕ → List ℕ
@@ -219,10 +282,10 @@ record-image low high action =
 
 -- what it says of a day at 07:30, and whether a season record stands by that day
 abbrev pub by-record : (low high action : ℕ) → (year month day : ℕ) → List ℕ
-by-record low high action y m d = numbersOf 5 (tierReply (clock 12) (record-image low high action) (moment y m d 7 30) Quantity.Summations)
+by-record low high action y m d = numbersOf 6 (tierReply (clock 12) (record-image low high action) (moment y m d 7 30) Quantity.Summations)
 
 abbrev pub stands : (low high action : ℕ) → (year month day : ℕ) → List ℕ
-stands low high action y m d = numbersOf 4 (seasonedReply (clock 12) (record-image low high action) (date y m d))
+stands low high action y m d = numbersOf 5 (seasonedReply (clock 12) (record-image low high action) (date y m d))
 
 abbrev pub yes : List ℕ
 yes = gives (1 ∷ [])
@@ -240,7 +303,7 @@ new-image seasons rows =
 -- the starred calendar with a second record, of 5 March 2024, and what it says of that day
 abbrev pub by-second : (action : ℕ) → List ℕ
 by-second action =
-    numbersOf 5 (tierReply (clock 15)
+    numbersOf 6 (tierReply (clock 15)
     (0x00
     ∷ 0x00 ∷ 0x00 ∷ 0x01 ∷ 0x02 ∷ 0x00 ∷ 0x02 ∷ 0x00 ∷ 0x00 ∷ 0x00
     ∷ 0x98 ∷ 0x08 ∷ 0x03 ∷ 0x98 ∷ 0x29 ∷ action ∷ 0x00 ∷ 0x00 ∷ 0x01 ∷ 0xC2 ∷ 0x3B ∷ 0x01 ∷ 0x01 ∷ 0x01 ∷ 0x01 ∷ [])
@@ -252,7 +315,7 @@ short-51 = items (0x10000001 ∷ 0x20100000 ∷ 0x10330001 ∷ 0x30080000 ∷ 0x
 
 -- the weekday of a date; no such date
 abbrev pub weekday : (year month day : ℕ) → List ℕ
-weekday y m d = numbersOf 4 (weekdayReply (date y m d))
+weekday y m d = numbersOf 5 (weekdayReply (date y m d))
 
 abbrev pub no-date : List ℕ
 no-date = refusal 16 0 0 (0 ∷ [])
@@ -262,8 +325,8 @@ pub record CalendarCareful : Type 0 where
   pub saturday : weekdayOf (dayNumber 2000 1 1) ≡ 6
   -- 31 December 2089, the last day, will be a Saturday too
   pub last-saturday : weekdayOf (dayNumber 2089 12 31) ≡ 6
-  pub saturday-tier : numbersOf 5 (tierReply (clock 14) week-image (moment 2000 1 1 0 0) Quantity.Summations) ≡ tier 5
-  pub sunday-tier : numbersOf 5 (tierReply (clock 14) week-image (moment 2000 1 2 0 0) Quantity.Summations) ≡ none-yet
+  pub saturday-tier : numbersOf 6 (tierReply (clock 14) week-image (moment 2000 1 1 0 0) Quantity.Summations) ≡ tier 5
+  pub sunday-tier : numbersOf 6 (tierReply (clock 14) week-image (moment 2000 1 2 0 0) Quantity.Summations) ≡ none-yet
   -- 3 June 2024 is a Monday: of equal dates the later record, season 0; of equal times the later record; minutes over 59 are skipped
   pub summations : year-tier Quantity.Summations 2024 6 3 23 59 ≡ tier 6
   -- only switches flagged for what is asked count
@@ -295,7 +358,7 @@ pub record CalendarCareful : Type 0 where
   pub hour-24 : year-tier Quantity.Summations 2024 6 3 24 0 ≡ no-tier 16
   pub minute-60 : year-tier Quantity.Summations 2024 6 3 8 60 ≡ no-tier 16
   -- 18, on a day before every season record too
-  pub armed : numbersOf 5 (tierReply (clock 48) (year-image 0x28) (moment 1990 1 1 0 0) Quantity.Summations) ≡ no-tier 18
+  pub armed : numbersOf 6 (tierReply (clock 48) (year-image 0x28) (moment 1990 1 1 0 0) Quantity.Summations) ≡ no-tier 18
   -- a season record stands by its own day, and not before. Years 89, 90, 99 and 100 of a DATE; 29 February 2025
   pub year-89 : stands 0xD9 0x08 3 2089 1 1 ≡ yes
   pub before-89 : stands 0xD9 0x08 3 2088 12 31 ≡ no
@@ -315,14 +378,14 @@ pub record CalendarCareful : Type 0 where
   -- with no row for it there is no tier, but before its day season 0 has one
   pub before-4 : by-record 0x98 0x08 4 2023 12 31 ≡ tier 2
   -- a season change that is armed doesn't matter to it, nor a recurring record; a date that isn't real does
-  pub stands-armed : numbersOf 4 (seasonedReply (clock 48) (year-image 0x28) (date 1995 1 1)) ≡ yes
-  pub recurring : numbersOf 4 (seasonedReply (clock 48) (year-image 0x20) (date 1994 12 31)) ≡ no
+  pub stands-armed : numbersOf 5 (seasonedReply (clock 48) (year-image 0x28) (date 1995 1 1)) ≡ yes
+  pub recurring : numbersOf 5 (seasonedReply (clock 48) (year-image 0x20) (date 1994 12 31)) ≡ no
   pub stands-unreal : stands 0x98 0x08 3 2023 2 29 ≡ refusal 16 0 0 (0 ∷ [])
-  pub stands-no-calendar : numbersOf 4 (seasonedReply (clock 11) clock-image (date 2023 2 29)) ≡ refusal 20 0 0 (0 ∷ [])
+  pub stands-no-calendar : numbersOf 5 (seasonedReply (clock 11) clock-image (date 2023 2 29)) ≡ refusal 20 0 0 (0 ∷ [])
   -- a new meter: every day is in season 0, whose row it has; without one it is 19. No record stands
-  pub new-meter : numbersOf 5 (tierReply (clock 9) (new-image 1 (0x01 ∷ 0x01 ∷ 0x01 ∷ [])) (moment 1990 1 1 7 30) Quantity.Summations) ≡ tier 2
-  pub no-seasons : numbersOf 5 (tierReply (clock 6) (new-image 0 []) (moment 2024 3 5 7 30) Quantity.Summations) ≡ no-tier 19
-  pub new-stands : numbersOf 4 (seasonedReply (clock 9) (new-image 1 (0x01 ∷ 0x01 ∷ 0x01 ∷ [])) (date 2089 12 31)) ≡ no
+  pub new-meter : numbersOf 6 (tierReply (clock 9) (new-image 1 (0x01 ∷ 0x01 ∷ 0x01 ∷ [])) (moment 1990 1 1 7 30) Quantity.Summations) ≡ tier 2
+  pub no-seasons : numbersOf 6 (tierReply (clock 6) (new-image 0 []) (moment 2024 3 5 7 30) Quantity.Summations) ≡ no-tier 19
+  pub new-stands : numbersOf 5 (seasonedReply (clock 9) (new-image 1 (0x01 ∷ 0x01 ∷ 0x01 ∷ [])) (date 2089 12 31)) ≡ no
   -- document 02, E3: the weekday of the first day; round the end of February, in leap years and in others; no real dates
   pub first-monday : weekday 1990 1 1 ≡ gives (1 ∷ [])
   pub tuesday-2000 : weekday 2000 2 29 ≡ gives (2 ∷ [])
@@ -344,10 +407,10 @@ pub record CalendarCareful : Type 0 where
   pub special-11 : by-second 30 ≡ no-tier 19
   pub no-special : by-second 31 ≡ tier 2
   -- 20: table 54 an octet longer, an octet shorter; table 51 an octet shorter; 10: no table 54
-  pub longer-54 : numbersOf 3 (verdictReply (matrixVerdict (clock 13) (clock-image ++ 0 ∷ []))) ≡ refusal 20 0 0 []
-  pub shorter-54 : numbersOf 3 (verdictReply (matrixVerdict (clock 11) clock-image)) ≡ refusal 20 0 0 []
-  pub shorter-51 : numbersOf 3 (verdictReply (matrixVerdict short-51 (0 ∷ 0 ∷ 0 ∷ 1 ∷ 1 ∷ 0 ∷ 2 ∷ 0 ∷ 0 ∷ drop 10 clock-image))) ≡ refusal 20 0 0 []
-  pub no-calendar : numbersOf 3 (verdictReply (matrixVerdict (items (0x10000001 ∷ 0x20100000 ∷ [])) (0 ∷ []))) ≡ refusal 10 0 0 []
+  pub longer-54 : numbersOf 4 (verdictReply (matrixVerdict (clock 13) (clock-image ++ 0 ∷ []))) ≡ refusal 20 0 0 []
+  pub shorter-54 : numbersOf 4 (verdictReply (matrixVerdict (clock 11) clock-image)) ≡ refusal 20 0 0 []
+  pub shorter-51 : numbersOf 4 (verdictReply (matrixVerdict short-51 (0 ∷ 0 ∷ 0 ∷ 1 ∷ 1 ∷ 0 ∷ 2 ∷ 0 ∷ 0 ∷ drop 10 clock-image))) ≡ refusal 20 0 0 []
+  pub no-calendar : numbersOf 4 (verdictReply (matrixVerdict (items (0x10000001 ∷ 0x20100000 ∷ [])) (0 ∷ []))) ≡ refusal 10 0 0 []
   -- the matrix: cells stand as in the rows, unused ones are 0
   pub row-0 : getD (matrixReply (clock 48) (year-image 0x20)) 0 [] ≡ 9 ∷ 8 ∷ 7 ∷ 10 ∷ 9 ∷ 0 ∷ 0 ∷ 0 ∷ 0 ∷ 0 ∷ 0 ∷ 0 ∷ 0 ∷ 0 ∷ 0 ∷ 0 ∷ 0 ∷ 0 ∷ 0 ∷ 0 ∷ 0 ∷ 0 ∷ []
   pub row-1 : getD (matrixReply (clock 48) (year-image 0x20)) 1 [] ≡ 1 ∷ 2 ∷ 9 ∷ 4 ∷ 5 ∷ 0 ∷ 0 ∷ 0 ∷ 0 ∷ 0 ∷ 0 ∷ 0 ∷ 0 ∷ 0 ∷ 0 ∷ 0 ∷ 0 ∷ 0 ∷ 0 ∷ 0 ∷ 0 ∷ 0 ∷ []
@@ -357,17 +420,17 @@ pub record CalendarCareful : Type 0 where
 
 -- MESSAGES. A request and a reply put into a room of twenty octets; 21
 abbrev pub putting : Request → List ℕ
-putting q = numbersOf 4 (writeRequestReply q (replicate 20 0))
+putting q = numbersOf 5 (writeRequestReply q (replicate 20 0))
 
 abbrev pub answering : MeterReply → List ℕ
-answering a = numbersOf 4 (writeReplyReply a (replicate 20 0))
+answering a = numbersOf 5 (writeReplyReply a (replicate 20 0))
 
 abbrev pub no-room : List ℕ
 no-room = refusal 21 0 0 (0 ∷ [])
 
 -- a range of the first image
 abbrev pub ranged : (manufacturer number at length : ℕ) → List ℕ
-ranged m k p n = numbersOf 5 (placeReply (readRangeReply D first m k (offset p) n))
+ranged m k p n = numbersOf 6 (placeReply (readRangeReply D first m k (offset p) n))
 
 -- a meter's answer, in a room of ten octets that were FF, and the image afterwards; an answer of one octet
 abbrev pub serves : (description image request : List ℕ) → List ℕ
@@ -474,10 +537,10 @@ pub record MessagesCareful : Type 0 where
   pub code-1 : answering (refuses 1) ≡ gives (1 ∷ [])
   pub code-4 : answering (refuses 4) ≡ gives (1 ∷ [])
   -- a room an octet short is 21 and stays; of a longer one the octets behind the message stay
-  pub room-short : numbersOf 4 (writeRequestReply (fullRead 5) (9 ∷ 9 ∷ [])) ≡ no-room
+  pub room-short : numbersOf 5 (writeRequestReply (fullRead 5) (9 ∷ 9 ∷ [])) ≡ no-room
   pub room-stays : writeRequestRoom (fullRead 5) (9 ∷ 9 ∷ []) ≡ 9 ∷ 9 ∷ []
   pub room-longer : writeRequestRoom (fullRead 5) (9 ∷ 8 ∷ 7 ∷ 6 ∷ 5 ∷ []) ≡ 0x30 ∷ 0x00 ∷ 0x05 ∷ 0x06 ∷ 0x05 ∷ []
-  pub reply-room-short : numbersOf 4 (writeReplyReply (holds (1 ∷ [])) (9 ∷ 9 ∷ 9 ∷ 9 ∷ [])) ≡ no-room
+  pub reply-room-short : numbersOf 5 (writeReplyReply (holds (1 ∷ [])) (9 ∷ 9 ∷ 9 ∷ 9 ∷ [])) ≡ no-room
   pub reply-room-longer : writeReplyRoom (holds (1 ∷ [])) (9 ∷ 8 ∷ 7 ∷ 6 ∷ 5 ∷ 4 ∷ []) ≡ 0x00 ∷ 0x00 ∷ 0x01 ∷ 0x01 ∷ 0xFF ∷ 0x04 ∷ []
   -- by numbers, what was read: 0 for what a form lacks
   pub told-refused : requestTold (requestedBy (notRequest 2)) ≡ record { code = 2; kind = 0; id = 0; offset = 0; count = 0; start = 0 }
@@ -485,24 +548,24 @@ pub record MessagesCareful : Type 0 where
   pub told-offset-read : requestTold (requestedBy (isRequest (offsetRead 5 6 7))) ≡ record { code = 0; kind = 63; id = 5; offset = 6; count = 7; start = 0 }
   pub told-full-write : requestTold (requestedBy (isRequest (fullWrite 5 (1 ∷ 2 ∷ [])))) ≡ record { code = 0; kind = 64; id = 5; offset = 0; count = 2; start = 5 }
   pub told-offset-write : requestTold (requestedBy (isRequest (offsetWrite 5 6 (1 ∷ [])))) ≡ record { code = 0; kind = 79; id = 5; offset = 6; count = 1; start = 8 }
-  pub told-data : replyTold (heardBy (some (holds (1 ∷ 2 ∷ [])))) ≡ record { refusal = record { number = 0; item = 0; octet = 0 }; kind = 1; code = 0; count = 2; start = 3 }
-  pub told-done : replyTold (heardBy (some done)) ≡ record { refusal = record { number = 0; item = 0; octet = 0 }; kind = 2; code = 0; count = 0; start = 0 }
-  pub told-code : replyTold (heardBy (some (refuses 4))) ≡ record { refusal = record { number = 0; item = 0; octet = 0 }; kind = 3; code = 4; count = 0; start = 0 }
-  pub told-43 : replyTold (heardBy none) ≡ record { refusal = record { number = 43; item = 0; octet = 0 }; kind = 0; code = 0; count = 0; start = 0 }
+  pub told-data : replyTold (heardBy (some (holds (1 ∷ 2 ∷ [])))) ≡ record { refusal = record { number = 0; item = 0; octet = 0; depth = 0 }; kind = 1; code = 0; count = 2; start = 3 }
+  pub told-done : replyTold (heardBy (some done)) ≡ record { refusal = record { number = 0; item = 0; octet = 0; depth = 0 }; kind = 2; code = 0; count = 0; start = 0 }
+  pub told-code : replyTold (heardBy (some (refuses 4))) ≡ record { refusal = record { number = 0; item = 0; octet = 0; depth = 0 }; kind = 3; code = 4; count = 0; start = 0 }
+  pub told-43 : replyTold (heardBy none) ≡ record { refusal = record { number = 43; item = 0; octet = 0; depth = 0 }; kind = 0; code = 0; count = 0; start = 0 }
   -- by numbers, what is to be written: what a form lacks isn't judged, another kind is 21
   pub of-48 : requestOf 48 5 6 7 (1 ∷ []) ≡ some (fullRead 5)
   pub of-63 : requestOf 63 5 6 7 (1 ∷ []) ≡ some (offsetRead 5 6 7)
   pub of-64 : requestOf 64 5 6 7 (1 ∷ []) ≡ some (fullWrite 5 (1 ∷ []))
   pub of-79 : requestOf 79 5 6 7 (1 ∷ []) ≡ some (offsetWrite 5 6 (1 ∷ []))
   pub of-47 : requestOf 47 5 6 7 (1 ∷ []) ≡ none
-  pub lacking : numbersOf 4 (requestSent (requestOf 48 5 16777216 65536 (1 ∷ [])) (replicate 3 0)) ≡ gives (3 ∷ [])
-  pub kind-49 : numbersOf 4 (requestSent (requestOf 49 5 0 0 []) (replicate 20 0)) ≡ no-room
+  pub lacking : numbersOf 5 (requestSent (requestOf 48 5 16777216 65536 (1 ∷ [])) (replicate 3 0)) ≡ gives (3 ∷ [])
+  pub kind-49 : numbersOf 5 (requestSent (requestOf 49 5 0 0 []) (replicate 20 0)) ≡ no-room
   pub of-1 : replyOf 1 4 (1 ∷ []) ≡ some (holds (1 ∷ []))
   pub of-2 : replyOf 2 4 (1 ∷ []) ≡ some done
   pub of-3 : replyOf 3 4 (1 ∷ []) ≡ some (refuses 4)
   pub of-0 : replyOf 0 4 (1 ∷ []) ≡ none
-  pub code-unjudged : numbersOf 4 (replySent (replyOf 2 5 (1 ∷ [])) (0 ∷ [])) ≡ gives (1 ∷ [])
-  pub kind-4 : numbersOf 4 (replySent (replyOf 4 1 []) (replicate 20 0)) ≡ no-room
+  pub code-unjudged : numbersOf 5 (replySent (replyOf 2 5 (1 ∷ [])) (0 ∷ [])) ≡ gives (1 ∷ [])
+  pub kind-4 : numbersOf 5 (replySent (replyOf 4 1 []) (replicate 20 0)) ≡ no-room
   -- a range read; none at the table's end, past it 12; no table 6, 10. Table 0 may be read, though not written
   pub range-place : ranged 0 5 2 3 ≡ gives (4 ∷ 3 ∷ [])
   pub range-octets : readRangePart D first 0 5 (offset 2) 3 ≡ 0x34 ∷ 0x12 ∷ 0x78 ∷ []
@@ -539,12 +602,12 @@ pub record MessagesCareful : Type 0 where
   pub dimension-whole : serves D-writable first write-0 ≡ replies 4
   pub dimension-part : serves D-writable first (0x4F ∷ 0x00 ∷ 0x00 ∷ 0x00 ∷ 0x00 ∷ 0x01 ∷ 0x00 ∷ 0x01 ∷ 0x82 ∷ 0x7E ∷ []) ≡ replies 4
   -- a room shorter than the reply, one octet where a write is done or refused: 21, and neither room nor image changes
-  pub no-room-write : numbersOf 4 (serveReply D first write-5 []) ≡ no-room
+  pub no-room-write : numbersOf 5 (serveReply D first write-5 []) ≡ no-room
   pub no-room-image : serveImage D first write-5 [] ≡ first
-  pub one-octet : numbersOf 4 (serveReply D first write-5 (9 ∷ [])) ≡ gives (1 ∷ [])
-  pub room-9 : numbersOf 4 (serveReply D first read-5 (replicate 9 9)) ≡ no-room
+  pub one-octet : numbersOf 5 (serveReply D first write-5 (9 ∷ [])) ≡ gives (1 ∷ [])
+  pub room-9 : numbersOf 5 (serveReply D first read-5 (replicate 9 9)) ≡ no-room
   pub room-9-stays : serveRoom D first read-5 (replicate 9 9) ≡ 9 ∷ 9 ∷ 9 ∷ 9 ∷ 9 ∷ 9 ∷ 9 ∷ 9 ∷ 9 ∷ []
-  pub no-room-refusal : numbersOf 4 (serveReply D first [] []) ≡ no-room
+  pub no-room-refusal : numbersOf 5 (serveReply D first [] []) ≡ no-room
   -- 1 to 9 are 04, and come after 01 and 02; a wrong check octet is 01
   pub unsound : serves D-unset first read-5 ≡ replies 4
   pub unsound-empty : serves D-unset first [] ≡ replies 1

@@ -50,12 +50,15 @@ at i s = record { item = i; count = 1; subscripts = s ∷ 0 ∷ 0 ∷ 0 ∷ [] }
 abbrev pub offset : ℕ → TableOffset
 offset n = record { 0 = n }
 
--- an answer's numbers: not refused, with these values; refused with a number, item and octet, values 0
+-- an answer's numbers: not refused, with these values; refused with a number, item and octet, values 0; a subscript too large, with its depth
 abbrev pub gives : List ℕ → List ℕ
-gives values = 0 ∷ 0 ∷ 0 ∷ values
+gives values = 0 ∷ 0 ∷ 0 ∷ 0 ∷ values
 
 abbrev pub refusal : (number item octet : ℕ) → List ℕ → List ℕ
-refusal n i p values = n ∷ i ∷ p ∷ values
+refusal n i p values = n ∷ i ∷ p ∷ 0 ∷ values
+
+abbrev pub too-large : (depth : ℕ) → List ℕ → List ℕ
+too-large k values = 25 ∷ 0 ∷ 0 ∷ k ∷ values
 
 -- a meter whose Table 51 is a block of 9 octets and whose Table 54 is one of n
 abbrev pub clock : (n : ℕ) → List ℕ
@@ -76,32 +79,32 @@ date y m d = record { year = y; month = m; day = d }
 
 pub record Starred : Type 0 where
   -- D with 00 82 AA BB 34 12 78 56: total 8; table 5 at 2, 6 long; item 7 subscript 1 is 5678 hex
-  pub first-total : numbersOf 4 (layoutReply D first) ≡ gives (8 ∷ [])
-  pub first-table : numbersOf 5 (placeReply (tablePlaceReply D first 0 5)) ≡ gives (2 ∷ 6 ∷ [])
-  pub first-number : numbersOf 4 (elementNumberReply D first (at 7 1)) ≡ gives (0x5678 ∷ [])
-  -- D with 01 02 34 12 78 56: total 6; item 7 subscript 0 is 3412 hex; item 5 gives 11
-  pub second-total : numbersOf 4 (layoutReply D second) ≡ gives (6 ∷ [])
-  pub second-number : numbersOf 4 (elementNumberReply D second (at 7 0)) ≡ gives (0x3412 ∷ [])
-  pub second-none : numbersOf 5 (placeReply (elementPlaceReply D second (plain 5))) ≡ refusal 11 0 0 (0 ∷ 0 ∷ [])
+  pub first-total : numbersOf 5 (layoutReply D first) ≡ gives (8 ∷ [])
+  pub first-table : numbersOf 6 (placeReply (tablePlaceReply D first 0 5)) ≡ gives (2 ∷ 6 ∷ [])
+  pub first-number : numbersOf 5 (elementNumberReply D first (at 7 1)) ≡ gives (0x5678 ∷ [])
+  -- D with 01 02 34 12 78 56: total 6; item 7 subscript 0 is 3412 hex; item 5 gives 23 (document 02, E4)
+  pub second-total : numbersOf 5 (layoutReply D second) ≡ gives (6 ∷ [])
+  pub second-number : numbersOf 5 (elementNumberReply D second (at 7 0)) ≡ gives (0x3412 ∷ [])
+  pub second-none : numbersOf 6 (placeReply (elementPlaceReply D second (plain 5))) ≡ refusal 23 0 0 (0 ∷ 0 ∷ [])
   -- D with the first image cut to 7: refusal 9, item 6, octet 4
-  pub cut-short : numbersOf 4 (layoutReply D first-cut) ≡ refusal 9 6 4 (0 ∷ [])
-  -- D with 00 00: total 2; table 5 has size 0; any subscript of item 7 gives 11
-  pub bare-total : numbersOf 4 (layoutReply D (0 ∷ 0 ∷ [])) ≡ gives (2 ∷ [])
-  pub bare-table : numbersOf 5 (placeReply (tablePlaceReply D (0 ∷ 0 ∷ []) 0 5)) ≡ gives (2 ∷ 0 ∷ [])
-  pub bare-none : (s : ℕ) → numbersOf 5 (placeReply (elementPlaceReply D (0 ∷ 0 ∷ []) (at 7 s))) ≡ refusal 11 0 0 (0 ∷ 0 ∷ [])
+  pub cut-short : numbersOf 5 (layoutReply D first-cut) ≡ refusal 9 6 4 (0 ∷ [])
+  -- D with 00 00: total 2; table 5 has size 0; any subscript of item 7 gives 25, at depth 0 (document 02, E4)
+  pub bare-total : numbersOf 5 (layoutReply D (0 ∷ 0 ∷ [])) ≡ gives (2 ∷ [])
+  pub bare-table : numbersOf 6 (placeReply (tablePlaceReply D (0 ∷ 0 ∷ []) 0 5)) ≡ gives (2 ∷ 0 ∷ [])
+  pub bare-none : (s : ℕ) → numbersOf 6 (placeReply (elementPlaceReply D (0 ∷ 0 ∷ []) (at 7 s))) ≡ too-large 0 (0 ∷ 0 ∷ [])
   -- D, empty image: 9, item 1, octet 0
-  pub empty-short : numbersOf 4 (layoutReply D []) ≡ refusal 9 1 0 (0 ∷ [])
+  pub empty-short : numbersOf 5 (layoutReply D []) ≡ refusal 9 1 0 (0 ∷ [])
   -- first image: write of 1 octet at offset 1 of table 0 gives 13; with that table writable, 14
-  pub unwritable : (x : ℕ) → numbersOf 3 (verdictReply (writeRangeReply D first 0 0 (offset 1) (x ∷ []))) ≡ refusal 13 0 0 []
-  pub dimension : (x : ℕ) → numbersOf 3 (verdictReply (writeRangeReply D-writable first 0 0 (offset 1) (x ∷ []))) ≡ refusal 14 0 0 []
+  pub unwritable : (x : ℕ) → numbersOf 4 (verdictReply (writeRangeReply D first 0 0 (offset 1) (x ∷ []))) ≡ refusal 13 0 0 []
+  pub dimension : (x : ℕ) → numbersOf 4 (verdictReply (writeRangeReply D-writable first 0 0 (offset 1) (x ∷ []))) ≡ refusal 14 0 0 []
   -- first image: write at offset 6, length 0, of table 5 is accepted; offset 6, length 1, gives 12
-  pub none-written : numbersOf 3 (verdictReply (writeRangeReply D first 0 5 (offset 6) [])) ≡ gives []
+  pub none-written : numbersOf 4 (verdictReply (writeRangeReply D first 0 5 (offset 6) [])) ≡ gives []
   pub none-changed : writeRangeImage D first 0 5 (offset 6) [] ≡ first
-  pub past-table : (x : ℕ) → numbersOf 3 (verdictReply (writeRangeReply D first 0 5 (offset 6) (x ∷ []))) ≡ refusal 12 0 0 []
+  pub past-table : (x : ℕ) → numbersOf 4 (verdictReply (writeRangeReply D first 0 5 (offset 6) (x ∷ []))) ≡ refusal 12 0 0 []
   -- D with item 4 replaced by 61000040 (slot 4, never set): 7 at item 4
-  pub unset : numbersOf 3 (verdictReply (checkReply D-unset)) ≡ refusal 7 4 0 []
+  pub unset : numbersOf 4 (verdictReply (checkReply D-unset)) ≡ refusal 7 4 0 []
   -- Table 54 holding the twelve octets: 5 March 2024 07:30 gives tier 2, 07:29 tier 0; 31 December 2023, before the first season record, tier 0 at 00:00 (document 02, E1).
   -- The first value is 1 for "none yet today"
-  pub half-past : (q : Quantity) → numbersOf 5 (tierReply (clock 12) clock-image (moment 2024 3 5 7 30) q) ≡ gives (0 ∷ 2 ∷ [])
-  pub minute-less : (q : Quantity) → numbersOf 5 (tierReply (clock 12) clock-image (moment 2024 3 5 7 29) q) ≡ gives (0 ∷ 0 ∷ [])
-  pub before-first : (q : Quantity) → numbersOf 5 (tierReply (clock 12) clock-image (moment 2023 12 31 0 0) q) ≡ gives (0 ∷ 0 ∷ [])
+  pub half-past : (q : Quantity) → numbersOf 6 (tierReply (clock 12) clock-image (moment 2024 3 5 7 30) q) ≡ gives (0 ∷ 2 ∷ [])
+  pub minute-less : (q : Quantity) → numbersOf 6 (tierReply (clock 12) clock-image (moment 2024 3 5 7 29) q) ≡ gives (0 ∷ 0 ∷ [])
+  pub before-first : (q : Quantity) → numbersOf 6 (tierReply (clock 12) clock-image (moment 2023 12 31 0 0) q) ≡ gives (0 ∷ 0 ∷ [])

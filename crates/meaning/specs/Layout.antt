@@ -124,6 +124,22 @@ setSlot (suc k) x s = λ j. if j =? suc k then x else s j
 unfoldable pub bitRange : (number : ℕ) → Fields → ℕ
 bitRange x f = x / 2 ^ (f .low) % 2 ^ (f .width)
 
+-- the number of each slot
+abbrev pub Numbers : Type 0
+Numbers = ℕ → ℕ
+
+-- a reference's value, where slots have these numbers; 0 for an item without one
+unfoldable pub value : Numbers → Fields → ℕ
+value v f = if refers f then bitRange (v (f .slot)) f else 0
+
+-- the numbers that slots hold; 0 where none is read yet
+unfoldable pub numberOf : Slot → ℕ
+numberOf unread = 0
+numberOf (holds o x) = x
+
+abbrev pub slotNumbers : Slots → Numbers
+slotNumbers s = λ k. numberOf (s k)
+
 -- the octets of a SET: the value, or with unit 1 as many as that many flags fill
 unfoldable pub setOctets : (unit value : ℕ) → ℕ
 setOctets u x = if u =? 0 then x else (x + 7) / 8

@@ -4,6 +4,7 @@ pub mod Description
 pub mod Ranges
 pub mod Passed
 pub mod Layout
+pub mod Causes
 pub mod Refusals
 pub mod Calendar
 pub mod Questions

@@ -1,5 +1,5 @@
--- THE REFUSALS BY NAME: the table "Refusal numbers" of document 01, but for 17, which document 02's E1 takes back, and those that document 02 adds. A refusal is its number and what it reports (`Refusal`, src/lib.rt): 2 to 7 report the
--- item, 9 the item and octet, others nothing more. Assumes nothing.
+-- THE REFUSALS BY NAME: the table "Refusal numbers" of document 01, but for 17, which document 02's E1 takes back, and 11, of which its E4 makes five; and those that document 02 adds. A refusal is its number and
+-- what it reports (`Refusal`, src/lib.rt): 2 to 7 report the item, 9 the item and octet, 25 the depth, others nothing more. Assumes nothing.
 use Prim.Native.Nat.{ℕ}
 use mathlib.Core.Bool.{Bool, not, _&&_, _||_}
 use Rattle.meaning.specs.Basics.{_=?_, _≤?_}
@@ -12,14 +12,17 @@ reportsItem n = 2 ≤? n && n ≤? 7 || n =? 9
 abbrev pub reportsOctet : ℕ → Bool
 reportsOctet n = n =? 9
 
--- the numbers that questions about tables give: document 01's 1 to 20, but 17 no longer
+abbrev pub reportsDepth : ℕ → Bool
+reportsDepth n = n =? 25
+
+-- the numbers that questions about tables give: document 01's 1 to 20, but 11 and 17 no longer, and document 02's 22 to 26
 abbrev pub isGiven : ℕ → Bool
-isGiven n = 1 ≤? n && n ≤? 20 && not (n =? 17)
+isGiven n = 1 ≤? n && n ≤? 20 && not (n =? 11) && not (n =? 17) || 22 ≤? n && n ≤? 26
 
 -- THE NAMES
 -- a number that reports nothing more; 0, where nothing is refused
 abbrev pub numbered : ℕ → Refusal
-numbered n = record { number = n; item = 0; octet = 0 }
+numbered n = record { number = n; item = 0; octet = 0; depth = 0 }
 
 abbrev pub nothingRefused : Refusal
 nothingRefused = numbered 0
@@ -30,20 +33,17 @@ descriptionLength = numbered 1
 
 -- an item breaks one of the rules 2 to 7
 abbrev pub breaksRule : (rule item : ℕ) → Refusal
-breaksRule n i = record { number = n; item = i; octet = 0 }
+breaksRule n i = record { number = n; item = i; octet = 0; depth = 0 }
 
 abbrev pub imageTooLong : Refusal
 imageTooLong = numbered 8
 
 -- the item that doesn't end inside the image, and its starting octet
 abbrev pub imageShort : (item octet : ℕ) → Refusal
-imageShort i p = record { number = 9; item = i; octet = p }
+imageShort i p = record { number = 9; item = i; octet = p; depth = 0 }
 
 abbrev pub noTable : Refusal
 noTable = numbered 10
-
-abbrev pub noElement : Refusal
-noElement = numbered 11
 
 -- offset + length over the table's size
 abbrev pub outsideTable : Refusal
@@ -78,6 +78,26 @@ notACalendar = numbered 20
 -- a message doesn't fit the room lent, or a number its field
 abbrev pub noRoom : Refusal
 noRoom = numbered 21
+
+-- why there is no such element: the item isn't one
+abbrev pub notAnElement : Refusal
+notAnElement = numbered 22
+
+-- branch not chosen
+abbrev pub branchNotChosen : Refusal
+branchNotChosen = numbered 23
+
+-- wrong number of subscripts
+abbrev pub subscriptCount : Refusal
+subscriptCount = numbered 24
+
+-- subscript too large: its depth, 0 for the outermost
+abbrev pub subscriptTooLarge : (depth : ℕ) → Refusal
+subscriptTooLarge k = record { number = 25; item = 0; octet = 0; depth = k }
+
+-- number asked of a BLOCK or SET
+abbrev pub notANumber : Refusal
+notANumber = numbered 26
 
 -- octets that are no reply of a meter
 abbrev pub notAReply : Refusal

@@ -1,7 +1,7 @@
 -- REFUSAL NUMBERS: the section of that name in document 01, and with it every question's reply and every write's later image.
 -- Each reply is a function of the description, the image and what is asked, so no second reply fits. Nothing is assumed of any of them.
 use Prim.Native.Nat.{ℕ, zero, suc, _+_, _^_, min, max}
-use mathlib.Core.Bool.{Bool, false, not, _&&_, _||_}
+use mathlib.Core.Bool.{Bool, true, false, not, _&&_, _||_}
 use mathlib.Core.List.{List, [], _∷_, _++_}
 use mathlib.Core.Option.{Option, some, none}
 use lib.ListN.{length, take}
@@ -13,9 +13,10 @@ use Rattle.meaning.specs.declared.Verdict.{Verdict}
 use Rattle.meaning.specs.declared.Reply.{Reply}
 use Rattle.meaning.specs.declared.Told.{Told}
 use Rattle.meaning.specs.declared.Place.{Place}
-use Rattle.meaning.specs.Description.{fieldsAt, isTable, isUint, checkReply}
-use Rattle.meaning.specs.Layout.{Placed, Seat, Slots, Stop, Fault, notRead, outside, unequal, noPlace, fault, short, Layout, laidOut, stoppedAt, layOut, elementNamed, tableNamed, dataOrder, numberAt}
-use Rattle.meaning.specs.Numbers.{nothingRefused, breaksRule, imageTooLong, imageShort, noTable, noElement, outsideTable, notWritable, holdsDimension, wrongSize}
+use Rattle.meaning.specs.Description.{fieldsAt, isTable, checkReply}
+use Rattle.meaning.specs.Layout.{Placed, Seat, Slots, Stop, Fault, notRead, outside, unequal, noPlace, fault, short, Layout, laidOut, stoppedAt, layOut, elementNamed, tableNamed, dataOrder, numberAt, slotNumbers}
+use Rattle.meaning.specs.Causes.{subscriptsOf, suits, whyNone}
+use Rattle.meaning.specs.Numbers.{nothingRefused, breaksRule, imageTooLong, imageShort, noTable, outsideTable, notWritable, holdsDimension, wrongSize}
 
 -- WHAT A REPLY TELLS, IN NUMBERS: the refusal, all 0 where there is none; then the answer's own two, 0 on refusal
 abbrev pub refusedWith : Refusal → Told
@@ -44,7 +45,7 @@ toldBy (Reply.Weekday w) = answered w 0
 
 -- one after another: a refusal's, then the answer's own
 abbrev pub refusalNumbers : Refusal → List ℕ
-refusalNumbers r = r .number ∷ r .item ∷ r .octet ∷ []
+refusalNumbers r = r .number ∷ r .item ∷ r .octet ∷ r .depth ∷ []
 
 abbrev pub toldNumbers : Told → List ℕ
 toldNumbers t = refusalNumbers (t .refusal) ++ t .first ∷ t .second ∷ []
@@ -124,19 +125,27 @@ tablePlaceReply d img m k = tablePlaceIn m k (openImage d img)
 -- WHERE AN ELEMENT IS
 -- named by its item number and its subscripts: four places and a count; places past the count aren't read
 unfoldable pub elementIn : ElementName → List Placed → Option Placed
-elementIn q es = if q .count ≤? 4 then elementNamed (q .item) (take (q .count) (q .subscripts)) es else none
+elementIn q es = if q .count ≤? 4 then elementNamed (q .item) (subscriptsOf q) es else none
 
--- 11: no such element
-unfoldable pub placedPlace : Option Placed → Place
-placedPlace none = Place.Refused noElement
-placedPlace (some e) = Place.At (record { 0 = e .start }) (e .size)
+-- where its number is asked, the element of a UINT alone
+unfoldable pub elementFor : (number : Bool) → (description : List ℕ) → ElementName → List Placed → Option Placed
+elementFor number d q es = if suits number d q then elementIn q es else none
 
-unfoldable pub elementPlaceIn : ElementName → Opened → Place
-elementPlaceIn q (opened ts es s n) = placedPlace (elementIn q es)
-elementPlaceIn q (refused r) = Place.Refused r
+-- 22 to 26: why there is none (specs/Causes)
+unfoldable pub placedPlace : (why : Refusal) → Option Placed → Place
+placedPlace why none = Place.Refused why
+placedPlace why (some e) = Place.At (record { 0 = e .start }) (e .size)
+
+unfoldable pub elementPlaceIn : (number : Bool) → (description : List ℕ) → ElementName → Opened → Place
+elementPlaceIn number d q (opened ts es s n) = placedPlace (whyNone number d (slotNumbers s) q) (elementFor number d q es)
+elementPlaceIn number d q (refused r) = Place.Refused r
 
 unfoldable pub elementPlaceReply : (description image : List ℕ) → ElementName → Place
-elementPlaceReply d img q = elementPlaceIn q (openImage d img)
+elementPlaceReply d img q = elementPlaceIn false d q (openImage d img)
+
+-- of one whose number is asked
+unfoldable pub integerPlaceReply : (description image : List ℕ) → ElementName → Place
+integerPlaceReply d img q = elementPlaceIn true d q (openImage d img)
 
 -- THE PARTS OF THE IMAGE: the table itself, an element's octets; empty on refusal
 unfoldable pub placePart : (image : List ℕ) → Place → List ℕ
@@ -161,17 +170,12 @@ unfoldable pub readRangePart : (description image : List ℕ) → (manufacturer 
 readRangePart d img m k o n = placePart img (readRangeReply d img m k o n)
 
 -- AN ELEMENT'S NUMBER
--- 11 too where a number is asked of a BLOCK or SET
-unfoldable pub integerPlace : (description : List ℕ) → (item : ℕ) → Place → Place
-integerPlace d i (Place.At p n) = if isUint (fieldsAt d i) then Place.At p n else Place.Refused noElement
-integerPlace d i (Place.Refused r) = Place.Refused r
-
 unfoldable pub placeNumber : (image : List ℕ) → Place → Reply
 placeNumber img (Place.At p n) = Reply.Number (numberAt img (p .0) n)
 placeNumber img (Place.Refused r) = Reply.Refused r
 
 unfoldable pub elementNumberReply : (description image : List ℕ) → ElementName → Reply
-elementNumberReply d img q = placeNumber img (integerPlace d (q .item) (elementPlaceReply d img q))
+elementNumberReply d img q = placeNumber img (integerPlaceReply d img q)
 
 -- WRITES. A write comes to the place where its data go, or to its refusal; from that, its verdict and the later image
 unfoldable pub placeVerdict : Place → Verdict
@@ -222,7 +226,7 @@ writeRangeReply d img m k o new = placeVerdict (rangePlace d img m k o (length n
 unfoldable pub writeRangeImage : (description image : List ℕ) → (manufacturer number : ℕ) → TableOffset → (new : List ℕ) → List ℕ
 writeRangeImage d img m k o new = imageWith img new (rangePlace d img m k o (length new))
 
--- WRITE AN ELEMENT: 11, 13, 14, then 15 where what is to be written doesn't fit the element's length
+-- WRITE AN ELEMENT: 22 to 26, 13, 14, then 15 where what is to be written doesn't fit the element's length
 unfoldable pub fitting : (fits : ℕ → Bool) → Place → Place
 fitting fits (Place.At p n) = if fits n then Place.At p n else Place.Refused wrongSize
 fitting fits (Place.Refused r) = Place.Refused r
@@ -231,10 +235,13 @@ unfoldable pub allowedAt : (description image : List ℕ) → ElementName → Li
 allowedAt d img q es (Place.At p n) = allowed d img es (tableAround d (q .item)) (p .0) n
 allowedAt d img q es (Place.Refused r) = Place.Refused r
 
+unfoldable pub writtenIn : (number : Bool) → (fits : ℕ → Bool) → (description image : List ℕ) → ElementName → Opened → Place
+writtenIn number fits d img q (opened ts es s total) = fitting fits (allowedAt d img q es (elementPlaceIn number d q (opened ts es s total)))
+writtenIn number fits d img q (refused r) = Place.Refused r
+
 -- its octets: the data's length is the element's
-unfoldable pub octetsPlaceIn : (description image : List ℕ) → ElementName → (length : ℕ) → Opened → Place
-octetsPlaceIn d img q n (opened ts es s total) = fitting (λ l. n =? l) (allowedAt d img q es (placedPlace (elementIn q es)))
-octetsPlaceIn d img q n (refused r) = Place.Refused r
+abbrev pub octetsPlaceIn : (description image : List ℕ) → ElementName → (length : ℕ) → Opened → Place
+octetsPlaceIn d img q n o = writtenIn false (λ l. n =? l) d img q o
 
 unfoldable pub writeOctetsReply : (description image : List ℕ) → ElementName → (new : List ℕ) → Verdict
 writeOctetsReply d img q new = placeVerdict (octetsPlaceIn d img q (length new) (openImage d img))
@@ -243,10 +250,8 @@ unfoldable pub writeOctetsImage : (description image : List ℕ) → ElementName
 writeOctetsImage d img q new = imageWith img new (octetsPlaceIn d img q (length new) (openImage d img))
 
 -- its number: the number needs no more octets than the element has
-unfoldable pub numberPlaceIn : (description image : List ℕ) → ElementName → (x : ℕ) → Opened → Place
-numberPlaceIn d img q x (opened ts es s total) =
-    fitting (λ l. x <? 256 ^ l) (allowedAt d img q es (integerPlace d (q .item) (placedPlace (elementIn q es))))
-numberPlaceIn d img q x (refused r) = Place.Refused r
+abbrev pub numberPlaceIn : (description image : List ℕ) → ElementName → (x : ℕ) → Opened → Place
+numberPlaceIn d img q x o = writtenIn true (λ l. x <? 256 ^ l) d img q o
 
 -- the octets of a number as long as the place, in the image's DATA_ORDER
 unfoldable pub imageWithNumber : (image : List ℕ) → (x : ℕ) → Place → List ℕ

@@ -93,13 +93,14 @@ pub enum Chosen {
     Entry { when: u32, brings: u32 },
 }
 
-// Why a question is refused: document 01's number, and what it reports, an item and an octet, each 0 where it reports none. C has this very struct. The numbers that
+// Why a question is refused: the number of document 01 or 02, and what it reports, an item, an octet and a subscript's depth, each 0 where it reports none. C has this very struct. The numbers that
 // report nothing have their names here; specs/Numbers.antt has the same names, for the definitions.
 #[repr(C)]
 pub struct Refusal {
     pub number: u64,
     pub item: u64,
     pub octet: u64,
+    pub depth: u64,
 }
 
 impl Refusal {
@@ -108,90 +109,126 @@ impl Refusal {
         number: 0,
         item: 0,
         octet: 0,
+        depth: 0,
     };
     // Of the description, its length alone; 2 to 7 are the rules that an item breaks.
     pub const DESCRIPTION_LENGTH: Refusal = Refusal {
         number: 1,
         item: 0,
         octet: 0,
+        depth: 0,
     };
     // Of the image; 9 is that it is short.
     pub const IMAGE_TOO_LONG: Refusal = Refusal {
         number: 8,
         item: 0,
         octet: 0,
+        depth: 0,
     };
     // Of what is asked for, and of writes.
     pub const NO_TABLE: Refusal = Refusal {
         number: 10,
         item: 0,
         octet: 0,
-    };
-
-    pub const NO_ELEMENT: Refusal = Refusal {
-        number: 11,
-        item: 0,
-        octet: 0,
+        depth: 0,
     };
 
     pub const OUTSIDE_TABLE: Refusal = Refusal {
         number: 12,
         item: 0,
         octet: 0,
+        depth: 0,
     };
 
     pub const NOT_WRITABLE: Refusal = Refusal {
         number: 13,
         item: 0,
         octet: 0,
+        depth: 0,
     };
 
     pub const HOLDS_DIMENSION: Refusal = Refusal {
         number: 14,
         item: 0,
         octet: 0,
+        depth: 0,
     };
 
     pub const WRONG_SIZE: Refusal = Refusal {
         number: 15,
         item: 0,
         octet: 0,
+        depth: 0,
     };
     // Of the calendar; 17 is no longer given.
     pub const NOT_A_DATE: Refusal = Refusal {
         number: 16,
         item: 0,
         octet: 0,
+        depth: 0,
     };
 
     pub const SEASON_CHANGE_ARMED: Refusal = Refusal {
         number: 18,
         item: 0,
         octet: 0,
+        depth: 0,
     };
 
     pub const NO_ROW_OR_COLUMN: Refusal = Refusal {
         number: 19,
         item: 0,
         octet: 0,
+        depth: 0,
     };
 
     pub const NOT_A_CALENDAR: Refusal = Refusal {
         number: 20,
         item: 0,
         octet: 0,
+        depth: 0,
+    };
+    // Of elements, in place of 11; 25 is a subscript too large, with its depth.
+    pub const NOT_AN_ELEMENT: Refusal = Refusal {
+        number: 22,
+        item: 0,
+        octet: 0,
+        depth: 0,
+    };
+
+    pub const BRANCH_NOT_CHOSEN: Refusal = Refusal {
+        number: 23,
+        item: 0,
+        octet: 0,
+        depth: 0,
+    };
+
+    pub const SUBSCRIPT_COUNT: Refusal = Refusal {
+        number: 24,
+        item: 0,
+        octet: 0,
+        depth: 0,
+    };
+
+    pub const NOT_A_NUMBER: Refusal = Refusal {
+        number: 26,
+        item: 0,
+        octet: 0,
+        depth: 0,
     };
     // Of messages.
     pub const NO_ROOM: Refusal = Refusal {
         number: 21,
         item: 0,
         octet: 0,
+        depth: 0,
     };
 
     pub const NOT_A_REPLY: Refusal = Refusal {
         number: 43,
         item: 0,
         octet: 0,
+        depth: 0,
     };
 }
 

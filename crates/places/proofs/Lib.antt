@@ -9,4 +9,5 @@ pub mod Walks
 pub mod Through
 pub mod Surveys
 pub mod Walking
+pub mod Reasons
 pub mod Replies

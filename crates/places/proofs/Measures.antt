@@ -10,11 +10,11 @@ use Rattle.meaning.specs.Basics.{if_then_else_, _=?_}
 use Rattle.meaning.specs.declared.Fields.{Fields}
 use Rattle.meaning.specs.declared.Inner.{Inner}
 use Rattle.meaning.specs.Description.{fieldsAt, nests, isChoice, nested, count}
-use Rattle.meaning.specs.Layout.{Body, done, more, branchesOf, taken, bodyIn, onlyBody, nodeOf, leafOctets, bodyAt}
+use Rattle.meaning.specs.Layout.{Body, done, more, branchesOf, taken, bodyIn, onlyBody, nodeOf, leafOctets, bodyAt, Numbers, value}
 use Rattle.meaning.proofs.Ranges.{fields-range}
 use Rattle.laying.specs.Rows.{row, noRow, firstRow, onward, bodyRow, itemRow}
 use Rattle.laying.specs.Rows as def
-use Rattle.laying.specs.Sizes.{Numbers, value, bodySize, itemSize}
+use Rattle.laying.specs.Sizes.{bodySize, itemSize}
 use Rattle.laying.specs.Sound.{FitBody, FitNode}
 use Rattle.laying.specs.Tree.{innerAt, nodeAt}
 use Rattle.laying.proofs.Arms.{taken-size, taken-row, taken-fit, taken-within}
@@ -26,10 +26,10 @@ use Rattle.places.specs.declared.measure.Sized.{Sized}
 use Rattle.places.specs.declared.measure.Span.{Span}
 use Rattle.places.specs.declared.rows.Row.{Row}
 use Rattle.places.specs.declared.rows.Stands.the-variants.{Nowhere, There}
-use Rattle.places.specs.Measuring.{numbersIn, innerOf, leafSpan, joined, arraySpan, choiceSpan, nodeIn, SpanAs, BodyReady, ItemReady, BodyAs, ItemAs, Going}
+use Rattle.places.specs.Measuring.{numbersIn, innerOf, leafSpan, joined, arraySpan, nodeIn, SpanAs, BodyReady, ItemReady, BodyAs, ItemAs, Going}
 use Rattle.places.specs.Rows.{cut, levels, saying, cutArrays, cutRow, RowAs, alone}
 use Rattle.places.proofs.Numbers.{cut-mul}
-use Rattle.places.proofs.RowLaws.{as-none, as-wider, as-first, as-onward, as-array, over-as}
+use Rattle.places.proofs.RowLaws.{as-none, as-wider, as-first, as-onward, as-array}
 
 -- ONE AFTER ANOTHER
 pub joined-as : (k : ℕ) (a b : Span) (s t : ℕ) (r q : def.Row) → SpanAs k a s r → SpanAs k b t q → SpanAs k (joined a b) (s + t) (firstRow r (onward s q))
@@ -233,7 +233,7 @@ module _ (d numbers : List ℕ) (at k i : ℕ) (ready : ItemReady d numbers at k
           })
 
       -- a choice only the body taken
-      pub choice-measured : isChoice f ≡ true → SpanAs k (choiceSpan (at + 1) (nested f) i b) (itemSize (nodeIn k d at) w) (itemRow (nodeIn k d at) w i)
+      pub choice-measured : isChoice f ≡ true → SpanAs k b (itemSize (nodeIn k d at) w) (itemRow (nodeIn k d at) w i)
       unfolding FitNode itemSize itemRow innerOf
       choice-measured choice =
           let arms = branchesOf d at in
@@ -242,4 +242,4 @@ module _ (d numbers : List ℕ) (at k i : ℕ) (ready : ItemReady d numbers at k
           let fit = taken-fit below at x arms (subst FitNode is (ready .fit)) in
           let m : BodyAs d numbers (at + 1 + taken arms x .skip) (taken arms x .items) (k - 1) i b = rw (choice-no-array f choice) at h in
           rw (is, taken-size below at x arms w, taken-row below at x arms w i, inner-fit d k _ _ fit .1)
-          (record { size-is = m .size-is; row-as = as-first k (b .row) _ _ _ (as-wider (k - 1) k (b .row) _ (omega arith) (m .row-as)) (over-as k at f i) })
+          (record { size-is = m .size-is; row-as = as-wider (k - 1) k (b .row) _ (omega arith) (m .row-as) })

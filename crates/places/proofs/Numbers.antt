@@ -8,9 +8,8 @@ use native.Mathlib.Omega.{arith}
 use lib.Pow.{pow-pos}
 use Rattle.meaning.specs.declared.Fields.{Fields}
 use Rattle.meaning.specs.Description.{refers}
-use Rattle.meaning.specs.Layout.{bitRange}
+use Rattle.meaning.specs.Layout.{bitRange, Numbers, value}
 use Rattle.meaning.specs.Ranges.{FieldsRange}
-use Rattle.laying.specs.Sizes.{Numbers, value}
 use Rattle.places.specs.Rows.{cut}
 
 pub range-few : (x : ℕ) (f : Fields) → FieldsRange f → bitRange x f < 4294967296

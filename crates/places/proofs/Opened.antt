@@ -7,13 +7,13 @@ use borrow.Author.Tests.{ne-eqb}
 use native.Mathlib.Omega.{arith}
 use Rattle.meaning.specs.declared.Inner.{Inner}
 use Rattle.meaning.specs.Description.{itemCount, fieldsAt, isArray, isChoice, nests, nested}
-use Rattle.laying.specs.Sizes.{value}
+use Rattle.meaning.specs.Layout.{value}
 use Rattle.items.specs.declared.Cursor.{Cursor}
 use Rattle.items.specs.declared.Read.{Read}
 use Rattle.items.specs.Read.{readAt}
 use Rattle.items.proofs.ReadLaws.{fields-read, next-read}
 use Rattle.places.specs.declared.measure.Span.{Span}
-use Rattle.places.specs.Measuring.{numbersIn, innerOf, leafSpan, arraySpan, choiceSpan, BodyReady, ItemReady, BodyAs, ItemAs}
+use Rattle.places.specs.Measuring.{numbersIn, innerOf, leafSpan, arraySpan, BodyReady, ItemReady, BodyAs, ItemAs}
 use Rattle.places.specs.Rows.{Few}
 use Rattle.places.proofs.RowLaws.{as-wider}
 use Rattle.places.proofs.Measures.{leaf-measured, deeper, within, inner-ready, array-measured, choice-measured}
@@ -83,9 +83,8 @@ module _ {d numbers : List ℕ} {at k : ℕ} {r : Read} {x : ℕ} {after : Curso
     array-done five s =
         record { span = rw (s, o .says) (array-measured d numbers at k i (o .ready) (e .bodies) b taken-as (rw (o .fields) at five)); next = o .past }
 
-    pub choice-done : {s : Span} → (r .fields .kind ≡ 5 → ⊥) → s ≡ choiceSpan (r .next .at) (nested (r .fields)) i b
-        → ItemAs d numbers at k i (record { span = s; next = after })
-    choice-done other s =
+    pub choice-done : (r .fields .kind ≡ 5 → ⊥) → ItemAs d numbers at k i (record { span = b; next = after })
+    choice-done other =
         let f = fieldsAt d at in
         let choice = either-other (isArray f) (isChoice f) (e .bodies) (ne-eqb (f .kind) 5 (rw (o .fields) at other)) in
-        record { span = rw (s, o .next, o .fields) (choice-measured d numbers at k i (o .ready) (e .bodies) b taken-as choice); next = o .past }
+        record { span = choice-measured d numbers at k i (o .ready) (e .bodies) b taken-as choice; next = o .past }

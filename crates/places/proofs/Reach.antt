@@ -10,13 +10,13 @@ use native.Mathlib.Numerals.{add-one}
 use native.Mathlib.Omega.{arith}
 use Rattle.meaning.specs.Basics.{if_then_else_, _=?_, _<?_, _≤?_}
 use Rattle.meaning.specs.declared.ElementName.{ElementName}
-use Rattle.laying.specs.Rows.{Array, row, notChosen, noRow, Spot, spot, absent, spotIn, rowSpot}
+use Rattle.laying.specs.Rows.{Array, row, noRow, Spot, spot, absent, spotIn, rowSpot}
 use Rattle.laying.specs.Rows as def
 use Rattle.places.specs.declared.rows.Arrays.{Arrays}
 use Rattle.places.specs.declared.rows.Reach.{Reach}
 use Rattle.places.specs.declared.rows.Row.{Row}
 use Rattle.places.specs.declared.rows.Stands.{Stands}
-use Rattle.places.specs.declared.rows.Stands.the-variants.{Nowhere, NotChosen, There}
+use Rattle.places.specs.declared.rows.Stands.the-variants.{Nowhere, There}
 use Rattle.places.specs.Rows.{cut, levels, arraysOf, saying, said, cutArrays, cutRow, Few, RowAs, notReached, reachIn, reachedBy, spotAt, spotFrom, spotBy}
 use Rattle.places.proofs.Numbers.{cut-mul}
 
@@ -98,7 +98,6 @@ reach-in p n (a ∷ rest) (x ∷ xs) small =
 -- by what a row says
 unfoldable saidSpot : def.Row → (subscripts : List ℕ) → Spot
 saidSpot (row p n rest) xs = spotAt (reachIn (cut p) rest xs) n
-saidSpot (notChosen rest) xs = absent
 saidSpot noRow xs = absent
 
 said-spot : (c : Row) (q : ElementName) → Few 4 (c .arrays) → length (q .subscripts) ≡ 4
@@ -109,14 +108,12 @@ said-spot c q few four = go (c .stands) (q .count ≤? 4) refl
     go : (s : Stands) (t : Bool) → q .count ≤? 4 ≡ t
         → spotFrom s (c .arrays) q ≡ (if t then saidSpot (saying s (arraysOf (c .arrays))) (take (q .count) (q .subscripts)) else absent)
     go Nowhere t e = sym (if-same t absent)
-    go NotChosen t e = sym (if-same t absent)
     go (There p n) true e = rw (reached-few p (c .arrays) q few four, e)
     go (There p n) false e = rw (reached-few p (c .arrays) q few four, e)
 
 cut-spot : (r : def.Row) (xs : List ℕ) → InImage (rowSpot r xs) → saidSpot (cutRow r) xs ≡ rowSpot r xs
 unfolding saidSpot cutRow rowSpot
 cut-spot (row p n rest) xs small = let e : cut (cut p) ≡ cut p = omega arith in rw e (reach-in p n rest xs small)
-cut-spot (notChosen rest) xs small = refl
 cut-spot noRow xs small = refl
 
 pub spot-as : (c : Row) (r : def.Row) (q : ElementName) → RowAs 4 c r → length (q .subscripts) ≡ 4

@@ -8,12 +8,14 @@ use lib.ListN.{length, take}
 use native.Mathlib.Omega.{arith}
 use Rattle.meaning.specs.Basics.{if_then_else_, _≤?_}
 use Rattle.meaning.specs.declared.ElementName.{ElementName}
+use Rattle.meaning.specs.declared.Place.{Place}
 use Rattle.meaning.specs.declared.Refusal.{Refusal}
 use Rattle.meaning.specs.declared.Reply.{Reply}
 use Rattle.meaning.specs.declared.Verdict.{Verdict}
+use Rattle.meaning.specs.Causes.{suits, whyNone}
 use Rattle.meaning.specs.Layout.{Placed, Seat, Slots, elementNamed}
 use Rattle.meaning.specs.Numbers.{noTable}
-use Rattle.meaning.specs.Refusals.{Opened, opened, refused, openImage, layoutIn, layoutReply, seatPlace, tablePlaceIn, tablePlaceReply, elementIn, placedPlace, elementPlaceIn, elementPlaceReply}
+use Rattle.meaning.specs.Refusals.{Opened, opened, refused, openImage, layoutIn, layoutReply, seatPlace, tablePlaceIn, tablePlaceReply, elementIn, elementFor, placedPlace, elementPlaceIn}
 use Rattle.laying.specs.Rows.{Spot, spot, absent, rowSpot, rowOf, spotOf}
 use Rattle.laying.specs.Rows as def
 use Rattle.laying.proofs.Among.{every-among, named-among}
@@ -22,14 +24,18 @@ use Rattle.laying.proofs.LaidOut.{elements-end, total-inside}
 use Rattle.laying.proofs.Opened.{Opens, Came, opens, refuses, came, opened-image}
 use Rattle.laying.proofs.Reaches.{row-says}
 use Rattle.laying.proofs.Spots.{further, row-onward}
+use Rattle.offsets.specs.declared.ImageOffset.{ImageOffset}
 use Rattle.offsets.specs.declared.TableStart.{TableStart}
+use Rattle.places.specs.declared.ElementFound.{ElementFound}
+use Rattle.places.specs.declared.ElementFound.the-variants.{Missing, Here}
 use Rattle.places.specs.declared.Ranged.{Ranged}
 use Rattle.places.specs.declared.survey.Answer.{Answer}
 use Rattle.places.specs.declared.survey.Asked.{Asked}
 use Rattle.places.specs.declared.survey.Standing.{Standing}
 use Rattle.places.specs.declared.survey.TableFound.{TableFound}
 use Rattle.places.specs.declared.survey.TableFound.the-variants.{No, Yes}
-use Rattle.places.specs.Opening.{spotPlace, placeBy, refusalOr, foundPlace, rangeOf, rangeIn}
+use Rattle.places.specs.Opening.{spotFound, foundBy, placeOr, refusalOr, foundPlace, rangeOf, rangeIn}
+use Rattle.places.specs.Measuring.{numbersIn}
 use Rattle.places.specs.Rows.{Few}
 use Rattle.places.specs.Surveying.{tableFound, heldIn, StandsAs, AnswerAs}
 use Rattle.places.proofs.Reach.{spot-as}
@@ -44,12 +50,13 @@ seat-place (some t) = refl
 
 -- WHERE AN ELEMENT IS
 -- by what is found of it in the table that starts at p
-found-place : (p : ℕ) (e : Option Placed) (s : Spot) → spotOf e ≡ further p s → ((x : Placed) → e ≡ some x → x .start ≤ 65535) → spotPlace p s ≡ placedPlace e
-unfolding spotPlace placedPlace spotOf further
-found-place p none absent h small = refl
-found-place p none (spot o n) h small = clash (cc)
-found-place p (some x) absent h small = clash (cc)
-found-place p (some x) (spot o n) h small =
+found-place : (why : Refusal) (p : ℕ) (e : Option Placed) (s : Spot) → spotOf e ≡ further p s → ((x : Placed) → e ≡ some x → x .start ≤ 65535)
+    → placeOr why (spotFound p s) ≡ placedPlace why e
+unfolding placeOr spotFound placedPlace spotOf further
+found-place why p none absent h small = refl
+found-place why p none (spot o n) h small = clash (cc)
+found-place why p (some x) absent h small = clash (cc)
+found-place why p (some x) (spot o n) h small =
     let a : x .start ≡ p + o = cc in
     let b : x .size ≡ n = cc in
     let m : min (p + o) 18446744073709551615 ≡ x .start = omega (arith, small x refl) in
@@ -74,9 +81,12 @@ module _ {d img : List ℕ} {ts : List Seat} {es : List Placed} {s : Slots} {n :
         o .allowed,
       )
 
-  element-is : (q : ElementName) (e : Standing) → length (q .subscripts) ≡ 4 → StandsAs e (rowOf d img (q .item)) → placeBy e q ≡ placedPlace (elementIn q es)
-  unfolding elementIn spotPlace placedPlace
-  element-is q e four h = rw (spot-as (e .row) (h .inTable) q (h .row-as) four (spot-early p found (rowSpot (h .inTable) xs) told (early (q .item) xs))) (go (q .count ≤? 4))
+  -- the element of a name, if it suits
+  element-is : (why : Refusal) (b : Bool) (q : ElementName) (e : Standing) → length (q .subscripts) ≡ 4 → StandsAs e (rowOf d img (q .item))
+      → placeOr why (foundBy b e q) ≡ placedPlace why (if b then elementIn q es else none)
+  unfolding elementIn foundBy spotFound placeOr placedPlace
+  element-is why false q e four h = refl
+  element-is why true q e four h = rw (spot-as (e .row) (h .inTable) q (h .row-as) four (spot-early p found (rowSpot (h .inTable) xs) told (early (q .item) xs))) (go (q .count ≤? 4))
     where
       xs : List ℕ
       xs = take (q .count) (q .subscripts)
@@ -90,8 +100,8 @@ module _ {d img : List ℕ} {ts : List Seat} {es : List Placed} {s : Slots} {n :
       told : spotOf found ≡ further p (rowSpot (h .inTable) xs)
       told = row-says d img (o .passes) (o .laid) (q .item) xs ∙ ap (λ (r : def.Row). rowSpot r xs) (h .is) ∙ row-onward p (h .inTable) xs
 
-      go : (b : Bool) → spotPlace p (if b then rowSpot (h .inTable) xs else absent) ≡ placedPlace (if b then found else none)
-      go true = found-place p found (rowSpot (h .inTable) xs) told (early (q .item) xs)
+      go : (b : Bool) → placeOr why (spotFound p (if b then rowSpot (h .inTable) xs else absent)) ≡ placedPlace why (if b then found else none)
+      go true = found-place why p found (rowSpot (h .inTable) xs) told (early (q .item) xs)
       go false = refl
 
 module _ (d img : List ℕ) (q : Asked) (r : Answer) (a : AnswerAs d img q r (openImage d img)) where
@@ -130,15 +140,33 @@ module _ (d img : List ℕ) (q : Asked) (r : Answer) (a : AnswerAs d img q r (op
       go (opened ts es s n) h = h .element .row-as .few
       go (refused y) h = rw h (as-none 4 .few)
 
-  pub element-told : (name : ElementName) → q .item ≡ name .item → length (name .subscripts) ≡ 4 → refusalOr (r .verdict) (placeBy (r .element) name) ≡ elementPlaceReply d img name
-  unfolding elementPlaceReply elementPlaceIn refusalOr
-  element-told name same four = go (came d img)
-    where
-      go : Came d img → refusalOr (r .verdict) (placeBy (r .element) name) ≡ elementPlaceIn name (openImage d img)
-      go (opens ts es s n o) =
-          let h : AnswerAs d img q r (opened ts es s n) = subst (AnswerAs d img q r) (opened-image o) a in
-          rw (opened-image o, h .passed) (element-is o name (r .element) four (rw same at (h .element)))
-      go (refuses y e) = let h : AnswerAs d img q r (refused y) = subst (AnswerAs d img q r) e a in rw (e, h)
+  -- by its item's row, or why there is none
+  module _ (name : ElementName) (number : Bool) (same : q .item ≡ name .item) where
+    element-told : length (name .subscripts) ≡ 4 → refusalOr (r .verdict) (placeOr (whyNone number d (numbersIn (r .numbers)) name) (foundBy (suits number d name) (r .element) name))
+        ≡ elementPlaceIn number d name (openImage d img)
+    unfolding elementPlaceIn elementFor refusalOr
+    element-told four = go (came d img)
+      where
+        go : Came d img → refusalOr (r .verdict) (placeOr (whyNone number d (numbersIn (r .numbers)) name) (foundBy (suits number d name) (r .element) name))
+            ≡ elementPlaceIn number d name (openImage d img)
+        go (opens ts es s n o) =
+            let h : AnswerAs d img q r (opened ts es s n) = subst (AnswerAs d img q r) (opened-image o) a in
+            rw (opened-image o, h .passed, ← h .numbers) (element-is o _ (suits number d name) name (r .element) four (rw same at (h .element)))
+        go (refuses y e) = let h : AnswerAs d img q r (refused y) = subst (AnswerAs d img q r) e a in rw (e, h)
+
+    module _ {suited : Bool} (suiting : suited ≡ suits number d name) {found : ElementFound} (is : (found ≡ foundBy suited (r .element) name) × (length (name .subscripts) ≡ 4)) where
+      pub element-refused : (x : Refusal) → r .verdict ≡ Verdict.Refused x → Place.Refused x ≡ elementPlaceIn number d name (openImage d img)
+      unfolding refusalOr
+      element-refused x e = sym (rw e) ∙ element-told (is .1)
+
+      pub element-here : (s : ImageOffset) (l : ℕ) → r .verdict ≡ Verdict.Passed → found ≡ Here s l → Place.At s l ≡ elementPlaceIn number d name (openImage d img)
+      unfolding refusalOr placeOr
+      element-here s l e h = sym (rw (e, ← suiting, ← is .0, h)) ∙ element-told (is .1)
+
+      pub element-missing : {why : Refusal} → why ≡ whyNone number d (numbersIn (r .numbers)) name → r .verdict ≡ Verdict.Passed → found ≡ Missing
+          → Place.Refused why ≡ elementPlaceIn number d name (openImage d img)
+      unfolding refusalOr placeOr
+      element-missing w e h = sym (rw (e, ← suiting, ← is .0, h, ← w)) ∙ element-told (is .1)
 
   -- THE RANGE
   -- by the table found

@@ -1,21 +1,15 @@
--- Rows as the code has them say the rows of the definitions, cut: of none, of the first of two, further on, inside one ARRAY more, of an item passed over.
--- Assumes nothing.
+-- Rows as the code has them say the rows of the definitions, cut: of none, of the first of two, further on, inside one ARRAY more. Assumes nothing.
 use Prim.Native.Nat.{ℕ, zero, suc, _+_, _<_, _≤_}
 use mathlib.Core.Path.{_≡_, refl, _∙_, ap, ap₂, sym}
-use mathlib.Core.Bool.{Bool, true, false}
 use mathlib.Core.List.{List, [], _∷_}
 use lib.ListN.{getD}
 use native.Mathlib.Numerals.{add-one}
 use native.Mathlib.Omega.{arith}
-use Rattle.meaning.specs.Basics.{if_then_else_}
-use Rattle.meaning.specs.declared.Fields.{Fields}
-use Rattle.meaning.specs.Description.{nested}
-use Rattle.laying.specs.Rows.{row, notChosen, noRow, firstRow, onward, inArray, among, passedOver}
+use Rattle.laying.specs.Rows.{row, noRow, firstRow, onward, inArray}
 use Rattle.laying.specs.Rows as def
 use Rattle.places.specs.declared.rows.Row.{Row}
 use Rattle.places.specs.declared.rows.Stands.{Stands}
-use Rattle.places.specs.declared.rows.Stands.the-variants.{Nowhere, NotChosen, There}
-use Rattle.places.specs.Measuring.{overStands}
+use Rattle.places.specs.declared.rows.Stands.the-variants.{Nowhere, There}
 use Rattle.places.specs.Rows.{cut, levels, saying, said, cutArrays, cutRow, Few, RowAs, alone, firstBy, firstOf, movedBy, onwardBy, withArray}
 
 -- no row
@@ -34,13 +28,11 @@ said-first a b = go (a .stands) refl
   where
     go : (x : Stands) → a .stands ≡ x → said (firstOf a b) ≡ firstRow (said a) (said b)
     go Nowhere e = rw e
-    go NotChosen e = rw e
     go (There p n) e = rw e
 
 cut-first : (r q : def.Row) → cutRow (firstRow r q) ≡ firstRow (cutRow r) (cutRow q)
 unfolding cutRow firstRow
 cut-first (row p n rest) q = refl
-cut-first (notChosen rest) q = refl
 cut-first noRow q = refl
 
 few-first : (k : ℕ) (a b : Row) → Few k (a .arrays) → Few k (b .arrays) → Few k (firstOf a b .arrays)
@@ -49,7 +41,6 @@ few-first k a b h g = go (a .stands)
   where
     go : (x : Stands) → Few k (firstBy x a b .arrays)
     go Nowhere = g
-    go NotChosen = h
     go (There p n) = h
 
 pub as-first : (k : ℕ) (a b : Row) (r q : def.Row) → RowAs k a r → RowAs k b q → RowAs k (firstOf a b) (firstRow r q)
@@ -60,7 +51,6 @@ as-first k a b r q h g =
 -- a row of the definitions, moved and cut
 unfoldable onwardCut : (by : ℕ) → def.Row → def.Row
 onwardCut k (row p n rest) = row (cut (cut k + cut p)) n rest
-onwardCut k (notChosen rest) = notChosen rest
 onwardCut k noRow = noRow
 
 said-onward : (k : ℕ) (c : Row) → said (onwardBy k c) ≡ onwardCut k (said c)
@@ -70,13 +60,11 @@ said-onward k c = go (c .stands)
     go : (x : Stands) → saying (movedBy k x) (levels 0 (c .arrays .depth) (c .arrays .counts) (c .arrays .strides))
         ≡ onwardCut k (saying x (levels 0 (c .arrays .depth) (c .arrays .counts) (c .arrays .strides)))
     go Nowhere = refl
-    go NotChosen = refl
     go (There p n) = refl
 
 cut-onward : (k : ℕ) (r : def.Row) → cutRow (onward k r) ≡ onwardCut (cut k) (cutRow r)
 unfolding cutRow onward onwardCut
 cut-onward k (row p n rest) = let e : cut (k + p) ≡ cut (cut (cut k) + cut (cut p)) = omega arith in rw e
-cut-onward k (notChosen rest) = refl
 cut-onward k noRow = refl
 
 pub as-onward : (k s : ℕ) (c : Row) (r : def.Row) → RowAs k c r → RowAs k (onwardBy (cut s) c) (onward s r)
@@ -101,13 +89,11 @@ said-array c w a h =
     go : (x : Stands) → saying x (record { count = c; stride = w } ∷ levels 0 (a .arrays .depth) (a .arrays .counts) (a .arrays .strides))
         ≡ inArray c w (saying x (levels 0 (a .arrays .depth) (a .arrays .counts) (a .arrays .strides)))
     go Nowhere = refl
-    go NotChosen = refl
     go (There p n) = refl
 
 cut-array : (c w : ℕ) (r : def.Row) → cutRow (inArray c w r) ≡ inArray c (cut w) (cutRow r)
 unfolding cutRow cutArrays inArray
 cut-array c w (row p n rest) = refl
-cut-array c w (notChosen rest) = refl
 cut-array c w noRow = refl
 
 pub as-array : (k m c w : ℕ) (a : Row) (r : def.Row) → k < m → m ≤ 4 → RowAs k a r → RowAs m (withArray c (cut w) a) (inArray c w r)
@@ -117,12 +103,3 @@ as-array k m c w a r l few h =
           ∙ ap (inArray c (cut w)) (h .says) ∙ sym (cut-array c w r);
       few = record { depth = omega (arith, h .few .depth); counts = refl; strides = refl };
     }
-
--- AN ITEM PASSED OVER
-pub over-as : (k at : ℕ) (f : Fields) (i : ℕ) → RowAs k (alone (overStands (at + 1) (nested f) i)) (passedOver at f i)
-unfolding overStands passedOver saying cutRow cutArrays levels
-over-as k at f i = go (among (at + 1) (nested f) i)
-  where
-    go : (b : Bool) → RowAs k (alone (if b then NotChosen else Nowhere)) (if b then notChosen [] else noRow)
-    go true = record { says = refl; few = as-none k .few }
-    go false = as-none k

@@ -16,14 +16,14 @@ use Rattle.meaning.specs.declared.Verdict.{Verdict}
 use Rattle.meaning.specs.Description.{itemCount, fieldsAt, isTable, nested, checkReply}
 use Rattle.meaning.specs.Passed.{Passes}
 use Rattle.meaning.specs.Layout.{Body, Tables, noMore, table, tableAt, tablesOf, treeOf, bodyAt, Slots, unread, Placed, fault, short, Laid, laid, stopped, layBody}
-use Rattle.meaning.specs.Layout.{Seat, Layout, laidOut, stoppedAt, before, seated, layTables, layOut, tableNamed}
+use Rattle.meaning.specs.Layout.{Seat, Layout, laidOut, stoppedAt, before, seated, layTables, layOut, tableNamed, numberOf}
 use Rattle.meaning.specs.Numbers.{imageShort, imageTooLong, noTable}
 use Rattle.meaning.specs.Refusals.{refused, stopRefusal, openLaid, openSound, openImage, anyDimension}
 use Rattle.meaning.proofs.Passed.{passed-laws}
 use Rattle.laying.specs.Every.{Every}
-use Rattle.laying.specs.Rows.{Array, row, notChosen, noRow, firstRow, onward, rowAfter, walkBody, walkTables, rowOf}
+use Rattle.laying.specs.Rows.{Array, row, noRow, firstRow, onward, rowAfter, walkBody, walkTables, rowOf}
 use Rattle.laying.specs.Rows as def
-use Rattle.laying.specs.Slots.{numberOf, octetsOf, Matches}
+use Rattle.laying.specs.Slots.{octetsOf, Matches}
 use Rattle.laying.specs.Sound.{Known, noneKnown, SoundBody, SoundTables, afterBody}
 use Rattle.laying.proofs.Among.{every-among, seat-among}
 use Rattle.laying.proofs.Cover.{Lies, consecutive-fill}
@@ -37,7 +37,7 @@ use Rattle.laying.proofs.Tops.{passed-sound, fit-body, table-one}
 use Rattle.laying.proofs.Rows.{first-none-right, first-assoc}
 use Rattle.places.specs.declared.rows.Row.{Row}
 use Rattle.places.specs.declared.rows.Stands.{Stands}
-use Rattle.places.specs.declared.rows.Stands.the-variants.{Nowhere, NotChosen, There}
+use Rattle.places.specs.declared.rows.Stands.the-variants.{Nowhere, There}
 use Rattle.places.specs.declared.survey.Answer.{Answer}
 use Rattle.places.specs.declared.survey.Asked.{Asked}
 use Rattle.places.specs.declared.survey.Standing.{Standing}
@@ -95,15 +95,12 @@ seat-more n ts h i p l = rw (named-more _ _ ts (seatOf h i p l)) (go (tableNamed
 said-none : (L : List def.Array) (r : def.Row) → saying Nowhere L ≡ cutRow r → r ≡ noRow
 unfolding saying cutRow
 said-none L (row p n rest) e = clash (cc)
-said-none L (notChosen rest) e = clash (cc)
 said-none L noRow e = refl
 
 said-some : (p : ℕ) (x : Stands) (L : List def.Array) (r q : def.Row) → saying x L ≡ cutRow r → (x ≡ Nowhere → ⊥) → firstRow (onward p r) q ≡ onward p r
 unfolding saying cutRow firstRow onward
 said-some p x L (row o n rest) q e other = refl
-said-some p x L (notChosen rest) q e other = refl
 said-some p Nowhere L noRow q e other = absurd (other refl)
-said-some p NotChosen L noRow q e other = clash (cc)
 said-some p (There o n) L noRow q e other = clash (cc)
 
 -- which of two rows stands
@@ -119,7 +116,6 @@ standing-first a b r q h g = go (a .row .stands) (h .row-as .says)
 
     go : (x : Stands) → saying x L ≡ cutRow (h .inTable) → StandsAs (firstBy x a b) (firstRow r q)
     go Nowhere e = record { inTable = g .inTable; is = rw (h .is, said-none L (h .inTable) e) (g .is); row-as = g .row-as; early = g .early }
-    go NotChosen e = stays NotChosen e (λ z. clash (cc))
     go (There p n) e = stays (There p n) e (λ z. clash (cc))
 
 -- OCTETS OF DIMENSIONS. n octets from offset o on of the table of that name, among tables and elements that end by p; then a table from p to x, with elements ps
@@ -432,7 +428,7 @@ module _ (d img : List ℕ) (q : Asked) (s : Survey) (ready : TableReady d img q
 
 -- AT THE END
 pub laid-all : (d img : List ℕ) (q : Asked) (s : Survey) → Surveyed d img q s → itemCount d ≤ s .next .at → (total : ℕ) → total ≡ s .start .0
-    → AnswerAs d img q (record { verdict = Verdict.Passed; total = total; first = s .first; second = s .second; element = s .element; held = s .held }) (openLaid (layOut d img))
+    → AnswerAs d img q (record { verdict = Verdict.Passed; total = total; numbers = s .numbers; first = s .first; second = s .second; element = s .element; held = s .held }) (openLaid (layOut d img))
 unfolding layTables walkTables beforeAll openLaid
 laid-all d img q s g le total e =
     let z : itemCount d - s .next .at ≡ 0 = omega arith in
@@ -441,7 +437,7 @@ laid-all d img q s g le total e =
     ∙ ap (λ (x : Tables). beforeAll (g .seats) (g .elements) (layTables x img (g .slots) (s .start .0))) none
     ∙ ap₂ (λ (a : List Seat) (b : List Placed). laidOut a b (g .slots) (s .start .0)) (append-nil (g .seats)) (append-nil (g .elements)) in
     let rows : g .row ≡ rowOf d img (q .item) = sym (g .rows ∙ ap (λ (x : Tables). firstRow (g .row) (walkTables x img (g .slots) (s .start .0) (q .item))) none ∙ first-none-right (g .row)) in
-    rw w (record { passed = refl; total = e; first = g .first; second = g .second; element = subst (StandsAs (s .element)) rows (g .element); held = g .held })
+    rw w (record { passed = refl; total = e; numbers = g .numbers; first = g .first; second = g .second; element = subst (StandsAs (s .element)) rows (g .element); held = g .held })
 
 -- 1 TO 9 COME FIRST
 module _ (d img : List ℕ) (q : Asked) (r : Answer) where

@@ -9,7 +9,7 @@ use borrow.Author.Tests.{ne-eqb}
 use native.Mathlib.Omega.{arith}
 use Rattle.meaning.specs.declared.Inner.{Inner}
 use Rattle.meaning.specs.Description.{fieldsAt, isChoice, nests, nested}
-use Rattle.meaning.specs.Layout.{branchesIn, branchesOf, taken, leafOctets, numberAt}
+use Rattle.meaning.specs.Layout.{branchesIn, branchesOf, taken, leafOctets, numberAt, value}
 use Rattle.meaning.specs.Ranges.{FieldsRange}
 use Rattle.meaning.proofs.Ranges.{fields-range}
 use Rattle.items.specs.declared.Cursor.{Cursor}
@@ -17,21 +17,19 @@ use Rattle.items.specs.declared.Read.{Read}
 use Rattle.items.specs.Read.{readAt}
 use Rattle.laying.specs.Rows.{itemRow}
 use Rattle.laying.specs.Rows as def
-use Rattle.laying.specs.Sizes.{value, itemSize}
+use Rattle.laying.specs.Sizes.{itemSize}
 use Rattle.laying.proofs.Nodes.{choice-no-array}
 use Rattle.places.specs.declared.measure.Sized.{Sized}
 use Rattle.places.specs.declared.measure.Span.{Span}
-use Rattle.places.specs.declared.rows.Row.{Row}
 use Rattle.places.specs.declared.walk.Aim.{Aim}
 use Rattle.places.specs.declared.walk.Walk.{Walk}
-use Rattle.places.specs.Measuring.{numbersIn, nodeIn, innerOf, overStands, leafSpan, SpanAs, ItemAs}
-use Rattle.places.specs.Rows.{alone}
-use Rattle.places.specs.Walking.{noted, StepReady, stepOf, elsewhere, pastChoice, WalkBodyReady, WalkItemReady, WalksItem, WalksBody}
+use Rattle.places.specs.Measuring.{numbersIn, nodeIn, innerOf, leafSpan, SpanAs, ItemAs}
+use Rattle.places.specs.Walking.{noted, StepReady, stepOf, elsewhere, WalkBodyReady, WalkItemReady, WalksItem, WalksBody}
 use Rattle.places.proofs.Measures.{leaf-measured}
 use Rattle.places.proofs.Opened.{Opened, opened, Entered, entered, body-ready}
 use Rattle.places.proofs.Pieces.{step-case}
 use Rattle.places.proofs.RowLaws.{as-wider}
-use Rattle.places.proofs.Walks.{Comes, leaf-comes, array-comes, choice-short, choice-comes}
+use Rattle.places.proofs.Walks.{Comes, leaf-comes, array-comes, choice-inside, choice-comes}
 
 -- the walk is ready for it; it is read, its reference's value is x, and the place past it is `after`
 pub record Here (d img : List ℕ) (a : Aim) (w : Walk) (k : ℕ) (r : Read) (x : ℕ) (after : Cursor) : Type 0 where
@@ -173,13 +171,12 @@ module _ {d img : List ℕ} {a : Aim} {w : Walk} {k : ℕ} {r : Read} {x : ℕ} 
         record {
           walked = b .walked;
           moved = λ z. absurd (true≢false (sym e ∙ z));
-          ends = choice-short d img a w k after (h .ready) (g .choice) from inner starts walked e;
+          ends = choice-inside d img a w k after (h .ready) (g .choice) from inner starts walked;
         }
 
-    pub choice-walks : {over : Row} {y : Walk} → inner .short ≡ false → over ≡ alone (overStands (r .next .at) (nested (r .fields)) (a .wanted))
-        → y ≡ pastChoice inner over after → WalksItem d img a w k y
-    choice-walks e v y =
-        rw (y, v, h .item .fields, h .item .next)
+    pub choice-walks : {y : Walk} → inner .short ≡ false → y ≡ elsewhere inner after → WalksItem d img a w k y
+    choice-walks e y =
+        rw y
         (record {
           walked = record { inside = b .walked .inside; slots = b .walked .slots };
           moved = λ z. h .item .past;

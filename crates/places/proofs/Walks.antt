@@ -1,6 +1,6 @@
 -- The walk over a table goes as laying out does: over a piece, through the body that a choice takes, and from item to item of a body. Assumes nothing.
 use Prim.Native.Nat.{ℕ, zero, suc, _+_, _-_, _<_, _≤_, min, max}
-use mathlib.Core.Path.{_≡_, refl, _∙_, ap, ap₂, sym, subst, fun-ext}
+use mathlib.Core.Path.{_≡_, refl, _∙_, ap, sym, subst, fun-ext}
 use mathlib.Core.Bool.{Bool, true, false, cond, _&&_, _||_, true≢false}
 use mathlib.Core.List.{List, [], _∷_}
 use lib.Dec.{eqb, ltb}
@@ -13,14 +13,13 @@ use Rattle.meaning.specs.declared.Fields.{Fields}
 use Rattle.meaning.specs.declared.Inner.{Inner}
 use Rattle.meaning.specs.Description.{fieldsAt, isChoice, nests, nested}
 use Rattle.meaning.specs.Layout.{Node, branchesOf, taken, bodyIn, bodyAt, Slots, holds, setSlot, numberAt, Placed, fault, short}
-use Rattle.meaning.specs.Layout.{Laid, laid, stopped, inImage, placed, layBody, layNode}
+use Rattle.meaning.specs.Layout.{Laid, laid, stopped, inImage, placed, layBody, layNode, Numbers, value, numberOf, slotNumbers}
 use Rattle.meaning.specs.Refusals.{anyDimension}
 use Rattle.items.specs.declared.Cursor.{Cursor}
 use Rattle.laying.specs.Every.{Every}
-use Rattle.laying.specs.Rows.{firstRow, onward, inArray, passedOver, bodyRow, itemRow, walkBody, walkNode, rowSpot}
+use Rattle.laying.specs.Rows.{onward, inArray, bodyRow, itemRow, walkNode, rowSpot}
 use Rattle.laying.specs.Rows as def
-use Rattle.laying.specs.Sizes.{Numbers, value, bodySize, itemSize}
-use Rattle.laying.specs.Slots.{numberOf, numbersOf}
+use Rattle.laying.specs.Sizes.{bodySize, itemSize}
 use Rattle.laying.specs.Sound.{Known, FitNode, SoundNode}
 use Rattle.laying.specs.Tree.{innerAt}
 use Rattle.meaning.proofs.Ranges.{fields-range}
@@ -28,22 +27,21 @@ use Rattle.places.proofs.Held.{holds-one}
 use Rattle.laying.proofs.Arms.{taken-lay, taken-walk, taken-fit, taken-sound}
 use Rattle.laying.proofs.Nodes.{leaf-is, array-is, choice-is}
 use Rattle.laying.proofs.Rising.{RisesNode, rises-at}
-use Rattle.laying.proofs.Rows.{first-assoc, onward-first, onward-twice, over-still}
+use Rattle.laying.proofs.Rows.{onward-twice}
 use Rattle.laying.proofs.Whole.{Spots, Whole, w-array, w-body, value-is}
 use Rattle.places.specs.declared.measure.Span.{Span}
-use Rattle.places.specs.declared.rows.Row.{Row}
 use Rattle.places.specs.declared.walk.Aim.{Aim}
 use Rattle.places.specs.declared.walk.Walk.{Walk}
-use Rattle.places.specs.Measuring.{numbersIn, overStands, nodeIn, SpanAs}
-use Rattle.places.specs.Rows.{cut, RowAs, alone, onwardBy}
-use Rattle.places.specs.Walking.{dimensionAt, noted, place, stepOf, elsewhere, pastChoice, Ends, From, WalkItemReady, WalksBody}
+use Rattle.places.specs.Measuring.{numbersIn, nodeIn, SpanAs}
+use Rattle.places.specs.Rows.{cut, RowAs, onwardBy}
+use Rattle.places.specs.Walking.{dimensionAt, noted, place, stepOf, elsewhere, Ends, From, WalkItemReady, WalksBody}
 use Rattle.places.proofs.Measures.{inner-fit}
 use Rattle.places.proofs.Pieces.{step-case}
-use Rattle.places.proofs.RowLaws.{as-first, as-onward, over-as}
+use Rattle.places.proofs.RowLaws.{as-first, as-onward}
 
 -- THE NUMBERS OF THE SLOTS after a dimension
-pub noted-numbers : (img numbers : List ℕ) (s : Slots) (k p n : ℕ) → k < length numbers → numbersOf s ≡ numbersIn numbers
-    → numbersOf (setSlot k (holds n (numberAt img p n)) s) ≡ numbersIn (noted img numbers k p n)
+pub noted-numbers : (img numbers : List ℕ) (s : Slots) (k p n : ℕ) → k < length numbers → slotNumbers s ≡ numbersIn numbers
+    → slotNumbers (setSlot k (holds n (numberAt img p n)) s) ≡ numbersIn (noted img numbers k p n)
 unfolding noted setSlot numberOf
 noted-numbers img numbers s zero p n h e = e
 noted-numbers img numbers s (suc k) p n h e =
@@ -70,7 +68,7 @@ shifted b k q m p n = ap (λ (x : Bool). 0 <? k && x) (go (ltb (max p q) (min (p
 module _ (img : List ℕ) (a : Aim) (w : Walk) (piece : Span) (k : ℕ) (next : Cursor) (n : ℕ) (r before : def.Row)
     (small : length img ≤ 65535) (inside : place a w ≤ length img) (said : SpanAs 4 piece n r) (found : RowAs 4 (w .row) before) where
   -- ends inside the image as laying out says, or is short there
-  pub piece-ends : (j : ℕ) (ps : List Placed) (t : Slots) → w .next .at ≡ j → numbersOf t ≡ numbersIn (noted img (w .numbers) k (place a w) n)
+  pub piece-ends : (j : ℕ) (ps : List Placed) (t : Slots) → w .next .at ≡ j → slotNumbers t ≡ numbersIn (noted img (w .numbers) k (place a w) n)
       → ((x m : ℕ) → anyDimension ps x m ≡ dimensionAt k (place a w) n x m)
       → Ends a before (w .held) (stepOf img a w piece k next) (onward (place a w) r) (inImage false (length img) j (place a w) (laid ps t (place a w + n)))
   unfolding inImage
@@ -102,31 +100,12 @@ unfolding anyDimension Every
 unset-free [] p n h = refl
 unset-free (e ∷ es) p n h = rw (h .0) (unset-free es p n (h .1))
 
--- A CHOICE'S BODY
-module _ (a : Aim) (before : def.Row) (held : Bool) (r : Walk) (R : def.Row) where
-  -- a walk that is short tells no row
-  short-ends : (Q : def.Row) (o : Laid) → r .short ≡ true → Ends a before held r R o → Ends a before held r Q o
-  short-ends Q (laid ps s q) e h = absurd (true≢false (sym e ∙ h .going))
-  short-ends Q (stopped ps (fault x i)) e h = tt
-  short-ends Q (stopped ps (short i p)) e h = h
-
-  -- one that isn't goes on past what the choice passes over
-  over-ends : (over : def.Row) (c : Row) (next : Cursor) (o : Laid) → r .short ≡ false → RowAs 4 c over → ((k : ℕ) → onward k over ≡ over) → Ends a before held r R o
-      → Ends a before held (pastChoice r c next) (firstRow R over) o
-  over-ends over c next (laid ps s q) e found still h =
-      record {
-        going = e;
-        here = h .here;
-        numbers = h .numbers;
-        holds = h .holds;
-        rowIs = record {
-          inTable = firstRow (h .rowIs .inTable) over;
-          is = ap₂ firstRow (h .rowIs .is) (sym (still (a .start .0))) ∙ sym (onward-first (a .start .0) (h .rowIs .inTable) over);
-          row-as = rw (← first-assoc before (h .rowIs .inTable) over) (as-first 4 (r .row) c _ over (h .rowIs .row-as) found);
-        };
-      }
-  over-ends over c next (stopped ps (fault x i)) e found still h = tt
-  over-ends over c next (stopped ps (short i p)) e found still h = absurd (true≢false (sym (h .0) ∙ e))
+-- PAST A CHOICE, a walk through its body that isn't short goes on
+past-ends : (a : Aim) (before : def.Row) (held : Bool) (r : Walk) (R : def.Row) (next : Cursor) (o : Laid) → r .short ≡ false → Ends a before held r R o
+    → Ends a before held (elsewhere r next) R o
+past-ends a before held r R next (laid ps s q) e h = record { going = e; here = h .here; numbers = h .numbers; holds = h .holds; rowIs = h .rowIs }
+past-ends a before held r R next (stopped ps (fault x i)) e h = tt
+past-ends a before held r R next (stopped ps (short i p)) e h = absurd (true≢false (sym (h .0) ∙ e))
 
 -- ITEMS, at a walk's place
 module _ (d img : List ℕ) (a : Aim) (w : Walk) (depth : ℕ) (next : Cursor) (ready : WalkItemReady d img a w depth) where
@@ -157,7 +136,7 @@ module _ (d img : List ℕ) (a : Aim) (w : Walk) (depth : ℕ) (next : Cursor) (
       (λ x m. holds-one x m _))
 
   -- what is laid whole and sets no slot
-  whole-ends : (piece : Span) (s : Slots) (before : def.Row) → numbersOf s ≡ numbersIn (w .numbers) → RowAs 4 (w .row) before → (n : ℕ) (r : def.Row) (g : Spots) (o : Laid)
+  whole-ends : (piece : Span) (s : Slots) (before : def.Row) → slotNumbers s ≡ numbersIn (w .numbers) → RowAs 4 (w .row) before → (n : ℕ) (r : def.Row) (g : Spots) (o : Laid)
       → SpanAs 4 piece n r → Whole s (place a w) n g o
       → Ends a before (w .held) (stepOf img a w piece 0 next) (onward (place a w) r) (inImage false (length img) at (place a w) o)
   unfolding noted dimensionAt
@@ -174,7 +153,7 @@ module _ (d img : List ℕ) (a : Aim) (w : Walk) (depth : ℕ) (next : Cursor) (
       let is = array-is (innerAt depth d) d at (nested f) five (ready .fit) in
       let h = subst (SoundNode free κ) is sound in
       let m = from .matches in
-      let v = numbersOf s in
+      let v = slotNumbers s in
       let body = innerAt depth d (at + 1 + 0) (f .first) in
       rw (is, value-is s κ f at _ m (h .0))
       (whole-ends piece s before (from .numbers) (from .row-as) _ _ (λ j xs. rowSpot (inArray (value v f) (bodySize body v) (bodyRow body v j)) xs) _
@@ -186,11 +165,6 @@ module _ (d img : List ℕ) (a : Aim) (w : Walk) (depth : ℕ) (next : Cursor) (
       rises = rises-at d depth 0 at (nested f) at (at + 1 + nested f) (omega (arith, ready .ready .deep)) (omega (arith, ready .there))
 
   -- A CHOICE, by the body that it takes
-  record ByBody (inner : Walk) (s : Slots) (before : def.Row) (t : Node) : Type 0 where
-    row : def.Row
-    ends : Ends a before (w .held) inner row (layNode t img false s (place a w))
-    is : walkNode t img s (place a w) (a .wanted) ≡ firstRow row (passedOver at f (a .wanted))
-
   module _ (choice : isChoice f ≡ true) (from : Cursor) (inner : Walk) where
     abbrev x : ℕ
     x = value (numbersIn (w .numbers)) f
@@ -199,9 +173,9 @@ module _ (d img : List ℕ) (a : Aim) (w : Walk) (depth : ℕ) (next : Cursor) (
     c = taken (branchesOf d at) x
 
     module _ (starts : from .at ≡ at + 1 + c .skip) (h : WalksBody d img a (elsewhere w from) (c .items) (depth - 1) inner) where
-      choice-ends : (s : Slots) (κ : Known) (free : Bool) (before : def.Row) → From s κ w before → SoundNode free κ t → ByBody inner s before t
+      pub choice-inside : Comes inner
       unfolding FitNode SoundNode walkNode layNode
-      choice-ends s κ free before fr sound =
+      choice-inside s κ free before fr sound =
           let arms = branchesOf d at in
           let below = innerAt depth d in
           let body = bodyAt (depth - 1) d (at + 1 + c .skip) (c .items) in
@@ -211,21 +185,11 @@ module _ (d img : List ℕ) (a : Aim) (w : Walk) (depth : ℕ) (next : Cursor) (
           let v = ap (λ (v : Numbers). value v f) (fr .numbers) in
           let ends = h .ends s κ false before (record { numbers = fr .numbers; matches = fr .matches; row-as = fr .row-as })
           (rw (starts, ← is) (taken-sound below at x κ arms (h′ .1))) in
-          rw node
-          (record {
-            row = walkBody body img s (place a w) (a .wanted);
-            ends = rw (value-is s κ f at _ (fr .matches) (h′ .0), v, taken-lay below at x arms img false s (place a w), is) (rw starts at ends);
-            is = rw (v, taken-walk below at x arms img s (place a w) (a .wanted), is);
-          })
+          let y = value (slotNumbers s) f in
+          rw (node, taken-walk below at y arms img s (place a w) (a .wanted), value-is s κ f at _ (fr .matches) (h′ .0), taken-lay below at y arms img false s (place a w), v, is)
+          (rw starts at ends)
 
-      pub choice-short : inner .short ≡ true → Comes inner
-      choice-short e s κ free before fr sound =
-          let g = choice-ends s κ free before fr sound in
-          short-ends a before (w .held) inner (g .row) _ (layNode t img false s (place a w)) e (g .ends)
-
-      pub choice-comes : inner .short ≡ false → Comes (pastChoice inner (alone (overStands (at + 1) (nested f) (a .wanted))) next)
+      pub choice-comes : inner .short ≡ false → Comes (elsewhere inner next)
       choice-comes e s κ free before fr sound =
-          let g = choice-ends s κ free before fr sound in
-          rw (g .is)
-          (over-ends a before (w .held) inner (g .row) _ _ next (layNode t img false s (place a w)) e (over-as 4 at f (a .wanted))
-          (λ k. over-still k at f (a .wanted)) (g .ends))
+          past-ends a before (w .held) inner (walkNode t img s (place a w) (a .wanted)) next (layNode t img false s (place a w)) e
+          (choice-inside s κ free before fr sound)

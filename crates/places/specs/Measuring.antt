@@ -7,16 +7,15 @@ use Rattle.meaning.specs.Basics.{if_then_else_, _=?_}
 use Rattle.meaning.specs.declared.Fields.{Fields}
 use Rattle.meaning.specs.declared.Inner.{Inner}
 use Rattle.meaning.specs.Description.{itemCount, fieldsAt, isArray, nested}
-use Rattle.meaning.specs.Layout.{Node, branchesIn, taken, onlyBody, leafOctets, bodyAt}
-use Rattle.laying.specs.Rows.{firstRow, onward, among, bodyRow, itemRow}
+use Rattle.meaning.specs.Layout.{Node, branchesIn, taken, onlyBody, leafOctets, bodyAt, Numbers}
+use Rattle.laying.specs.Rows.{firstRow, onward, bodyRow, itemRow}
 use Rattle.laying.specs.Rows as def
-use Rattle.laying.specs.Sizes.{Numbers, bodySize, itemSize}
+use Rattle.laying.specs.Sizes.{bodySize, itemSize}
 use Rattle.laying.specs.Sound.{FitBody, FitNode}
 use Rattle.laying.specs.Tree.{nodeAt}
 use Rattle.places.specs.declared.measure.Sized.{Sized}
 use Rattle.places.specs.declared.measure.Span.{Span}
-use Rattle.places.specs.declared.rows.Stands.{Stands}
-use Rattle.places.specs.declared.rows.Stands.the-variants.{Nowhere, NotChosen, There}
+use Rattle.places.specs.declared.rows.Stands.the-variants.{Nowhere, There}
 use Rattle.places.specs.Rows.{cut, RowAs, alone, firstOf, onwardBy, withArray}
 
 -- the numbers of the slots, as the code has them
@@ -27,10 +26,6 @@ numbersIn l = λ k. getD l k 0
 unfoldable pub innerOf : (description : List ℕ) → Fields → (first value : ℕ) → Inner
 innerOf d f first x = if isArray f then onlyBody f else taken (branchesIn d f first) x
 
--- an item that stands among the n items of a choice, from `at` on, but isn't found in the body taken
-unfoldable pub overStands : (at n i : ℕ) → Stands
-overStands at n i = if among at n i then NotChosen else Nowhere
-
 unfoldable pub leafSpan : Fields → (value at i : ℕ) → Span
 leafSpan f x at i = record { size = cut (leafOctets f x); row = alone (if at =? i then There 0 (leafOctets f x) else Nowhere) }
 
@@ -39,9 +34,6 @@ joined a b = record { size = cut (a .size + b .size); row = firstOf (a .row) (on
 
 abbrev pub arraySpan : (count : ℕ) → Span → Span
 arraySpan c b = record { size = cut (c * b .size); row = withArray c (b .size) (b .row) }
-
-abbrev pub choiceSpan : (at n i : ℕ) → Span → Span
-choiceSpan at n i b = record { size = b .size; row = firstOf (b .row) (alone (overStands at n i)) }
 
 -- a size and a row, cut
 pub record SpanAs (k : ℕ) (r : Span) (size : ℕ) (row : def.Row) : Type 0 where

@@ -1,15 +1,20 @@
 -- WHAT THE PUBLIC CALLS TELL of an image that is opened. Assumes nothing.
 use Prim.Native.Nat.{ℕ, _+_, min}
+use mathlib.Core.Bool.{Bool}
 use mathlib.Core.List.{List}
 use mathlib.Core.Option.{Option, some, none}
+use Rattle.meaning.specs.Basics.{if_then_else_}
 use Rattle.meaning.specs.declared.ElementName.{ElementName}
 use Rattle.meaning.specs.declared.Place.{Place}
+use Rattle.meaning.specs.declared.Refusal.{Refusal}
 use Rattle.meaning.specs.declared.Verdict.{Verdict}
 use Rattle.meaning.specs.Layout.{Seat, Placed, tableNamed}
-use Rattle.meaning.specs.Numbers.{noTable, noElement}
+use Rattle.meaning.specs.Numbers.{noTable}
 use Rattle.meaning.specs.Refusals.{Opened, opened, refused}
 use Rattle.laying.specs.Rows.{Spot, spot, absent}
 use Rattle.offsets.specs.declared.TableOffset.{TableOffset}
+use Rattle.places.specs.declared.ElementFound.{ElementFound}
+use Rattle.places.specs.declared.ElementFound.the-variants.{Missing, Here}
 use Rattle.places.specs.declared.Ranged.{Ranged}
 use Rattle.places.specs.declared.survey.Asked.{Asked}
 use Rattle.places.specs.declared.survey.Standing.{Standing}
@@ -29,13 +34,19 @@ nothingAsked = record {
 }
 
 -- WHERE AN ELEMENT IS, by its item's row
--- a spot of the table that starts at p; a sum that can't be counted stands at the last number
-unfoldable pub spotPlace : (p : ℕ) → Spot → Place
-spotPlace p (spot o n) = Place.At (record { 0 = min (p + o) 18446744073709551615 }) n
-spotPlace p absent = Place.Refused noElement
+-- found at a spot of the table that starts at p; a sum that can't be counted stands at the last number
+unfoldable pub spotFound : (p : ℕ) → Spot → ElementFound
+spotFound p (spot o n) = Here (record { 0 = min (p + o) 18446744073709551615 }) n
+spotFound p absent = Missing
 
-abbrev pub placeBy : Standing → ElementName → Place
-placeBy e q = spotPlace (e .start .0) (spotBy (e .row) q)
+-- if it suits what is asked
+unfoldable pub foundBy : (suits : Bool) → Standing → ElementName → ElementFound
+foundBy b e q = if b then spotFound (e .start .0) (spotBy (e .row) q) else Missing
+
+-- its place, or why there is none
+unfoldable pub placeOr : (why : Refusal) → ElementFound → Place
+placeOr why (Here p n) = Place.At p n
+placeOr why Missing = Place.Refused why
 
 -- WHERE A TABLE IS
 -- the verdict's refusal, or else the place given

@@ -4,7 +4,7 @@ use mathlib.Core.Path.{_≡_}
 use mathlib.Core.Bool.{true, false}
 use mathlib.Core.List.{List, [], _∷_}
 use lib.ListN.{length, getD, replicate, take}
-use Rattle.laying.specs.Rows.{Array, row, notChosen, noRow, Spot, spot, absent}
+use Rattle.laying.specs.Rows.{Array, row, noRow, Spot, spot, absent}
 use Rattle.laying.specs.Rows as def
 use Rattle.places.specs.declared.rows.Arrays.{Arrays}
 use Rattle.meaning.specs.Basics.{if_then_else_, _=?_, _<?_}
@@ -12,7 +12,7 @@ use Rattle.meaning.specs.declared.ElementName.{ElementName}
 use Rattle.places.specs.declared.rows.Reach.{Reach}
 use Rattle.places.specs.declared.rows.Row.{Row}
 use Rattle.places.specs.declared.rows.Stands.{Stands}
-use Rattle.places.specs.declared.rows.Stands.the-variants.{Nowhere, NotChosen, There}
+use Rattle.places.specs.declared.rows.Stands.the-variants.{Nowhere, There}
 
 -- a size, cut past every image
 abbrev pub cut : ℕ → ℕ
@@ -29,7 +29,6 @@ arraysOf a = levels 0 (a .depth) (a .counts) (a .strides)
 -- what a row of the code says
 unfoldable pub saying : Stands → List Array → def.Row
 saying Nowhere rest = noRow
-saying NotChosen rest = notChosen rest
 saying (There p n) rest = row p n rest
 
 abbrev pub said : Row → def.Row
@@ -42,7 +41,6 @@ cutArrays (a ∷ rest) = record { count = a .count; stride = cut (a .stride) } �
 
 unfoldable pub cutRow : def.Row → def.Row
 cutRow (row p n rest) = row (cut p) n (cutArrays rest)
-cutRow (notChosen rest) = notChosen (cutArrays rest)
 cutRow noRow = noRow
 
 -- at most so many ARRAYs, in four places
@@ -62,7 +60,6 @@ alone x = record { stands = x; arrays = record { depth = 0; counts = replicate 4
 
 unfoldable pub firstBy : {A : Type 0} → Stands → A → A → A
 firstBy Nowhere a b = b
-firstBy NotChosen a b = a
 firstBy (There p n) a b = a
 
 abbrev pub firstOf : Row → Row → Row
@@ -70,7 +67,6 @@ firstOf a b = firstBy (a .stands) a b
 
 unfoldable pub movedBy : (by : ℕ) → Stands → Stands
 movedBy k Nowhere = Nowhere
-movedBy k NotChosen = NotChosen
 movedBy k (There p n) = There (cut (cut k + cut p)) n
 
 abbrev pub onwardBy : (by : ℕ) → Row → Row
@@ -105,7 +101,6 @@ spotAt r n = if r .found then spot (r .octet) n else absent
 
 unfoldable pub spotFrom : Stands → Arrays → ElementName → Spot
 spotFrom Nowhere a q = absent
-spotFrom NotChosen a q = absent
 spotFrom (There p n) a q = spotAt (reachedBy p a q) n
 
 unfoldable pub spotBy : Row → ElementName → Spot

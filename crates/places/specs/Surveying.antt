@@ -4,20 +4,20 @@ use mathlib.Core.Path.{_≡_}
 use mathlib.Core.Bool.{Bool, false, _&&_}
 use mathlib.Core.List.{List, _++_}
 use mathlib.Core.Option.{Option, some, none}
-use lib.ListN.{length}
+use lib.ListN.{length, replicate}
 use Rattle.meaning.specs.Basics.{if_then_else_, _=?_, _≤?_}
 use Rattle.meaning.specs.declared.Fields.{Fields}
 use Rattle.meaning.specs.declared.Refusal.{Refusal}
 use Rattle.meaning.specs.declared.Verdict.{Verdict}
 use Rattle.meaning.specs.Description.{itemCount}
 use Rattle.meaning.specs.Passed.{Passes}
-use Rattle.meaning.specs.Layout.{Placed, Seat, Slots, Layout, laidOut, stoppedAt, layTables, layOut, tablesOf, tableNamed}
+use Rattle.meaning.specs.Layout.{Placed, Seat, Slots, Layout, laidOut, stoppedAt, layTables, layOut, tablesOf, tableNamed, slotNumbers}
 use Rattle.meaning.specs.Numbers.{imageShort}
 use Rattle.meaning.specs.Refusals.{Opened, opened, refused, openLaid, anyDimension}
 use Rattle.laying.specs.Every.{Every}
 use Rattle.laying.specs.Rows.{firstRow, onward, walkTables, rowOf}
 use Rattle.laying.specs.Rows as def
-use Rattle.laying.specs.Slots.{numbersOf, Matches}
+use Rattle.laying.specs.Slots.{Matches}
 use Rattle.laying.specs.Sound.{Known, SoundTables}
 use Rattle.offsets.specs.declared.TableStart.{TableStart}
 use Rattle.places.specs.declared.rows.Stands.the-variants.{Nowhere}
@@ -86,7 +86,7 @@ pub record Surveyed (d img : List ℕ) (q : Asked) (s : Survey) : Type 0 where
   pub slots : Slots
   pub known : Known
   pub row : def.Row
-  pub numbers : numbersOf slots ≡ numbersIn (s .numbers)
+  pub numbers : slotNumbers slots ≡ numbersIn (s .numbers)
   pub room : length (s .numbers) ≡ 64
   pub matches : Matches slots known
   pub whole : layOut d img ≡ beforeAll seats elements (layTables (tablesOf d (itemCount d - s .next .at) 0 (s .next .at)) img slots (s .start .0))
@@ -112,9 +112,10 @@ pub record TableAs (d img : List ℕ) (q : Asked) (s : Survey) (r : Survey) : Ty
   pub stopped : (x : Refusal) → r .verdict ≡ Verdict.Refused x → openLaid (layOut d img) ≡ refused x
 
 -- THE ANSWER
-pub record Answers (d img : List ℕ) (q : Asked) (a : Answer) (ts : List Seat) (es : List Placed) (n : ℕ) : Type 0 where
+pub record Answers (d img : List ℕ) (q : Asked) (a : Answer) (ts : List Seat) (es : List Placed) (s : Slots) (n : ℕ) : Type 0 where
   pub passed : a .verdict ≡ Verdict.Passed
   pub total : a .total ≡ n
+  pub numbers : slotNumbers s ≡ numbersIn (a .numbers)
   pub first : a .first ≡ tableFound (tableNamed (q .first .manufacturer) (q .first .number) ts)
   pub second : a .second ≡ tableFound (tableNamed (q .second .manufacturer) (q .second .number) ts)
   pub element : StandsAs (a .element) (rowOf d img (q .item))
@@ -124,6 +125,7 @@ abbrev pub refusedBy : Refusal → Answer
 refusedBy r = record {
   verdict = Verdict.Refused r;
   total = 0;
+  numbers = replicate 64 0;
   first = No;
   second = No;
   element = record { start = record { 0 = 0 }; row = alone Nowhere };
@@ -132,5 +134,5 @@ refusedBy r = record {
 
 -- of an image opened, or refused
 abbrev pub AnswerAs : (description image : List ℕ) → Asked → Answer → Opened → Type 0
-AnswerAs d img q a (opened ts es s n) = Answers d img q a ts es n
+AnswerAs d img q a (opened ts es s n) = Answers d img q a ts es s n
 AnswerAs d img q a (refused r) = a ≡ refusedBy r

@@ -6,12 +6,12 @@ use mathlib.Core.List.{List}
 use lib.ListN.{length, set}
 use Rattle.meaning.specs.Basics.{if_then_else_, _=?_, _≤?_, _<?_}
 use Rattle.meaning.specs.Description.{itemCount, fieldsAt, nested}
-use Rattle.meaning.specs.Layout.{Slots, Placed, fault, short, Laid, laid, stopped, layBody, layNode, numberAt, bodyAt}
+use Rattle.meaning.specs.Layout.{Slots, Placed, fault, short, Laid, laid, stopped, layBody, layNode, numberAt, bodyAt, slotNumbers}
 use Rattle.meaning.specs.Refusals.{anyDimension}
 use Rattle.items.specs.declared.Cursor.{Cursor}
 use Rattle.laying.specs.Rows.{firstRow, onward, walkBody, walkNode}
 use Rattle.laying.specs.Rows as def
-use Rattle.laying.specs.Slots.{numbersOf, Matches}
+use Rattle.laying.specs.Slots.{Matches}
 use Rattle.laying.specs.Sound.{Known, FitBody, FitNode, SoundBody, SoundNode}
 use Rattle.places.specs.declared.measure.Span.{Span}
 use Rattle.places.specs.declared.rows.Row.{Row}
@@ -67,12 +67,9 @@ shortHere w = record { numbers = w .numbers; octets = w .octets; row = w .row; h
 unfoldable pub stepOf : (image : List ℕ) → Aim → Walk → Span → (slot : ℕ) → Cursor → Walk
 stepOf img a w piece k next = if place a w + piece .size ≤? length img then pastPiece img a w piece k next else shortHere w
 
--- the same walk at another item; past a choice
+-- the same walk at another item
 abbrev pub elsewhere : Walk → Cursor → Walk
 elsewhere w next = record { numbers = w .numbers; octets = w .octets; row = w .row; held = w .held; next = next; short = w .short }
-
-abbrev pub pastChoice : Walk → Row → Cursor → Walk
-pastChoice w over next = record { numbers = w .numbers; octets = w .octets; row = firstOf (w .row) over; held = w .held; next = next; short = w .short }
 
 -- WHAT A WALK COMES TO
 -- a row of the table that starts at p: r counts its octets from the image's first, c from the table's, after what was found before
@@ -85,7 +82,7 @@ pub record RowFrom (p : ℕ) (before : def.Row) (c : Row) (r : def.Row) : Type 0
 pub record WalkEnds (a : Aim) (before : def.Row) (held : Bool) (r : Walk) (row : def.Row) (ps : List Placed) (s : Slots) (q : ℕ) : Type 0 where
   pub going : r .short ≡ false
   pub here : place a r ≡ q
-  pub numbers : numbersOf s ≡ numbersIn (r .numbers)
+  pub numbers : slotNumbers s ≡ numbersIn (r .numbers)
   pub holds : r .held ≡ (held || anyDimension ps (a .start .0 + a .from .0) (a .octets))
   pub rowIs : RowFrom (a .start .0) before (r .row) row
 
@@ -98,7 +95,7 @@ Ends a before held r row (stopped ps (short i p)) = (r .short ≡ true) × (r .n
 
 -- before a walk: the slots have their numbers, of dimensions of κ octets, and what was found is the row `before`
 pub record From (s : Slots) (κ : Known) (w : Walk) (before : def.Row) : Type 0 where
-  pub numbers : numbersOf s ≡ numbersIn (w .numbers)
+  pub numbers : slotNumbers s ≡ numbersIn (w .numbers)
   pub matches : Matches s κ
   pub row-as : RowAs 4 (w .row) before
 

@@ -4,17 +4,20 @@
 // Any description and any image get an answer: the place, or the refusal, of which 1 to 9 come
 // before any other. No memory is written. The definitions lay out element by element; the code goes
 // over the description's items once, and finds for an element's item a row, of which the place of
-// any of its elements is told by arithmetic.
+// any of its elements is told by arithmetic. Why there is no such element is told by the items before
+// its own, which are looked at once more then.
 mod measure;
 mod rows;
 mod survey;
 mod walk;
+mod why;
 
 use meaning::ElementName;
 use meaning::Place;
 use meaning::Refusal;
 use meaning::Reply;
 use meaning::Verdict;
+use offsets::ImageOffset;
 use offsets::TableOffset;
 use offsets::TableStart;
 use rows::Stands;
@@ -24,11 +27,13 @@ use survey::Standing;
 use survey::TableFound;
 use survey::TableName;
 use survey::open_image;
+use why::suits;
+use why::why_none;
 ghost use mathlib.Core.Path.{_≡_};
 ghost use lib.ListN.{length};
-ghost use Rattle.meaning.specs.Refusals.{layoutReply, tablePlaceReply, elementPlaceReply, openImage};
+ghost use Rattle.meaning.specs.Refusals.{layoutReply, tablePlaceReply, elementPlaceIn, elementPlaceReply, integerPlaceReply, openImage};
 ghost use Rattle.places.specs.Rows.{Few};
-ghost use Rattle.places.specs.Opening.{placeBy, nothingAsked, refusalOr, foundPlace, rangeIn};
+ghost use Rattle.places.specs.Opening.{foundBy, nothingAsked, refusalOr, foundPlace, rangeIn};
 
 // Where two tables are.
 pub struct Places {
@@ -48,27 +53,35 @@ pub enum Ranged {
     Refused(Refusal),
 }
 
-// Where the element of that name stands, by its item's row.
-fn place_by(element: Standing, name: ElementName) -> Place
+// An element where it stands, or none.
+pub enum ElementFound {
+    Missing,
+    Here { start: ImageOffset, length: usize },
+}
+
+// Where the element of that name stands, by its item's row, if it suits what is asked.
+fn found_by(element: Standing, name: ElementName, suits: bool) -> ElementFound
     requires { ⌜ Few 4 (element .row .arrays) ⌝ }
-    ensures { λ r. ⌜ (r ≡ placeBy element name) × (length (name .subscripts) ≡ 4) ⌝ }
+    ensures { λ r. ⌜ (r ≡ foundBy suits element name) × (length (name .subscripts) ≡ 4) ⌝ }
 {
     let start = element.start;
     let row = element.row;
     let stands = row.stands;
     let arrays = row.arrays;
+    if !suits {
+        return ElementFound::Missing;
+    }
     match stands {
-        Stands::Nowhere => Place::Refused(Refusal::NO_ELEMENT),
-        Stands::NotChosen => Place::Refused(Refusal::NO_ELEMENT),
+        Stands::Nowhere => ElementFound::Missing,
         Stands::There { first, length } => {
             let at = reached(first, arrays, name);
             if at.found {
-                return Place::At {
+                return ElementFound::Here {
                     start: start.in_image(TableOffset::new(at.octet)),
                     length,
                 };
             }
-            Place::Refused(Refusal::NO_ELEMENT)
+            ElementFound::Missing
         }
     }
 }
@@ -114,6 +127,37 @@ fn nothing_asked() -> Asked
         item: 0,
         from: TableOffset::new(0),
         octets: 0,
+    }
+}
+
+// Where an element is, or why there is none; of one whose number is asked, or not.
+fn place_or_why(description: &[u8], image: &[u8], name: ElementName, number: bool) -> Place
+    ensures { λ r. ⌜ r ≡ elementPlaceIn number (now (description .entry)) name (openImage (now (description .entry)) (now (image .entry))) ⌝ }
+{
+    let nothing = nothing_asked();
+    let first = nothing.first;
+    let second = nothing.second;
+    let from = nothing.from;
+    let asked = Asked {
+        first,
+        second,
+        item: name.item,
+        from,
+        octets: 0,
+    };
+    let answer = open_image(description, image, asked);
+    let verdict = answer.verdict;
+    let element = answer.element;
+    let numbers = answer.numbers;
+    let found = found_by(element, name, suits(description, name, number));
+    match verdict {
+        Verdict::Refused(r) => Place::Refused(r),
+        Verdict::Passed => match found {
+            ElementFound::Here { start, length } => Place::At { start, length },
+            ElementFound::Missing => {
+                Place::Refused(why_none(description, numbers, name, number))
+            }
+        },
     }
 }
 
@@ -185,21 +229,14 @@ pub fn table_place(description: &[u8], image: &[u8], manufacturer: u32, number: 
 pub fn element_place(description: &[u8], image: &[u8], name: ElementName) -> Place
     ensures { λ r. ⌜ r ≡ elementPlaceReply (now (description .entry)) (now (image .entry)) name ⌝ }
 {
-    let nothing = nothing_asked();
-    let first = nothing.first;
-    let second = nothing.second;
-    let from = nothing.from;
-    let asked = Asked {
-        first,
-        second,
-        item: name.item,
-        from,
-        octets: 0,
-    };
-    let answer = open_image(description, image, asked);
-    let verdict = answer.verdict;
-    let element = answer.element;
-    refusal_or(verdict, place_by(element, name))
+    place_or_why(description, image, name, false)
+}
+
+// Where an element is whose number is asked: of a UINT alone.
+pub fn integer_place(description: &[u8], image: &[u8], name: ElementName) -> Place
+    ensures { λ r. ⌜ r ≡ integerPlaceReply (now (description .entry)) (now (image .entry)) name ⌝ }
+{
+    place_or_why(description, image, name, true)
 }
 
 // The table that a range may lie in, and whether the range holds an octet of a dimension.

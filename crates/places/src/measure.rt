@@ -18,11 +18,10 @@ use meaning::Inner;
 ghost use mathlib.Core.Path.{_≡_};
 ghost use Prim.Native.Nat.{_+_, _<_, _≤_};
 ghost use lib.ListN.{length};
-ghost use Rattle.meaning.specs.Layout.{branchesIn, taken, leafOctets};
+ghost use Rattle.meaning.specs.Layout.{branchesIn, taken, leafOctets, value};
 ghost use Rattle.meaning.specs.Ranges.{FieldsRange};
-ghost use Rattle.laying.specs.Sizes.{value};
 ghost use Rattle.places.specs.Rows.{Few, alone};
-ghost use Rattle.places.specs.Measuring.{numbersIn, innerOf, overStands, leafSpan, joined, arraySpan, choiceSpan, BodyReady, ItemReady, BodyAs, ItemAs};
+ghost use Rattle.places.specs.Measuring.{numbersIn, innerOf, leafSpan, joined, arraySpan, BodyReady, ItemReady, BodyAs, ItemAs};
 
 // The kind that descriptions give an ARRAY.
 const ARRAY: u32 = 5;
@@ -139,32 +138,6 @@ fn array_span(count: usize, body: Span) -> Span
     }
 }
 
-// The row of an item that stands in a choice, whose items come next, but isn't found in the body taken: it is
-// in a branch not chosen.
-pub(crate) fn passed_over(next: Cursor, inside: usize, wanted: usize) -> Row
-    ensures { λ r. ⌜ r ≡ alone (overStands (next .at) inside wanted) ⌝ }
-{
-    let first = next.item();
-    if wanted < first {
-        return alone(Stands::Nowhere);
-    }
-    if wanted - first < inside {
-        return alone(Stands::NotChosen);
-    }
-    alone(Stands::Nowhere)
-}
-
-// A choice takes only the body chosen.
-fn choice_span(next: Cursor, inside: usize, wanted: usize, body: Span) -> Span
-    ensures { λ r. ⌜ r ≡ choiceSpan (next .at) inside wanted body ⌝ }
-{
-    let row = body.row;
-    Span {
-        size: body.size,
-        row: first_row(row, passed_over(next, inside, wanted)),
-    }
-}
-
 // What an item takes, and the place after it and all that is nested in it.
 pub struct Sized {
     pub span: Span,
@@ -198,7 +171,7 @@ pub(crate) fn body_size(
     span
 }
 
-// An item is as long as its body.
+// An item is as long as its body; a choice takes only the body chosen.
 pub(crate) fn item_size(
     d: &[u8],
     numbers: [u32; 64],
@@ -232,7 +205,7 @@ pub(crate) fn item_size(
             };
         }
         return Sized {
-            span: choice_span(next, inside, wanted, body),
+            span: body,
             next: after,
         };
     }

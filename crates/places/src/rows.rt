@@ -16,16 +16,13 @@ pub struct Arrays {
     pub strides: [u32; 4],
 }
 
-// Whether an element's item stands here, and where its first element does; or it stands in a branch
-// not chosen.
+// Whether an element's item stands here, and where its first element does.
 pub enum Stands {
     Nowhere,
-    NotChosen,
     There { first: usize, length: usize },
 }
 
-// What is found for an element's item, with the ARRAYs round it, or those outside the branch that is
-// not chosen.
+// What is found for an element's item, with the ARRAYs round it.
 pub struct Row {
     pub stands: Stands,
     pub arrays: Arrays,
@@ -52,7 +49,6 @@ pub(crate) fn first_row(a: Row, b: Row) -> Row
     let stands = a.stands;
     match stands {
         Stands::Nowhere => b,
-        Stands::NotChosen => a,
         Stands::There {
             first: _,
             length: _,
@@ -75,7 +71,6 @@ pub(crate) fn onward(by: usize, row: Row) -> Row
     let arrays = row.arrays;
     match stands {
         Stands::Nowhere => row,
-        Stands::NotChosen => row,
         Stands::There { first, length } => Row {
             stands: Stands::There {
                 first: cut(cut(by) + cut(first)),

@@ -52,11 +52,13 @@ pub struct Standing {
     pub row: Row,
 }
 
-// The image opened, or refused by 1 to 9: the total, where the tables asked for are, the row of the
-// item, and whether those octets lie in the first table and hold one of a dimension.
+// The image opened, or refused by 1 to 9: the total, the numbers of the slots, where the tables asked
+// for are, the row of the item, and whether those octets lie in the first table and hold one of a
+// dimension.
 pub struct Answer {
     pub verdict: Verdict,
     pub total: usize,
+    pub numbers: [u32; 64],
     pub first: TableFound,
     pub second: TableFound,
     pub element: Standing,
@@ -113,7 +115,6 @@ fn first_standing(before: Standing, now: Standing) -> Standing
     let stands = row.stands;
     match stands {
         Stands::Nowhere => now,
-        Stands::NotChosen => before,
         Stands::There {
             first: _,
             length: _,
@@ -144,6 +145,7 @@ fn verdict_of(start: TableStart, w: Walk) -> Verdict
             number: 9,
             item: at.item() as u64,
             octet: octet.octet() as u64,
+            depth: 0,
         });
     }
     Verdict::Passed
@@ -209,6 +211,7 @@ fn refused(r: Refusal) -> Answer
     Answer {
         verdict: Verdict::Refused(r),
         total: 0,
+        numbers: [0u32; 64],
         first: TableFound::No,
         second: TableFound::No,
         element: Standing {
@@ -258,9 +261,11 @@ fn survey_image(d: &[u8], image: &[u8], asked: Asked) -> Answer
     let first = s.first;
     let second = s.second;
     let element = s.element;
+    let numbers = s.numbers;
     Answer {
         verdict: Verdict::Passed,
         total: last.octet(),
+        numbers,
         first,
         second,
         element,

@@ -8,7 +8,6 @@ use crate::measure::Span;
 use crate::measure::chosen;
 use crate::measure::item_size;
 use crate::measure::leaf_span;
-use crate::measure::passed_over;
 use crate::measure::value;
 use crate::rows::Row;
 use crate::rows::first_row;
@@ -25,9 +24,9 @@ ghost use mathlib.Core.Path.{_≡_};
 ghost use Prim.Native.Nat.{_<_};
 ghost use lib.ListN.{length};
 ghost use Rattle.meaning.specs.Ranges.{FieldsRange};
-ghost use Rattle.laying.specs.Sizes.{value};
+ghost use Rattle.meaning.specs.Layout.{value};
 ghost use Rattle.places.specs.Measuring.{numbersIn};
-ghost use Rattle.places.specs.Walking.{Readable, noted, meets, StepReady, stepOf, elsewhere, pastChoice, WalkItemReady, WalksItem, WalkBodyReady, WalksBody};
+ghost use Rattle.places.specs.Walking.{Readable, noted, meets, StepReady, stepOf, elsewhere, WalkItemReady, WalksItem, WalkBodyReady, WalksBody};
 
 // The kind that descriptions give an ARRAY.
 const ARRAY: u32 = 5;
@@ -147,23 +146,6 @@ fn elsewhere(w: Walk, next: Cursor) -> Walk
     }
 }
 
-// The walk through the body that a choice takes, and past what it passes over.
-fn past_choice(w: Walk, over: Row, next: Cursor) -> Walk
-    ensures { λ r. ⌜ r ≡ pastChoice w over next ⌝ }
-{
-    let numbers = w.numbers;
-    let octets = w.octets;
-    let row = w.row;
-    Walk {
-        numbers,
-        octets,
-        row: first_row(row, over),
-        held: w.held,
-        next,
-        short: w.short,
-    }
-}
-
 // The value of an item's reference, as far as the walk has come. Most items have none, and then the
 // numbers of the slots aren't copied.
 fn value_here(w: Walk, f: Fields) -> usize
@@ -196,8 +178,7 @@ fn walk_item(d: &[u8], image: &[u8], aim: Aim, w: Walk, depth: usize) -> Walk
         if inner.short {
             return inner;
         }
-        let over = passed_over(next, inside, aim.wanted);
-        return past_choice(inner, over, after);
+        return elsewhere(inner, after);
     }
     if f.kind == ARRAY {
         let numbers = w.numbers;

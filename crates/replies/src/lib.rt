@@ -91,7 +91,7 @@ pub fn told(reply: Reply) -> Told
 }
 
 // One after another: the refusal's numbers, then the answer's own.
-pub fn numbers(told: Told) -> [u64; 5]
+pub fn numbers(told: Told) -> [u64; 6]
     ensures { λ r. ⌜ r ≡ toldNumbers told ⌝ }
 {
     let refusal = told.refusal;
@@ -99,6 +99,7 @@ pub fn numbers(told: Told) -> [u64; 5]
         refusal.number,
         refusal.item,
         refusal.octet,
+        refusal.depth,
         told.first,
         told.second,
     ]

@@ -335,5 +335,6 @@ pub fn check(description: &[u8]) -> Verdict
         number: rule as u64,
         item: place.item() as u64,
         octet: 0,
+        depth: 0,
     })
 }

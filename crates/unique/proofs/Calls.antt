@@ -34,6 +34,7 @@ use Rattle.places.proofs.layout as places-layout
 use Rattle.places.proofs.table_places as places-table-places
 use Rattle.places.proofs.table_place as places-table-place
 use Rattle.places.proofs.element_place as places-element-place
+use Rattle.places.proofs.integer_place as places-integer-place
 use Rattle.places.proofs.range_in as places-range-in
 use Rattle.access.proofs.table_part as access-table-part
 use Rattle.access.proofs.range_place as access-range-place
@@ -192,6 +193,9 @@ one-places-table-place κs a x y later other p q = (p ∙ sym q, refl)
 
 pub one-places-element-place : OneReply _ places-element-place.Kinds.ps places-element-place.Kinds.r places-element-place.Reads.Learnt
 one-places-element-place κs a x y later other p q = (p ∙ sym q, refl)
+
+pub one-places-integer-place : OneReply _ places-integer-place.Kinds.ps places-integer-place.Kinds.r places-integer-place.Reads.Learnt
+one-places-integer-place κs a x y later other p q = (p ∙ sym q, refl)
 
 pub one-places-range-in : OneReply _ places-range-in.Kinds.ps places-range-in.Kinds.r places-range-in.Reads.Learnt
 one-places-range-in κs a x y later other p q = (p ∙ sym q, refl)

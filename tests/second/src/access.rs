@@ -1,20 +1,11 @@
 //! Tables and elements: where they are, what they hold, and writing them
-//! (refusals 10 to 15).
+//! (refusals 10 and 12 to 15; 22 to 26 are in causes.rs).
 
+use crate::causes::{refuse_causes, Asked, Name};
 use crate::description::{after, bodies_round, Item};
 use crate::layout::{body_size, chosen_body, item_size, lay_out, number_of, value_of};
 use crate::layout::{Layout, TablePlace};
-use crate::refusal::Refusal;
-
-/// An element's name: "its item number and one subscript for each ARRAY round
-/// it, outermost first, from 0 (four places and a count; places past the count
-/// aren't read)".
-#[derive(Clone, Copy, PartialEq, Eq, Debug)]
-pub struct Name {
-    pub item: u64,
-    pub count: u64,
-    pub subscripts: [u64; 4],
-}
+use crate::refusal::{Refusal, NO_CAUSE_AND_NO_PLACE};
 
 /// Where something is in the image.
 #[derive(Clone, Copy, PartialEq, Eq, Debug)]
@@ -30,9 +21,8 @@ impl Place {
     }
 }
 
-/// An element that has been found: its item, its place, its table.
+/// An element that has been found: its place, its table.
 struct Element {
-    item: Item,
     place: Place,
     table: TablePlace,
 }
@@ -79,8 +69,8 @@ pub fn read_range(
 }
 
 /// The place of item `wanted` among the items from `start` to `end`, of which
-/// the first stands at octet `at`. None where refusal 11 is due: "one not
-/// below its count, branch not chosen".
+/// the first stands at octet `at`. None where it has none, which the causes of
+/// E4 have seen to before.
 fn find_in_body(
     layout: &Layout,
     start: usize,
@@ -140,62 +130,27 @@ fn find_inside(
     }
 }
 
-/// Refusal 11: "no such element: item isn't one, subscripts too few or many,
-/// one not below its count, branch not chosen". (A number asked of a BLOCK or
-/// SET is seen to by `find_integer`.)
-fn find_element(layout: &Layout, name: &Name) -> Result<Element, Refusal> {
-    let none = Refusal::plain(11);
-    if name.item >= layout.items.len() as u64 {
-        return Err(none);
-    }
-    let i = name.item as usize;
-    let item = layout.items[i];
-    // "An element is a UINT, BLOCK or SET".
-    if !matches!(item, Item::Uint { .. } | Item::Block { .. } | Item::Set { .. }) {
-        return Err(none);
-    }
-    let round = bodies_round(&layout.items, i);
-    let arrays = round
-        .iter()
-        .filter(|body| matches!(layout.items[body.owner], Item::Array { .. }))
-        .count();
-    if name.count != arrays as u64 {
-        return Err(none);
-    }
-    let owner = match round.first() {
-        Some(body) => *body,
-        None => return Err(none),
-    };
-    let table = match layout.tables.iter().find(|table| table.item == owner.owner) {
-        Some(table) => *table,
-        None => return Err(none),
-    };
-    let subscripts = &name.subscripts[..arrays.min(4)];
-    match find_in_body(layout, owner.start, owner.end, table.start, i, subscripts) {
-        Some(place) => Ok(Element { item, place, table }),
-        None => Err(none),
-    }
-}
-
-/// An element whose number is asked or written: refusal 11 also for "a number
-/// asked of a BLOCK or SET".
-fn find_integer(layout: &Layout, name: &Name) -> Result<Element, Refusal> {
-    let element = find_element(layout, name)?;
-    if !matches!(element.item, Item::Uint { .. }) {
-        return Err(Refusal::plain(11));
-    }
-    Ok(element)
+/// An element, for what is asked of it. Whether there is such an element the
+/// causes of E4 say; where it is, the search.
+fn find_element(layout: &Layout, name: &Name, asked: Asked) -> Result<Element, Refusal> {
+    let i = refuse_causes(layout, name, asked)?;
+    let none = Refusal::plain(NO_CAUSE_AND_NO_PLACE);
+    let owner = *bodies_round(&layout.items, i).first().ok_or(none)?;
+    let table = *layout.tables.iter().find(|table| table.item == owner.owner).ok_or(none)?;
+    let subscripts = &name.subscripts[..name.count.min(4) as usize];
+    let place = find_in_body(layout, owner.start, owner.end, table.start, i, subscripts);
+    Ok(Element { place: place.ok_or(none)?, table })
 }
 
 /// The question "where an element is (its octet in the image, and length)".
 pub fn element(d: &[u8], image: &[u8], name: &Name) -> Result<Place, Refusal> {
-    Ok(find_element(&lay_out(d, image)?, name)?.place)
+    Ok(find_element(&lay_out(d, image)?, name, Asked::Octets)?.place)
 }
 
 /// The question "its number, for an integer".
 pub fn number(d: &[u8], image: &[u8], name: &Name) -> Result<u64, Refusal> {
     let layout = lay_out(d, image)?;
-    let element = find_integer(&layout, name)?;
+    let element = find_element(&layout, name, Asked::Number)?;
     Ok(number_of(element.place.part(image), layout.most_significant_first))
 }
 
@@ -268,8 +223,8 @@ pub fn write_table(
     write_range(d, image, mfr, num, 0, data)
 }
 
-/// The question "write ... an element's octets". Order: 1 to 9, 11, 13, 14,
-/// 15; the table is the element's own and the range is the element.
+/// The question "write ... an element's octets". Order: 1 to 9, 22 to 26,
+/// 13, 14, 15; the table is the element's own and the range is the element.
 pub fn write_octets(
     d: &[u8],
     image: &[u8],
@@ -277,7 +232,7 @@ pub fn write_octets(
     data: &[u8],
 ) -> Result<Vec<u8>, Refusal> {
     let layout = lay_out(d, image)?;
-    let element = find_element(&layout, name)?;
+    let element = find_element(&layout, name, Asked::Octets)?;
     refuse_unmarked(&layout, &element.table)?;
     refuse_dimensions(&layout, element.place)?;
     // Refusal 15: "lent data's length isn't the element's".
@@ -313,7 +268,7 @@ pub fn write_number(
     value: u64,
 ) -> Result<Vec<u8>, Refusal> {
     let layout = lay_out(d, image)?;
-    let element = find_integer(&layout, name)?;
+    let element = find_element(&layout, name, Asked::Number)?;
     refuse_unmarked(&layout, &element.table)?;
     refuse_dimensions(&layout, element.place)?;
     match octets_of(value, element.place.length, layout.most_significant_first) {

@@ -159,7 +159,7 @@ impl<'a> Walk<'a> {
             .map_err(|odd| Refusal::at_item(odd, i))?;
         let end = self.at.saturating_add(size);
         if end > self.image.len() as u64 {
-            return Err(Refusal { no: 9, item: i as u64, octet: self.at });
+            return Err(Refusal::at_octet(9, i, self.at));
         }
         if let Item::Uint { octets, slot } = self.items[i] {
             if slot != 0 {

@@ -1,7 +1,8 @@
 //! The line language: a request in, a reply out.
 
-use crate::access::{self, Name};
+use crate::access;
 use crate::calendar::{self, Date, What};
+use crate::causes::Name;
 use crate::description;
 use crate::layout;
 use crate::messages::{self, Reply, Request};
@@ -137,16 +138,19 @@ impl<'a> Words<'a> {
     }
 }
 
-/// `no item octet` of a refusal.
+/// `no item octet depth` where nothing is refused.
+const GRANTED: &str = "0 0 0 0";
+
+/// `no item octet depth` of a refusal (document 02, E4).
 fn head(refusal: &Refusal) -> String {
-    format!("{} {} {}", refusal.no, refusal.item, refusal.octet)
+    format!("{} {} {} {}", refusal.no, refusal.item, refusal.octet, refusal.depth)
 }
 
 /// A reply whose own numbers are `good`, or `zeros` on a refusal ("every other
 /// number is 0 on a refusal").
 fn reply(result: Result<String, Refusal>, zeros: &str) -> String {
     let (head, rest) = match result {
-        Ok(good) => (String::from("0 0 0"), good),
+        Ok(good) => (String::from(GRANTED), good),
         Err(refusal) => (head(&refusal), String::from(zeros)),
     };
     if rest.is_empty() {
@@ -294,7 +298,7 @@ fn answer_request(line: &[u8]) -> Option<String> {
         b"weekday" => {
             let date = words.date()?;
             words.end()?;
-            // This line tells no item and no octet.
+            // This line tells no item, octet or depth.
             match calendar::weekday_of(date) {
                 Ok(weekday) => format!("0 {}", weekday),
                 Err(refusal) => format!("{} 0", refusal.no),
@@ -305,7 +309,7 @@ fn answer_request(line: &[u8]) -> Option<String> {
             words.end()?;
             let found = calendar::matrix(&d, &m);
             let (head, cells) = match found {
-                Ok(cells) => (String::from("0 0 0"), cells),
+                Ok(cells) => (String::from(GRANTED), cells),
                 Err(refusal) => (head(&refusal), [[0; 22]; 15]),
             };
             format!("{} {}", head, written(&cells.concat()))

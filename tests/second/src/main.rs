@@ -1,9 +1,10 @@
 //! The second program: the questions about meter tables, asked in lines of
-//! text and answered from documents 01 and 02 (its requests E1 to E3) alone.
+//! text and answered from documents 01 and 02 (its requests E1 to E4) alone.
 //! See the README beside this directory.
 
 mod access;
 mod calendar;
+mod causes;
 mod description;
 mod layout;
 mod lines;
@@ -12,6 +13,8 @@ mod refusal;
 
 #[cfg(test)]
 mod tests_calendar;
+#[cfg(test)]
+mod tests_elements;
 #[cfg(test)]
 mod tests_lines;
 #[cfg(test)]

@@ -142,14 +142,14 @@ fn with_tables(order: u8, t51: &[u8], t54: &[u8]) -> String {
     format!("{} {}", desc(&items), hex(&m))
 }
 
-const NONE_YET: &str = "0 0 0 1 0";
+const NONE_YET: &str = "0 0 0 0 1 0";
 
 /// The replies of `seasoned`.
-const YES: &str = "0 0 0 1";
-const NO: &str = "0 0 0 0";
+const YES: &str = "0 0 0 0 1";
+const NO: &str = "0 0 0 0 0";
 
 fn tier_is(tier: u32) -> String {
-    format!("0 0 0 0 {tier}")
+    format!("0 0 0 0 0 {tier}")
 }
 
 #[test]
@@ -300,11 +300,11 @@ fn refusal_16() {
         (2024, 1, 0), (2024, 1, 32), (2024, 4, 31), (2024, 2, 30), (2023, 2, 29), (2089, 2, 29),
         (4294967295, 1, 1), (2024, 4294967295, 1), (2024, 1, 4294967295), (2024, 257, 1),
     ] {
-        cal.gives((y, m, d, 0, 0), "16 0 0 0 0");
-        cal.seasoned((y, m, d), "16 0 0 0");
+        cal.gives((y, m, d, 0, 0), "16 0 0 0 0 0");
+        cal.seasoned((y, m, d), "16 0 0 0 0");
     }
     for (h, m) in [(24, 0), (0, 60), (23, 60), (256, 0), (4294967295, 4294967295)] {
-        cal.gives((2024, 3, 5, h, m), "16 0 0 0 0");
+        cal.gives((2024, 3, 5, h, m), "16 0 0 0 0 0");
     }
     // The ends that are real.
     cal.gives((2024, 2, 29, 23, 59), &tier_is(1));
@@ -325,17 +325,17 @@ fn refusal_18_and_the_order() {
     cal.gives((2000, 1, 3, 12, 0), &tier_is(1));
     // 16 before 18 before 19; 20 before them all.
     cal.flags_1 = ARMED;
-    cal.gives((2000, 1, 3, 12, 0), "18 0 0 0 0");
-    cal.gives((1999, 12, 31, 12, 0), "18 0 0 0 0");
-    cal.gives((1999, 12, 31, 24, 0), "16 0 0 0 0");
+    cal.gives((2000, 1, 3, 12, 0), "18 0 0 0 0 0");
+    cal.gives((1999, 12, 31, 12, 0), "18 0 0 0 0 0");
+    cal.gives((1999, 12, 31, 24, 0), "16 0 0 0 0 0");
     cal.rows.clear();
-    cal.gives((2000, 1, 3, 12, 0), "18 0 0 0 0");
+    cal.gives((2000, 1, 3, 12, 0), "18 0 0 0 0 0");
     cal.flags_1 = 0;
-    cal.gives((2000, 1, 3, 12, 0), "19 0 0 0 0");
+    cal.gives((2000, 1, 3, 12, 0), "19 0 0 0 0 0");
     // Season 0 has no row: "19 still applies when there are no seasons".
-    cal.gives((1999, 12, 31, 12, 0), "19 0 0 0 0");
+    cal.gives((1999, 12, 31, 12, 0), "19 0 0 0 0 0");
     cal.flags_1 = ARMED | ANCHOR;
-    cal.gives((1999, 12, 31, 24, 0), "20 0 0 0 0");
+    cal.gives((1999, 12, 31, 24, 0), "20 0 0 0 0 0");
     // Other flags change nothing here.
     let mut cal = Cal::plain();
     cal.flags_1 = 0xff - ARMED - ANCHOR;
@@ -354,7 +354,7 @@ fn refusal_19() {
         let reply = match action {
             3 => tier_is(1),
             4 => tier_is(2),
-            _ => String::from("19 0 0 0 0"),
+            _ => String::from("19 0 0 0 0 0"),
         };
         cal.gives((2000, 1, 3, 12, 0), &reply);
     }
@@ -368,7 +368,7 @@ fn refusal_19() {
         let reply = match action {
             19 => tier_is(3),
             20 => tier_is(4),
-            _ => String::from("19 0 0 0 0"),
+            _ => String::from("19 0 0 0 0 0"),
         };
         cal.gives((2000, 1, 3, 12, 0), &reply);
         // The special schedule holds for its own date only.
@@ -387,7 +387,7 @@ fn refusal_19() {
     cal.gives((2000, 1, 3, 12, 0), &tier_is(3));
     cal.gives((2000, 1, 4, 12, 0), &tier_is(1));
     cal.dates = vec![(date(2000, 1, 3), 21)];
-    cal.gives((2000, 1, 3, 12, 0), "19 0 0 0 0");
+    cal.gives((2000, 1, 3, 12, 0), "19 0 0 0 0 0");
     // Only bits 0..4 of the action count.
     for high in [0x20u8, 0x40, 0x80, 0xe0] {
         cal.dates = vec![(date(2000, 1, 1), high | 3), (date(2000, 1, 3), high | 20)];
@@ -401,12 +401,12 @@ fn refusal_20() {
     let cal = Cal::plain();
     let (t51, t54) = (cal.table_51(), cal.table_54());
     let all = |words: &str, no: u32| {
-        holds(&format!("tier {words} 2000 1 3 12 0 0"), &format!("{no} 0 0 0 0"));
-        holds(&format!("seasoned {words} 2000 1 3"), &format!("{no} 0 0 0"));
+        holds(&format!("tier {words} 2000 1 3 12 0 0"), &format!("{no} 0 0 0 0 0"));
+        holds(&format!("seasoned {words} 2000 1 3"), &format!("{no} 0 0 0 0"));
         // 20 before 16: 30 February.
-        holds(&format!("tier {words} 2000 2 30 12 0 0"), &format!("{no} 0 0 0 0"));
-        holds(&format!("seasoned {words} 2000 2 30"), &format!("{no} 0 0 0"));
-        holds(&format!("matrix {words}"), &format!("{no} 0 0 {}", "0".repeat(660)));
+        holds(&format!("tier {words} 2000 2 30 12 0 0"), &format!("{no} 0 0 0 0 0"));
+        holds(&format!("seasoned {words} 2000 2 30"), &format!("{no} 0 0 0 0"));
+        holds(&format!("matrix {words}"), &format!("{no} 0 0 0 {}", "0".repeat(660)));
     };
     let mut long_51 = t51.clone();
     long_51.push(0);
@@ -449,17 +449,17 @@ fn refusal_10_before_20() {
         m.extend_from_slice(&t51);
         m.extend_from_slice(&t54);
         let words = format!("{} {}", desc(&items), hex(&m));
-        holds(&format!("tier {words} 2000 1 3 12 0 0"), "10 0 0 0 0");
-        holds(&format!("seasoned {words} 2000 1 3"), "10 0 0 0");
-        holds(&format!("seasoned {words} 2000 2 30"), "10 0 0 0");
-        holds(&format!("matrix {words}"), &format!("10 0 0 {}", "0".repeat(660)));
+        holds(&format!("tier {words} 2000 1 3 12 0 0"), "10 0 0 0 0 0");
+        holds(&format!("seasoned {words} 2000 1 3"), "10 0 0 0 0");
+        holds(&format!("seasoned {words} 2000 2 30"), "10 0 0 0 0");
+        holds(&format!("matrix {words}"), &format!("10 0 0 0 {}", "0".repeat(660)));
     }
     // 9 before 10.
     let d = desc(&[table(0, 1), uint(1, 1)]);
-    holds(&format!("tier {d} - 2000 1 3 12 0 0"), "9 1 0 0 0");
-    holds(&format!("tier {d} 00 2000 1 3 12 0 0"), "10 0 0 0 0");
-    holds(&format!("seasoned {d} - 2000 1 3"), "9 1 0 0");
-    holds(&format!("seasoned {d} 00 2000 1 3"), "10 0 0 0");
+    holds(&format!("tier {d} - 2000 1 3 12 0 0"), "9 1 0 0 0 0");
+    holds(&format!("tier {d} 00 2000 1 3 12 0 0"), "10 0 0 0 0 0");
+    holds(&format!("seasoned {d} - 2000 1 3"), "9 1 0 0 0");
+    holds(&format!("seasoned {d} 00 2000 1 3"), "10 0 0 0 0");
 }
 
 #[test]
@@ -532,8 +532,8 @@ fn season_0_before_every_record() {
     cal.gives((1994, 12, 31, 12, 1), &tier_is(1));
     // Season 0 has no row where there is none at all.
     cal.rows.clear();
-    cal.gives((1994, 12, 31, 12, 1), "19 0 0 0 0");
-    cal.gives((1990, 1, 1, 0, 0), "19 0 0 0 0");
+    cal.gives((1994, 12, 31, 12, 1), "19 0 0 0 0 0");
+    cal.gives((1990, 1, 1, 0, 0), "19 0 0 0 0 0");
 }
 
 /// Document 02, E1: "New meters have no season record."
@@ -554,16 +554,16 @@ fn new_meters() {
         cal.seasoned(day, NO);
     }
     cal.flags_1 = ARMED;
-    cal.gives((2000, 1, 1, 0, 0), "18 0 0 0 0");
+    cal.gives((2000, 1, 1, 0, 0), "18 0 0 0 0 0");
     cal.seasoned((2000, 1, 1), NO);
     cal.flags_1 = 0;
     cal.rows.clear();
-    cal.gives((2000, 1, 1, 0, 0), "19 0 0 0 0");
+    cal.gives((2000, 1, 1, 0, 0), "19 0 0 0 0 0");
     cal.seasoned((2000, 1, 1), NO);
     // Nothing at all: Table 54 has no octets.
     cal.switches.clear();
     assert!(cal.table_54().is_empty());
-    cal.gives((2000, 1, 1, 0, 0), "19 0 0 0 0");
+    cal.gives((2000, 1, 1, 0, 0), "19 0 0 0 0 0");
     cal.seasoned((2000, 1, 1), NO);
 }
 
@@ -621,7 +621,7 @@ fn seasoned_asks_for_no_row_and_no_armed_flag() {
         cal.rows.clear();
         cal.seasoned((1999, 12, 31), NO);
         cal.seasoned((2000, 1, 1), YES);
-        cal.seasoned((2000, 2, 30), "16 0 0 0");
+        cal.seasoned((2000, 2, 30), "16 0 0 0 0");
     }
     // A special schedule without a column on the day doesn't matter.
     cal.dates.push((date(2000, 1, 1), 30));
@@ -700,25 +700,25 @@ fn seasoned_skips_what_is_no_season_record() {
 #[test]
 fn seasoned_refusals_of_description_and_image() {
     for day in ["2024 3 5", "2024 2 30"] {
-        holds(&format!("seasoned - 00 {day}"), "1 0 0 0");
+        holds(&format!("seasoned - 00 {day}"), "1 0 0 0 0");
         // Kind 0; a BLOCK at the top level; a table that runs on past the end.
-        holds(&format!("seasoned 00000000 00 {day}"), "2 0 0 0");
-        holds(&format!("seasoned {} 00 {day}", desc(&[block(1)])), "3 0 0 0");
-        holds(&format!("seasoned {} 00 {day}", desc(&[table(0, 2), uint(1, 1)])), "4 0 0 0");
+        holds(&format!("seasoned 00000000 00 {day}"), "2 0 0 0 0");
+        holds(&format!("seasoned {} 00 {day}", desc(&[block(1)])), "3 0 0 0 0");
+        holds(&format!("seasoned {} 00 {day}", desc(&[table(0, 2), uint(1, 1)])), "4 0 0 0 0");
         // A fifth level, at the last but one item.
         let mut items = vec![table(0, 7), uint(1, 1)];
         items.extend((1..=5).rev().map(|inside| array((1, 0, 1), inside)));
         items.push(uint(1, 0));
-        holds(&format!("seasoned {} 00 {day}", desc(&items)), "5 6 0 0");
+        holds(&format!("seasoned {} 00 {day}", desc(&items)), "5 6 0 0 0");
         // Slot 1 twice; a slot that isn't set.
         let twice = desc(&[table(0, 2), uint(1, 1), uint(1, 1)]);
-        holds(&format!("seasoned {twice} 00 {day}"), "6 2 0 0");
+        holds(&format!("seasoned {twice} 00 {day}"), "6 2 0 0 0");
         let unset = desc(&[table(0, 2), uint(1, 1), set((2, 0, 1))]);
-        holds(&format!("seasoned {unset} 00 {day}"), "7 2 0 0");
+        holds(&format!("seasoned {unset} 00 {day}"), "7 2 0 0 0");
         // An image over 65,535 octets, and D's first image cut to 7.
-        holds(&format!("seasoned {D} {} {day}", "00".repeat(65_536)), "8 0 0 0");
-        holds(&format!("seasoned {D} 0082aabb341278 {day}"), "9 6 4 0");
-        holds(&format!("seasoned {D} {FIRST} {day}"), "10 0 0 0");
+        holds(&format!("seasoned {D} {} {day}", "00".repeat(65_536)), "8 0 0 0 0");
+        holds(&format!("seasoned {D} 0082aabb341278 {day}"), "9 6 4 0 0");
+        holds(&format!("seasoned {D} {FIRST} {day}"), "10 0 0 0 0");
     }
 }
 
@@ -844,11 +844,11 @@ fn the_matrix() {
     cal.special = 15;
     cal.rows = (0..15).map(|row| (0..22).map(|column| row * 16 + column).collect()).collect();
     let all: Vec<u8> = cal.rows.concat();
-    holds(&format!("matrix {}", cal.words()), &format!("0 0 0 {}", hex(&all)));
+    holds(&format!("matrix {}", cal.words()), &format!("0 0 0 0 {}", hex(&all)));
     // It needs no date: not 18 (the season change is armed), not 19.
     cal.flags_1 = ARMED;
     cal.dates.clear();
-    holds(&format!("matrix {}", cal.words()), &format!("0 0 0 {}", hex(&all)));
+    holds(&format!("matrix {}", cal.words()), &format!("0 0 0 0 {}", hex(&all)));
     // Two rows of 3 + 1: cells stand as in the rows, unused ones are 0.
     let mut cal = Cal::plain();
     cal.special = 1;
@@ -856,10 +856,10 @@ fn the_matrix() {
     let mut cells = vec![0u8; 330];
     cells[..4].copy_from_slice(&[1, 2, 3, 4]);
     cells[22..26].copy_from_slice(&[5, 6, 7, 8]);
-    holds(&format!("matrix {}", cal.words()), &format!("0 0 0 {}", hex(&cells)));
+    holds(&format!("matrix {}", cal.words()), &format!("0 0 0 0 {}", hex(&cells)));
     // No rows at all.
     cal.rows.clear();
-    holds(&format!("matrix {}", cal.words()), &format!("0 0 0 {}", "0".repeat(660)));
+    holds(&format!("matrix {}", cal.words()), &format!("0 0 0 0 {}", "0".repeat(660)));
 }
 
 #[test]
@@ -885,7 +885,7 @@ fn however_the_tables_are_divided() {
         let wide = vec![
             table(0, 1), uint(1, 1), table(54, 0), table(51, 3), uint(4, 0), uint(4, 0), uint(1, 0),
         ];
-        assert_eq!(ask(&format!("matrix {} {m}", desc(&wide))), format!("20 0 0 {}", "0".repeat(660)));
+        assert_eq!(ask(&format!("matrix {} {m}", desc(&wide))), format!("20 0 0 0 {}", "0".repeat(660)));
         let wide = vec![
             table(0, 1), uint(1, 1), table(51, 3), uint(4, 0), uint(4, 0), uint(1, 0),
             table(54, 3), uint(4, 0), uint(4, 0), uint(4, 0),
@@ -898,9 +898,9 @@ fn however_the_tables_are_divided() {
         ];
         for items in [&single, &wide, &as_array] {
             let d = desc(items);
-            holds(&format!("layout {d} {m}"), "0 0 0 22");
-            holds(&format!("tier {d} {m} 2000 1 3 12 0 0"), "0 0 0 0 1");
-            holds(&format!("tier {d} {m} 2000 1 2 12 0 0"), "0 0 0 1 0");
+            holds(&format!("layout {d} {m}"), "0 0 0 0 22");
+            holds(&format!("tier {d} {m} 2000 1 3 12 0 0"), "0 0 0 0 0 1");
+            holds(&format!("tier {d} {m} 2000 1 2 12 0 0"), "0 0 0 0 1 0");
             holds(&format!("seasoned {d} {m} 2000 1 1"), YES);
             holds(&format!("seasoned {d} {m} 1999 12 31"), NO);
         }

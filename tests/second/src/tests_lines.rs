@@ -14,11 +14,11 @@ fn lines_and_their_ends() {
     assert_eq!(all(b""), "");
     assert_eq!(all(b"\n"), "?\n");
     assert_eq!(all(b"\n\n"), "?\n?\n");
-    assert_eq!(all(b"check -"), "1 0 0\n");
-    assert_eq!(all(b"check -\n"), "1 0 0\n");
+    assert_eq!(all(b"check -"), "1 0 0 0\n");
+    assert_eq!(all(b"check -\n"), "1 0 0 0\n");
     assert_eq!(all(b"check -\r\n"), "?\n");
-    assert_eq!(all(b"check -\ncheck -"), "1 0 0\n1 0 0\n");
-    assert_eq!(all(b"check -\n\ncheck -\n"), "1 0 0\n?\n1 0 0\n");
+    assert_eq!(all(b"check -\ncheck -"), "1 0 0 0\n1 0 0 0\n");
+    assert_eq!(all(b"check -\n\ncheck -\n"), "1 0 0 0\n?\n1 0 0 0\n");
     assert_eq!(all(b"\x00\n\xff\xfe"), "?\n?\n");
 }
 
@@ -47,18 +47,18 @@ fn hex_words() {
     for word in ["1", "100", "1G", "1g", "0x10", "AB", "aB", "a ", "+1", "é", "--", "-1", "1-"] {
         holds(&format!("check {word}"), "?");
     }
-    holds("check ab", "1 0 0");
-    holds("check abcdef01", "2 0 0");
+    holds("check ab", "1 0 0 0");
+    holds("check abcdef01", "2 0 0 0");
 }
 
 #[test]
 fn number_words() {
     let ask_table = |mfr: &str, num: &str| ask(&format!("table {D} {FIRST} {mfr} {num}"));
-    assert_eq!(ask_table("0", "5"), "0 0 0 2 6");
-    assert_eq!(ask_table("00", "005"), "0 0 0 2 6");
-    assert_eq!(ask_table("0", &format!("{}5", "0".repeat(1000))), "0 0 0 2 6");
-    assert_eq!(ask_table("1", "5"), "10 0 0 0 0");
-    assert_eq!(ask_table("0", "65535"), "10 0 0 0 0");
+    assert_eq!(ask_table("0", "5"), "0 0 0 0 2 6");
+    assert_eq!(ask_table("00", "005"), "0 0 0 0 2 6");
+    assert_eq!(ask_table("0", &format!("{}5", "0".repeat(1000))), "0 0 0 0 2 6");
+    assert_eq!(ask_table("1", "5"), "10 0 0 0 0 0");
+    assert_eq!(ask_table("0", "65535"), "10 0 0 0 0 0");
     for (mfr, num) in [
         ("2", "5"), ("0", "65536"), ("0", "-5"), ("0", "+5"), ("0", "5."), ("0", "0x5"), ("0", ""),
         ("", "5"), ("0", "5a"), ("0", "99999999999999999999999"), ("0", "-"), ("0", "٥"),
@@ -71,22 +71,22 @@ fn number_words() {
 fn numbers_at_the_ends_of_their_types() {
     let most = "18446744073709551615";
     let over = "18446744073709551616";
-    holds(&format!("where {D} {FIRST} {most} {most} {most} {most} {most} {most}"), "11 0 0 0 0");
+    holds(&format!("where {D} {FIRST} {most} {most} {most} {most} {most} {most}"), "22 0 0 0 0 0");
     for place in 0..6 {
         let mut words = ["0"; 6];
         words[place] = over;
         holds(&format!("where {D} {FIRST} {}", words.join(" ")), "?");
         words[place] = "0018446744073709551615";
-        holds(&format!("where {D} {FIRST} {}", words.join(" ")), "11 0 0 0 0");
+        holds(&format!("where {D} {FIRST} {}", words.join(" ")), "22 0 0 0 0 0");
     }
     holds(&format!("writenumber {D} {FIRST} 7 1 0 0 0 0 {over}"), "?");
-    holds(&format!("writenumber {D} {FIRST} 7 1 0 0 0 0 {most}"), &format!("15 0 0 {FIRST}"));
+    holds(&format!("writenumber {D} {FIRST} 7 1 0 0 0 0 {most}"), &format!("15 0 0 0 {FIRST}"));
     for place in 0..5 {
         let mut words = ["2024", "3", "5", "7", "30", "0"];
         words[place] = "4294967296";
         holds(&format!("tier {D} {FIRST} {}", words.join(" ")), "?");
         words[place] = "4294967295";
-        holds(&format!("tier {D} {FIRST} {}", words.join(" ")), "10 0 0 0 0");
+        holds(&format!("tier {D} {FIRST} {}", words.join(" ")), "10 0 0 0 0 0");
     }
     holds(&format!("tier {D} {FIRST} 2024 3 5 7 30 2"), "?");
     for place in 0..3 {
@@ -94,9 +94,9 @@ fn numbers_at_the_ends_of_their_types() {
         words[place] = "4294967296";
         holds(&format!("seasoned {D} {FIRST} {}", words.join(" ")), "?");
         words[place] = "4294967295";
-        holds(&format!("seasoned {D} {FIRST} {}", words.join(" ")), "10 0 0 0");
+        holds(&format!("seasoned {D} {FIRST} {}", words.join(" ")), "10 0 0 0 0");
         words[place] = "004294967295";
-        holds(&format!("seasoned {D} {FIRST} {}", words.join(" ")), "10 0 0 0");
+        holds(&format!("seasoned {D} {FIRST} {}", words.join(" ")), "10 0 0 0 0");
     }
     for place in 0..3u32 {
         let real = [2024, 3, 5][place as usize];
@@ -122,9 +122,9 @@ fn a_bad_later_word_is_seen_before_the_answer() {
     holds("layout - 0", "?");
     holds("tier - - 2024 3 5 7 30 2", "?");
     holds("writerange - - 0 0 0 0", "?");
-    holds("tier - - 2024 3 5 7 30 1", "1 0 0 0 0");
+    holds("tier - - 2024 3 5 7 30 1", "1 0 0 0 0 0");
     holds("seasoned - - 2024 3 x", "?");
-    holds("seasoned - - 2024 3 5", "1 0 0 0");
+    holds("seasoned - - 2024 3 5", "1 0 0 0 0");
 }
 
 #[test]
@@ -151,28 +151,28 @@ fn long_lines() {
     // The longest that must be taken: 2,052, 65,540 and 65,540 octets.
     let d = "10".repeat(2052);
     let m = "00".repeat(65_540);
-    holds(&format!("writerange {d} {m} 0 0 0 {m}"), &format!("1 0 0 {m}"));
+    holds(&format!("writerange {d} {m} 0 0 0 {m}"), &format!("1 0 0 0 {m}"));
     // 300,000 octets are read, 300,001 are not.
     let line = format!("check {}", "0".repeat(299_994));
     assert_eq!(line.len(), 300_000);
-    holds(&line, "1 0 0");
+    holds(&line, "1 0 0 0");
     let line = format!("table 00 00 0 {}5", "0".repeat(299_986));
     assert_eq!(line.len(), 300_001);
     holds(&line, "?");
-    holds(&line.replacen("00 0 0", "00 0 ", 1), "1 0 0 0 0");
+    holds(&line.replacen("00 0 0", "00 0 ", 1), "1 0 0 0 0 0");
     // The line after a long one is read as usual.
     let mut input = vec![b'0'; 1_000_000];
     input.extend_from_slice(b"\ncheck -\n");
     input.extend(vec![b'a'; 700_000]);
-    assert_eq!(all(&input), "?\n1 0 0\n?\n");
+    assert_eq!(all(&input), "?\n1 0 0 0\n?\n");
 }
 
 #[test]
 fn empty_images_in_replies() {
-    holds(&format!("writerange {D} - 0 5 0 aa"), "9 1 0 -");
-    holds("writeoctets - - 0 0 0 0 0 0 -", "1 0 0 -");
-    holds("writenumber - - 0 0 0 0 0 0 0", "1 0 0 -");
+    holds(&format!("writerange {D} - 0 5 0 aa"), "9 1 0 0 -");
+    holds("writeoctets - - 0 0 0 0 0 0 -", "1 0 0 0 -");
+    holds("writenumber - - 0 0 0 0 0 0 0", "1 0 0 0 -");
     holds("tablepart - - 0 0", "-");
     holds("octets - - 0 0 0 0 0 0", "-");
-    holds("matrix - -", &format!("1 0 0 {}", "0".repeat(660)));
+    holds("matrix - -", &format!("1 0 0 0 {}", "0".repeat(660)));
 }

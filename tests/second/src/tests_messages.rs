@@ -564,7 +564,7 @@ fn serving_is_the_tables_questions() {
         let read = ask(&format!("readrange {bench} {IMAGE} {mfr} {num} {offset} {length}"));
         let served =
             ask(&format!("serve {bench} {IMAGE} 65544 3f{id:04x}{offset:06x}{length:04x}"));
-        let expected = match read.strip_prefix("0 0 0 ") {
+        let expected = match read.strip_prefix("0 0 0 0 ") {
             Some(rest) => {
                 let data = rest.split(' ').nth(2).unwrap();
                 let reply = ask(&format!("writereply 1 0 65544 {data}"));
@@ -584,7 +584,7 @@ fn serving_is_the_tables_questions() {
             "13" => "03",
             _ => "04",
         };
-        assert_eq!(served, format!("0 {code} {}", words[3]));
+        assert_eq!(served, format!("0 {code} {}", words[4]));
         done += u64::from(code == "00");
     }
     assert!(done > 1000, "{done}");
@@ -594,29 +594,29 @@ fn serving_is_the_tables_questions() {
 fn ranges_read() {
     let bench = bench();
     let ask_range = |rest: &str| ask(&format!("readrange {bench} {IMAGE} {rest}"));
-    assert_eq!(ask_range("0 5 1 2"), "0 0 0 2 2 0b0c");
-    assert_eq!(ask_range("0 5 0 4"), "0 0 0 1 4 0a0b0c0d");
-    assert_eq!(ask_range("0 0 0 1"), "0 0 0 0 1 00");
-    assert_eq!(ask_range("0 7 0 3"), "0 0 0 7 3 023344");
-    assert_eq!(ask_range("1 0 1 1"), "0 0 0 12 1 77");
-    assert_eq!(ask_range("0 5 4 0"), "0 0 0 5 0 -");
-    assert_eq!(ask_range("0 9 0 0"), "0 0 0 14 0 -");
+    assert_eq!(ask_range("0 5 1 2"), "0 0 0 0 2 2 0b0c");
+    assert_eq!(ask_range("0 5 0 4"), "0 0 0 0 1 4 0a0b0c0d");
+    assert_eq!(ask_range("0 0 0 1"), "0 0 0 0 0 1 00");
+    assert_eq!(ask_range("0 7 0 3"), "0 0 0 0 7 3 023344");
+    assert_eq!(ask_range("1 0 1 1"), "0 0 0 0 12 1 77");
+    assert_eq!(ask_range("0 5 4 0"), "0 0 0 0 5 0 -");
+    assert_eq!(ask_range("0 9 0 0"), "0 0 0 0 14 0 -");
     let most_less = "18446744073709551614";
     for rest in [
         "0 5 5 0", "0 5 4 1", "0 5 0 5", "0 9 1 0", "0 9 0 1",
         &format!("0 5 {MOST} 0"), &format!("0 5 {MOST} 1"), &format!("0 5 1 {MOST}"),
         &format!("0 5 {MOST} {MOST}"), &format!("0 5 {most_less} 3"), &format!("0 5 2 {most_less}"),
     ] {
-        assert_eq!(ask_range(rest), "12 0 0 0 0 -", "{rest}");
+        assert_eq!(ask_range(rest), "12 0 0 0 0 0 -", "{rest}");
     }
     for rest in ["0 1 0 0", "1 5 0 0", "0 2048 0 1", "1 2048 0 1", "0 4095 0 1", "0 65535 9 9"] {
-        assert_eq!(ask_range(rest), "10 0 0 0 0 -", "{rest}");
+        assert_eq!(ask_range(rest), "10 0 0 0 0 0 -", "{rest}");
     }
     for rest in ["2 5 0 1", "0 65536 0 1", "0 5 0 18446744073709551616", "0 5 0", "0 5 0 1 -"] {
         assert_eq!(ask_range(rest), "?", "{rest}");
     }
-    holds(&format!("readrange {bench} 000a 0 0 0 1"), "9 3 1 0 0 -");
-    holds("readrange 10000001 00 0 0 0 1", "4 0 0 0 0 -");
+    holds(&format!("readrange {bench} 000a 0 0 0 1"), "9 3 1 0 0 0 -");
+    holds("readrange 10000001 00 0 0 0 1", "4 0 0 0 0 0 -");
 }
 
 #[test]

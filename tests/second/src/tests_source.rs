@@ -10,12 +10,12 @@ fn image(text: &str) -> String {
 }
 
 fn sizes(d: &str, m: &str, expected: &[(u32, u32, u32)]) {
-    holds(&format!("check {d}"), "0 0 0");
+    holds(&format!("check {d}"), "0 0 0 0");
     for (number, start, length) in expected {
-        holds(&format!("table {d} {m} 0 {number}"), &format!("0 0 0 {start} {length}"));
+        holds(&format!("table {d} {m} 0 {number}"), &format!("0 0 0 0 {start} {length}"));
     }
     let (_, start, length) = expected[expected.len() - 1];
-    holds(&format!("layout {d} {m}"), &format!("0 0 0 {}", start + length));
+    holds(&format!("layout {d} {m}"), &format!("0 0 0 0 {}", start + length));
 }
 
 /// Section 5.4.2.1 prints -1 as an INT8 in three forms: 1111 1111, 1111 1110
@@ -25,7 +25,7 @@ fn section_5_4_2_1_minus_one() {
     let d = desc(&[table(0, 4), uint(1, 1), uint(1, 0), uint(1, 0), uint(1, 0)]);
     let m = "00fffe81";
     for (item, value) in [(2, 255), (3, 254), (4, 129)] {
-        holds(&format!("number {d} {m} {item} 0 0 0 0 0"), &format!("0 0 0 {value}"));
+        holds(&format!("number {d} {m} {item} 0 0 0 0 0"), &format!("0 0 0 0 {value}"));
     }
 }
 
@@ -34,8 +34,8 @@ fn section_5_4_2_1_minus_one() {
 fn section_5_8_set_of_16() {
     let d = desc(&[table(0, 3), uint(1, 1), uint(1, 2), set((2, 0, 8))]);
     let m = format!("0010{}", "5a".repeat(16));
-    holds(&format!("where {d} {m} 3 0 0 0 0 0"), "0 0 0 2 16");
-    holds(&format!("layout {d} {m}"), "0 0 0 18");
+    holds(&format!("where {d} {m} 3 0 0 0 0 0"), "0 0 0 0 2 16");
+    holds(&format!("layout {d} {m}"), "0 0 0 0 18");
 }
 
 /// Section 5.9, figures 7 and 8: a two by two array is sent as 0,0 0,1 1,0
@@ -54,15 +54,15 @@ fn section_5_9_two_dimensions() {
 #[test]
 fn section_5_9_zero_dimension() {
     let d = desc(&[table(0, 5), uint(1, 1), uint(1, 2), array((2, 0, 8), 1), uint(4, 0), uint(1, 0)]);
-    holds(&format!("where {d} 0000aa 5 0 0 0 0 0"), "0 0 0 2 1");
+    holds(&format!("where {d} 0000aa 5 0 0 0 0 0"), "0 0 0 0 2 1");
 }
 
 /// Section 6.2, format 4: "0.0001 is represented as 1" in an INT32.
 #[test]
 fn section_6_2_implied_point() {
     let d = desc(&[table(0, 2), uint(1, 1), uint(4, 0)]);
-    holds(&format!("number {d} 0001000000 2 0 0 0 0 0"), "0 0 0 1");
-    holds(&format!("number {d} 0100000001 2 0 0 0 0 0"), "0 0 0 1");
+    holds(&format!("number {d} 0001000000 2 0 0 0 0 0"), "0 0 0 0 1");
+    holds(&format!("number {d} 0100000001 2 0 0 0 0 0"), "0 0 0 0 1");
 }
 
 /// Section 6.2.1 prints valid numbers in characters. As NI_FORMAT 2 they are
@@ -97,15 +97,15 @@ fn section_6_3_3_dates() {
     };
     for (short, year) in [(0u32, 2000u32), (1, 2001), (89, 2089), (90, 1990), (99, 1999)] {
         let m = calendar(short);
-        holds(&format!("tier {d} {m} {year} 7 15 0 0 0"), "0 0 0 0 2");
-        holds(&format!("tier {d} {m} {year} 7 14 0 0 0"), "0 0 0 1 0");
-        holds(&format!("seasoned {d} {m} {year} 7 15"), "0 0 0 1");
-        holds(&format!("seasoned {d} {m} {year} 7 14"), "0 0 0 0");
+        holds(&format!("tier {d} {m} {year} 7 15 0 0 0"), "0 0 0 0 0 2");
+        holds(&format!("tier {d} {m} {year} 7 14 0 0 0"), "0 0 0 0 1 0");
+        holds(&format!("seasoned {d} {m} {year} 7 15"), "0 0 0 0 1");
+        holds(&format!("seasoned {d} {m} {year} 7 14"), "0 0 0 0 0");
     }
     for short in [100u32, 127] {
         let m = calendar(short);
-        holds(&format!("tier {d} {m} 2089 12 31 0 0 0"), "0 0 0 1 0");
-        holds(&format!("seasoned {d} {m} 2089 12 31"), "0 0 0 0");
+        holds(&format!("tier {d} {m} 2089 12 31 0 0 0"), "0 0 0 0 1 0");
+        holds(&format!("seasoned {d} {m} 2089 12 31"), "0 0 0 0 0");
     }
 }
 
@@ -145,13 +145,13 @@ fn section_9_1_1_table_00() {
         "02 0a 88 41424344 02 03 10 20 01 00 0b 01 02 03 00 00 {}",
         "00".repeat(29)
     ));
-    holds(&format!("check {d}"), "0 0 0");
-    holds(&format!("layout {d} {m}"), "0 0 0 48");
+    holds(&format!("check {d}"), "0 0 0 0");
+    holds(&format!("layout {d} {m}"), "0 0 0 0 48");
     // DEFAULT_SET_USED is item 6, at octet 8.
-    holds(&format!("where {d} {m} 6 0 0 0 0 0"), "0 0 0 8 1");
-    holds(&format!("number {d} {m} 6 0 0 0 0 0"), "0 0 0 3");
+    holds(&format!("where {d} {m} 6 0 0 0 0 0"), "0 0 0 0 8 1");
+    holds(&format!("number {d} {m} 6 0 0 0 0 0"), "0 0 0 0 3");
     // MFG_TBLS_WRITE is the last octet.
-    holds(&format!("where {d} {m} 22 0 0 0 0 0"), "0 0 0 47 1");
+    holds(&format!("where {d} {m} 22 0 0 0 0 0"), "0 0 0 0 47 1");
 }
 
 /// Section 9.1.2: "ED_MODEL ... left justified. For example 'ENG M3 '", an
@@ -177,9 +177,9 @@ fn section_9_1_2_model() {
     let model = "454e47204d332020";
     let m = image(&format!("00 20|41424344 {model} 01 02 03 04 {}", "12".repeat(8)));
     holds(&format!("octets {d} {m} 5 0 0 0 0 0"), model);
-    holds(&format!("table {d} {m} 0 1"), "0 0 0 2 24");
+    holds(&format!("table {d} {m} 0 1"), "0 0 0 0 2 24");
     let m = image(&format!("00 00|41424344 {model} 01 02 03 04 {}", "30".repeat(16)));
-    holds(&format!("table {d} {m} 0 1"), "0 0 0 2 32");
+    holds(&format!("table {d} {m} 0 1"), "0 0 0 0 2 32");
 }
 
 /// Section 9.2.3: "if the ID_CODE = 0 and MULTIPLIER = 2" in a BIT FIELD OF
@@ -201,9 +201,9 @@ fn section_9_2_3_unit_of_measure() {
         uint(1, 0),
     ]);
     for m in ["0000100000aabb", "0100001000aabb"] {
-        holds(&format!("number {d} {m} 3 0 0 0 0 0"), "0 0 0 4096");
-        holds(&format!("table {d} {m} 0 2000"), "0 0 0 5 2");
-        holds(&format!("table {d} {m} 0 2001"), "0 0 0 7 0");
+        holds(&format!("number {d} {m} 3 0 0 0 0 0"), "0 0 0 0 4096");
+        holds(&format!("table {d} {m} 0 2000"), "0 0 0 0 5 2");
+        holds(&format!("table {d} {m} 0 2001"), "0 0 0 0 7 0");
     }
 }
 
@@ -213,8 +213,8 @@ fn section_9_2_3_unit_of_measure() {
 fn section_9_2_6_ratios() {
     let d = desc(&[table(0, 1), uint(1, 1), table(15, 2), uint(4, 0), uint(4, 0)]);
     for m in ["00900100003c000000", "01000001900000003c"] {
-        holds(&format!("number {d} {m} 3 0 0 0 0 0"), "0 0 0 400");
-        holds(&format!("number {d} {m} 4 0 0 0 0 0"), "0 0 0 60");
+        holds(&format!("number {d} {m} 3 0 0 0 0 0"), "0 0 0 0 400");
+        holds(&format!("number {d} {m} 4 0 0 0 0 0"), "0 0 0 0 60");
     }
 }
 
@@ -401,9 +401,9 @@ fn annex_c_table_41() {
         let m = image(&format!("{t41}|{}", "00".repeat(29)));
         sizes(&d, &m, &[(41, 1, 6), (42, 7, 21), (44, 28, 4), (45, 32, 4)]);
         // ACCESS_PERMISSIONS of password 0 is the octet after its 20.
-        holds(&format!("where {d} {m} 12 1 0 0 0 0"), "0 0 0 27 1");
-        holds(&format!("where {d} {m} 11 2 0 19 0 0"), "0 0 0 26 1");
-        holds(&format!("where {d} {m} 11 2 0 20 0 0"), "11 0 0 0 0");
+        holds(&format!("where {d} {m} 12 1 0 0 0 0"), "0 0 0 0 27 1");
+        holds(&format!("where {d} {m} 11 2 0 19 0 0"), "0 0 0 0 26 1");
+        holds(&format!("where {d} {m} 11 2 0 20 0 0"), "25 0 0 1 0 0");
     }
 }
 
@@ -457,17 +457,17 @@ fn annex_c_table_51_set_3_blank() {
     for t51 in ["00|13 08 12 0a 0a 0900 8300", "01|13 08 12 0a 0a 0009 0083"] {
         let m = image(&format!("{t51}|{}", "00".repeat(95)));
         sizes(&d, &m, &[(51, 1, 9), (54, 10, 95)]);
-        holds(&format!("number {d} {m} 9 0 0 0 0 0"), "0 0 0 131");
-        holds(&format!("tier {d} {m} 1997 7 4 12 0 0"), "0 0 0 0 0");
-        holds(&format!("seasoned {d} {m} 1997 7 4"), "0 0 0 0");
-        holds(&format!("matrix {d} {m}"), &format!("0 0 0 {}", "0".repeat(660)));
+        holds(&format!("number {d} {m} 9 0 0 0 0 0"), "0 0 0 0 131");
+        holds(&format!("tier {d} {m} 1997 7 4 12 0 0"), "0 0 0 0 0 0");
+        holds(&format!("seasoned {d} {m} 1997 7 4"), "0 0 0 0 0");
+        holds(&format!("matrix {d} {m}"), &format!("0 0 0 0 {}", "0".repeat(660)));
     }
     // With the printed size of 131 octets instead, Table 54 isn't of the size that
     // document 01 gives.
     let d = desc(&[table(0, 1), uint(1, 1), table(51, 1), block(9), table(54, 1), block(131)]);
     let m = image(&format!("00|13 08 12 0a 0a 0900 8300|{}", "00".repeat(131)));
-    holds(&format!("tier {d} {m} 1997 7 4 12 0 0"), "20 0 0 0 0");
-    holds(&format!("matrix {d} {m}"), &format!("20 0 0 {}", "0".repeat(660)));
+    holds(&format!("tier {d} {m} 1997 7 4 12 0 0"), "20 0 0 0 0 0");
+    holds(&format!("matrix {d} {m}"), &format!("20 0 0 0 {}", "0".repeat(660)));
 }
 
 /// The same set with contents of our own: season 0 from 1 January 1990 (08DA
@@ -491,29 +491,29 @@ fn annex_c_table_51_set_3_with_contents() {
     ));
     let cells = format!("01020304{}05060708{}", "00".repeat(18), "00".repeat(18 + 22 * 13));
     for m in [least_first, most_first] {
-        holds(&format!("layout {d} {m}"), "0 0 0 105");
+        holds(&format!("layout {d} {m}"), "0 0 0 0 105");
         // 31 May 1997 was a Saturday: season 0, schedule 1.
-        holds(&format!("tier {d} {m} 1997 5 31 8 0 0"), "0 0 0 0 1");
+        holds(&format!("tier {d} {m} 1997 5 31 8 0 0"), "0 0 0 0 0 1");
         // 1 June 1997 was a Sunday: season 1, schedule 6.
-        holds(&format!("tier {d} {m} 1997 6 1 8 0 0"), "0 0 0 0 6");
+        holds(&format!("tier {d} {m} 1997 6 1 8 0 0"), "0 0 0 0 0 6");
         // 2 June 1997, a Monday: schedule 7; tier 7 until noon, then 0.
-        holds(&format!("tier {d} {m} 1997 6 2 11 59 0"), "0 0 0 0 7");
-        holds(&format!("tier {d} {m} 1997 6 2 12 0 0"), "0 0 0 0 0");
+        holds(&format!("tier {d} {m} 1997 6 2 11 59 0"), "0 0 0 0 0 7");
+        holds(&format!("tier {d} {m} 1997 6 2 12 0 0"), "0 0 0 0 0 0");
         // 25 December 1997: the special schedule, number 8, tier 0.
-        holds(&format!("tier {d} {m} 1997 12 25 11 59 1"), "0 0 0 0 0");
+        holds(&format!("tier {d} {m} 1997 12 25 11 59 1"), "0 0 0 0 0 0");
         // 1 January 1990, a Monday: season 0, schedule 3.
-        holds(&format!("tier {d} {m} 1990 1 1 0 0 0"), "0 0 0 0 3");
+        holds(&format!("tier {d} {m} 1990 1 1 0 0 0"), "0 0 0 0 0 3");
         // A season record stands at 1 January 1990: on or before every day.
-        holds(&format!("seasoned {d} {m} 1990 1 1"), "0 0 0 1");
-        holds(&format!("seasoned {d} {m} 2089 12 31"), "0 0 0 1");
-        holds(&format!("matrix {d} {m}"), &format!("0 0 0 {cells}"));
+        holds(&format!("seasoned {d} {m} 1990 1 1"), "0 0 0 0 1");
+        holds(&format!("seasoned {d} {m} 2089 12 31"), "0 0 0 0 1");
+        holds(&format!("matrix {d} {m}"), &format!("0 0 0 0 {cells}"));
         // Item 14, the date of record 2: 25 December 1997 is CE61 hex.
-        holds(&format!("number {d} {m} 14 1 2 0 0 0"), "0 0 0 52833");
+        holds(&format!("number {d} {m} 14 1 2 0 0 0"), "0 0 0 0 52833");
         // Item 30, special schedule 0 of season 1, is the last octet.
-        holds(&format!("where {d} {m} 30 2 1 0 0 0"), "0 0 0 104 1");
+        holds(&format!("where {d} {m} 30 2 1 0 0 0"), "0 0 0 0 104 1");
         // Items 24 and 26 stand in the branch for separate weekdays.
-        holds(&format!("where {d} {m} 24 1 0 0 0 0"), "11 0 0 0 0");
-        holds(&format!("where {d} {m} 26 2 0 0 0 0"), "11 0 0 0 0");
+        holds(&format!("where {d} {m} 24 1 0 0 0 0"), "23 0 0 0 0 0");
+        holds(&format!("where {d} {m} 26 2 0 0 0 0"), "23 0 0 0 0 0");
     }
 }
 
@@ -524,9 +524,9 @@ fn annex_c_table_51_other_sets() {
     let d = tou_tables();
     let m = image(&format!("00|{}", "00".repeat(9)));
     sizes(&d, &m, &[(51, 1, 9), (54, 10, 0)]);
-    holds(&format!("tier {d} {m} 1997 7 4 12 0 0"), "19 0 0 0 0");
-    holds(&format!("seasoned {d} {m} 1997 7 4"), "0 0 0 0");
-    holds(&format!("matrix {d} {m}"), &format!("0 0 0 {}", "0".repeat(660)));
+    holds(&format!("tier {d} {m} 1997 7 4 12 0 0"), "19 0 0 0 0 0");
+    holds(&format!("seasoned {d} {m} 1997 7 4"), "0 0 0 0 0");
+    holds(&format!("matrix {d} {m}"), &format!("0 0 0 0 {}", "0".repeat(660)));
 }
 
 /// Annex C, Table 61, set 4 (set 1 of the load profile only, since the other
@@ -571,12 +571,13 @@ fn annex_c_table_61() {
         let m = image(&format!("{t61}|{}", "00".repeat(23_440)));
         sizes(&d, &m, &[(61, 1, 13), (64, 14, 23_440)]);
         // Block 79, interval 95: its one status octet, then its one channel.
-        holds(&format!("where {d} {m} 22 2 79 95 0 0"), "0 0 0 23451 1");
-        holds(&format!("where {d} {m} 26 3 79 95 0 0"), "0 0 0 23452 2");
-        holds(&format!("where {d} {m} 24 3 79 95 0 0"), "11 0 0 0 0");
-        holds(&format!("where {d} {m} 12 1 1 0 0 0"), "0 0 0 307 5");
-        holds(&format!("number {d} {m} 3 0 0 0 0 0"), "0 0 0 16384");
-        holds(&format!("layout {d} {}", &m[..m.len() - 2]), "9 11 14 0");
+        holds(&format!("where {d} {m} 22 2 79 95 0 0"), "0 0 0 0 23451 1");
+        holds(&format!("where {d} {m} 26 3 79 95 0 0"), "0 0 0 0 23452 2");
+        // Bits 7..1 of one channel are 0: no status octet more.
+        holds(&format!("where {d} {m} 24 3 79 95 0 0"), "25 0 0 2 0 0");
+        holds(&format!("where {d} {m} 12 1 1 0 0 0"), "0 0 0 0 307 5");
+        holds(&format!("number {d} {m} 3 0 0 0 0 0"), "0 0 0 0 16384");
+        holds(&format!("layout {d} {}", &m[..m.len() - 2]), "9 11 14 0 0");
     }
     // Sets 1 to 3: all zero, so Table 64 has no octets.
     let m = image(&format!("00|{}", "00".repeat(13)));
@@ -627,12 +628,12 @@ fn annex_c_table_71() {
         sizes(&d, &m, &[(71, 1, 9), (72, 10, 4), (74, 14, 1411)]);
         // The last entry: its time, its event number, no sequence number, its
         // second argument octet.
-        holds(&format!("where {d} {m} 21 1 99 0 0 0"), "0 0 0 1411 6");
-        holds(&format!("where {d} {m} 23 1 99 0 0 0"), "0 0 0 1417 2");
-        holds(&format!("where {d} {m} 25 1 99 0 0 0"), "11 0 0 0 0");
-        holds(&format!("where {d} {m} 29 2 99 1 0 0"), "0 0 0 1424 1");
+        holds(&format!("where {d} {m} 21 1 99 0 0 0"), "0 0 0 0 1411 6");
+        holds(&format!("where {d} {m} 23 1 99 0 0 0"), "0 0 0 0 1417 2");
+        holds(&format!("where {d} {m} 25 1 99 0 0 0"), "23 0 0 0 0 0");
+        holds(&format!("where {d} {m} 29 2 99 1 0 0"), "0 0 0 0 1424 1");
         // MFG_EVENTS_SUPPORTED is a set of no octets.
-        holds(&format!("where {d} {m} 12 0 0 0 0 0"), "0 0 0 14 0");
+        holds(&format!("where {d} {m} 12 0 0 0 0 0"), "0 0 0 0 14 0");
     }
 }
 

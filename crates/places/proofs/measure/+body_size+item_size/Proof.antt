@@ -20,7 +20,6 @@ use Rattle.items.proofs.Cursor.past.Reads as past-reads
 use Rattle.items.proofs.Cursor.read.Reads as read-reads
 use Rattle.items.proofs.nests.Reads as nests-reads
 use Rattle.places.proofs.measure.array_span.Reads as array-span-reads
-use Rattle.places.proofs.measure.choice_span.Reads as choice-span-reads
 use Rattle.places.proofs.measure.inner_of.Reads as inner-of-reads
 use Rattle.places.proofs.measure.joined.Reads as joined-reads
 use Rattle.places.proofs.measure.leaf_span.Reads as leaf-span-reads
@@ -67,8 +66,6 @@ item-size-cs t = (
   body-size.Post,
   array-span-reads.Asked,
   array-span-reads.Learnt,
-  choice-span-reads.Asked,
-  choice-span-reads.Learnt,
   item-reads.Asked,
   item-reads.Learnt,
   leaf-span-reads.Asked,
@@ -138,10 +135,7 @@ pub +body-size+item-size-spec : {M : Type 1} → statement M
     (λ c.
     let b = c .before .before .before in
     array-done (item-entered t (b .before)) _ (b .body-size .ensures) (c .before .if2 .taken) (c .array-span .ensures))
-    (λ c κs. search needs)
-    (λ c.
-    let b = c .before .before .before in
-    choice-done (item-entered t (b .before)) _ (b .body-size .ensures) (c .before .if2 .left) (c .choice-span .ensures))
+    (λ c. let b = c .before .before in choice-done (item-entered t (b .before)) _ (b .body-size .ensures) (c .if2 .left))
     (λ c κs. search needs)
     (λ c κs. let b = c .before .before .before .before .before in (range-read _ _ (b .before .before .before .read .ensures), b .value .ensures .1))
     (λ c.

@@ -2,8 +2,7 @@
 use native.Mathlib.Omega.{arith}
 use borrow.Author.Needs.{needs}
 use borrow.Author.Tests.{lt-ltb, le-ltb}
-use Rattle.meaning.specs.Layout.{bitRange}
-use Rattle.laying.specs.Sizes.{value}
+use Rattle.meaning.specs.Layout.{bitRange, value}
 use Rattle.places.specs.Measuring.{numbersIn}
 use Rattle.places.proofs.Numbers.{value-few}
 use Rattle.places.proofs.measure.value.Statement.{statement}

@@ -11,11 +11,9 @@ onward-spec =
     (tie.spec
     (λ c. search needs)
     (λ c. search needs)
-    (λ c. search needs)
     (λ c κs. search needs)
     (λ c κs. search needs)
     (λ c. search needs)
     (λ c κs. search needs)
     (λ c. rw (c .enum-told .given .1))
-    (λ c. rw (c .enum-told2 .given .1))
     (λ c. rw (c .before .before .before .before .stands .given .1, c .cut3 .ensures, c .before .cut2 .ensures, c .before .before .cut .ensures)))

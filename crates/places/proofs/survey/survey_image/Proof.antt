@@ -42,9 +42,9 @@ survey-image-spec =
     (λ c κs. search needs)
     (λ c κs. search needs)
     (λ c.
-    let item = c .before .before .before .before .before .before .item in
-    let loop = c .before .before .before .before .before .before .before .loop in
-    let start = c .before .before .before .before .before .before .before .before .before .before .before .before .before in
-    let laid = c .before .before .before .before .before .before .before .loop .inv .0 in
-    laid-all _ _ _ _ laid (omega (arith, c .before .before .before .before .before .if1 .left, item .ensures, loop .inv .1)) _
-    (omega (arith, c .octet .ensures, c .before .before .in-image .ensures, c .before .before .before .new .ensures, laid .inside, start .pre .small))))
+    let item = c .before .before .before .before .before .before .before .item in
+    let loop = c .before .before .before .before .before .before .before .before .loop in
+    let start = c .before .before .before .before .before .before .before .before .before .before .before .before .before .before in
+    let laid = c .before .before .before .before .before .before .before .before .loop .inv .0 in
+    laid-all _ _ _ _ laid (omega (arith, c .before .before .before .before .before .before .if1 .left, item .ensures, loop .inv .1)) _
+    (omega (arith, c .octet .ensures, c .before .before .before .in-image .ensures, c .before .before .before .before .new .ensures, laid .inside, start .pre .small))))

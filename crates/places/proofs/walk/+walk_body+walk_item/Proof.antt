@@ -25,10 +25,8 @@ use Rattle.items.proofs.is_choice.Reads as is-choice-reads
 use Rattle.places.proofs.measure.chosen.Reads as chosen-reads
 use Rattle.places.proofs.measure.item_size.Reads as item-size-reads
 use Rattle.places.proofs.measure.leaf_span.Reads as leaf-span-reads
-use Rattle.places.proofs.measure.passed_over.Reads as passed-over-reads
 use Rattle.places.proofs.walk.value_here.Reads as value-here-reads
 use Rattle.places.proofs.walk.elsewhere.Reads as elsewhere-reads
-use Rattle.places.proofs.walk.past_choice.Reads as past-choice-reads
 use Rattle.places.proofs.walk.step.Reads as step-reads
 use Rattle.places.proofs.walk.+walk_body+walk_item.{statement}
 use Rattle.places.proofs.walk.+walk_body+walk_item.Tie.{close}
@@ -71,10 +69,6 @@ walk-item-cs t = (
   elsewhere-reads.Learnt,
   walk-body-below t,
   walk-body.Post,
-  passed-over-reads.Asked,
-  passed-over-reads.Learnt,
-  past-choice-reads.Asked,
-  past-choice-reads.Learnt,
   item-size-reads.Asked,
   item-size-reads.Learnt,
   step-reads.Asked,
@@ -154,10 +148,9 @@ pub +walk-body+walk-item-spec : {M : Type 1} → statement M
     (λ c κs. let g = item-choosing t c in (omega (arith, level-left (g .enters), item-start t (c .before .before .before .before .before) .pre .0), through-ready g))
     (λ c. choice-stops (item-choosing t (c .before .before)) (c .before .walk-body .ensures) (c .if2 .taken))
     (λ c κs. search needs)
-    (λ c κs. search needs)
     (λ c.
-    let b = c .before .before in
-    choice-walks (item-choosing t (b .before .before)) (b .before .walk-body .ensures) (b .if2 .left) (c .before .passed-over .ensures) (c .past-choice .ensures))
+    let b = c .before in
+    choice-walks (item-choosing t (b .before .before)) (b .before .walk-body .ensures) (b .if2 .left) (c .elsewhere2 .ensures))
     (λ c κs. item-here t (c .before .before .before .before .before) .item .ready)
     (λ c κs. let b = c .before .before .before in array-step (item-here t (b .before .before .before .before)) (b .if3 .taken) (c .before .item-size .ensures))
     (λ c.

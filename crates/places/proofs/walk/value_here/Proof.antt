@@ -2,7 +2,7 @@
 use native.Mathlib.Omega.{arith}
 use borrow.Author.Tests.{le-ltb}
 use borrow.Author.Needs.{needs}
-use Rattle.laying.specs.Sizes.{value}
+use Rattle.meaning.specs.Layout.{value}
 use Rattle.places.proofs.walk.value_here.Statement.{statement}
 use Rattle.places.proofs.walk.value_here.Tie as tie
 
