@@ -2,3 +2,4 @@
 //
 // specs/ says it in document 01's words: days and weekdays, what is chosen among records, the
 // matrix cell by cell; proofs/ shows it of the definitions of crate `meaning`.
+#![tactic(auto)]

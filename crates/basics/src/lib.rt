@@ -2,6 +2,8 @@
 // of two, and whether octets end within a size.
 //
 // `a && b` in an `if` leaves two ways to its `else`, and a proof has to go both; these have one.
+#![tactic(auto)]
+
 ghost use Rattle.std.specs.Prelude.{◌≡◌, ◌&&◌, ◌||◌, ◌+◌, ◌/◌, ◌%◌, ◌^◌, ◌<◌, min, leb};
 
 pub fn both(a: bool, b: bool) -> bool

@@ -5,6 +5,7 @@
 // Nothing is kept. Memory is lent to be read, but for an image that is to be written, the cells of
 // the matrix and the room for a message: what those hold afterwards is stated too, for answers and
 // refusals.
+#![tactic(auto)]
 ghost use Rattle.std.specs.Prelude.{◌≡◌, [], get_or};
 ghost use Rattle.meaning.specs.Refusals.{told_by, verdict_reply, place_reply};
 ghost use Rattle.meaning.specs.Calendar.{matrix_reply, matrix_verdict, cells_after};

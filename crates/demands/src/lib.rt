@@ -19,3 +19,4 @@
 // Forms: the forms of messages, without a program. Sending, Reading, Undoing, Serving, Messages: ours have them.
 // Only and what begins with its name: the demands decide every reply and every message. Wrong, WrongCauses,
 // WrongMessages, WrongWeekdays: the wrong programs.
+#![tactic(auto)]

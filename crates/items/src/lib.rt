@@ -3,6 +3,8 @@
 // Nothing is refused here: a word that is no item reads as malformed, of kind 0, and so does what
 // stands past the last item. A place can't be made elsewhere: callers start before the first item
 // and move on from there.
+#![tactic(auto)]
+
 ghost use Rattle.std.specs.Prelude.{◌≡◌, ◌+◌, ◌<◌, ◌≤◌, min};
 ghost use Rattle.meaning.specs.Basics.{if◌then◌else◌, bits};
 ghost use Rattle.meaning.specs.Description.{item_count, word_at, own_octets, referring, malformed, names_slot, octets_of_code, table_of, uint_of, block_of, set_of, array_of, if_of, fields_of, is_choice, nests};

@@ -2,3 +2,4 @@
 //
 // specs/ has the size of an item for given numbers of the slots, the row that says where its
 // elements stand, and what of a tree these lean on; proofs/ shows them of laying out.
+#![tactic(auto)]

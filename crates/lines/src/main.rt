@@ -1,5 +1,6 @@
 // Reads requests from standard input, a line each, and writes one reply line for each to standard
 // output, in order, until the input ends. Nothing is kept between lines.
+#![tactic(auto)]
 mod ask;
 mod input;
 mod memory;

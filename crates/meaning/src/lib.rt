@@ -1,5 +1,6 @@
 // What a description's items are, what each question answers, and why it may be refused: the values that pass between the layers and to callers.
 // No function stands here. The definitions in specs/ say what these values mean, section by section of document 01; the layers above make them.
+#![tactic(auto)]
 
 use offsets::ImageOffset;
 

@@ -5,6 +5,7 @@
 // octet on; where it doesn't fit, or a number doesn't fit its field, the call is refused by 21 and
 // changes no octet. What a request asks of the tables is asked of the layers below. A write's reply
 // is one octet, so that it fits is known before the write is made.
+#![tactic(auto)]
 mod check;
 mod replying;
 mod requests;

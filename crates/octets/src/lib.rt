@@ -4,6 +4,8 @@
 // Any place and any length may be given. A part ends where the image ends. A number of octets that
 // don't all lie inside the image, or of more than 8, is read as 0; what is to be written and doesn't
 // lie inside leaves the image as it was.
+#![tactic(auto)]
+
 ghost use Rattle.std.specs.Prelude.{◌≡◌, ◌+◌, ◌^◌, ◌<◌, ◌≤◌, min, length};
 ghost use Rattle.meaning.specs.Basics.{part, number_in, octets_in};
 ghost use Rattle.meaning.specs.Layout.{data_order};

@@ -4,6 +4,8 @@
 // function that takes an offset in a table to one in the image belongs to the table's start. Table
 // starts come from one another, the first at octet 0, as tables follow one another. Nothing is
 // asked of any number: a sum that can't be counted stands at the last number that can.
+#![tactic(auto)]
+
 ghost use Rattle.std.specs.Prelude.{◌≡◌, ◌+◌, min};
 
 // A place in a table, counted from the table's first octet.

@@ -6,6 +6,7 @@
 // over the description's items once, and finds for an element's item a row, of which the place of
 // any of its elements is told by arithmetic. Why there is no such element is told by the items before
 // its own, which are looked at once more then.
+#![tactic(auto)]
 mod measure;
 mod rows;
 mod survey;

@@ -2,6 +2,8 @@
 // number is turned into its value here too.
 //
 // What is told is a refusal, all 0 where nothing is refused, and two numbers of the answer's own.
+#![tactic(auto)]
+
 ghost use Rattle.std.specs.Prelude.{◌≡◌};
 ghost use mathlib.Core.List.{flatten};
 ghost use Rattle.meaning.specs.Refusals.{refused_with, answered, told_by, told_numbers, verdict_reply, place_reply};

@@ -6,6 +6,7 @@
 // asked by `check::same`, of the kit.
 //
 // What each function answers, and what it leaves in memory that it is lent, is said in specs/.
+#![tactic(auto)]
 mod decimal;
 mod hex;
 mod line;
