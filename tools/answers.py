@@ -60,7 +60,7 @@ class Names:
 
 def resolve(path, names, place, said):
     """A path of an old proof, behind its first name, as this kit spells it."""
-    segs = path.split('.')[1:]
+    segs = [re.sub('^well-formed$', 'well_formed', s) for s in path.split('.')[1:]]
     while segs and segs[0] == 'before':
         place = names.parent.get(place)
         if place is None:
@@ -79,6 +79,8 @@ def resolve(path, names, place, said):
             break
         at = names.parent.get(at)
     rest = segs[1:]
+    if found:
+        head = found[0]
     for n in range(len(rest), -1, -1):
         for key in ((head, tuple(rest[:n])),):
             if key in names.arms:
