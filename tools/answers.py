@@ -74,7 +74,7 @@ def resolve(path, names, place, said):
     at, found = place, None
     while at is not None:
         old = names.step[at][0]
-        if old and old.replace('_', '-') == head.replace('_', '-'):
+        if old and old.replace('_', '-').lower() == head.replace('_', '-').lower():
             found = names.step[at]
             break
         at = names.parent.get(at)
