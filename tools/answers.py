@@ -282,6 +282,8 @@ def convert(crate, path, table):
         if right == 'tt':
             continue
         right = turn_body(right, names, place, said, pattern[0])
+        # a test of `!x` tells of x itself now
+        right = re.sub(r'not-(?:true|false) [^\s()]+ (c\.if-not-[^\s(),]+\.(?:true|false))', r'\1', right)
         right = by_clauses(right, new, path.split('/')[-1])
         answers.append((new, pattern, unfold, right))
     heading = '\n'.join(head) + '\n' if head else ''
