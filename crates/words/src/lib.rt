@@ -7,6 +7,7 @@
 //
 // What each function answers, and what it leaves in memory that it is lent, is said in specs/.
 #![tactic(auto)]
+
 mod decimal;
 mod hex;
 mod line;
@@ -15,6 +16,6 @@ mod types;
 
 pub use decimal::number;
 pub use hex::octets;
-pub use line::{index_of, split, word};
+pub use line::{find, index_of, split, word};
 pub use reply::{put_number, put_octet, put_octets, put_text};
 pub use types::{Number, Octets, Words};
