@@ -16,6 +16,6 @@ mod types;
 
 pub use decimal::number;
 pub use hex::octets;
-pub use line::{find, index_of, split, word};
+pub use line::{index_of, split, word};
 pub use reply::{put_number, put_octet, put_octets, put_text};
 pub use types::{Number, Octets, Words};

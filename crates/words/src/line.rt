@@ -7,7 +7,7 @@ use crate::types::Words;
 
 // The place of the first octet b at or after `from`; the text's end where there is none. Where `from`
 // is past the end, it is the answer.
-pub fn find(text: &[u8], from: usize, b: u8) -> usize
+fn find(text: &[u8], from: usize, b: u8) -> usize
     ensures value { result ≡ from + first_of b (drop from text.now) }
     ensures within { from ≤ length text.now → result ≤ length text.now }
 {

@@ -1,4 +1,4 @@
--- `words::find`. The loop's invariant, `Passed`: the octet is none of those from place `from` up to place i. The measure is the number
+-- `words::line::find`. The loop's invariant, `Passed`: the octet is none of those from place `from` up to place i. The measure is the number
 -- of octets left. Assumes nothing.
 use Prim.Native.Nat.{◌-◌}
 use lib.ListN.{length}
