@@ -74,7 +74,7 @@ def resolve(path, names, place, said):
     at, found = place, None
     while at is not None:
         old = names.step[at][0]
-        if old and old.replace('_', '-') == head.replace('_', '-'):
+        if old and old.replace('_', '-').lower() == head.replace('_', '-').lower():
             found = names.step[at]
             break
         at = names.parent.get(at)
@@ -261,6 +261,7 @@ def convert(crate, path, table):
         if right == 'tt':
             continue
         right = turn_body(right, names, place, said, pattern[0])
+        right = by_clauses(right, new, path.split('/')[-1])
         answers.append((new, pattern, unfold, right))
     heading = '\n'.join(head) + '\n' if head else ''
     if given:
@@ -279,12 +280,85 @@ def convert(crate, path, table):
             out += '\n' + ''.join(c + '\n' for c in comment) + '\n'.join(block) + '\n'
         for new, pattern, unfold, right in answers:
             sep = '\n    ' if '\n' in right or len(right) > 100 else ' '
-            args = ' '.join(['c'] + pattern[1:])
+            args = 'c'
             out += f'\npub {new} : goal.{new}\n' + ''.join(u + '\n' for u in unfold) + f'{new} {args} ={sep}{right}\n'
         with open(os.path.join(folder, 'Answers.antt'), 'w', encoding='utf-8') as f:
             f.write(out)
     os.remove(os.path.join(folder, 'Proof.antt'))
     return ('ok, look: ' + '; '.join(said)) if said else 'ok'
+
+
+CLAUSES = {}
+
+
+def clauses():
+    """Of each function of src/ the names of its requires and its ensures, where it has more than one of a kind."""
+    for folder, dirs, fs in os.walk('crates'):
+        dirs[:] = [d for d in dirs if d != 'out']
+        for f in fs:
+            if not f.endswith('.rt'):
+                continue
+            with open(os.path.join(folder, f), encoding='utf-8') as it:
+                text = re.sub(r'//.*', '', it.read())
+            for m in re.finditer(r'\bfn (\w+)(.*?)\n *\{\n', text, re.S):
+                for kind in ('requires', 'ensures'):
+                    found = re.findall(kind + r'\*? (\w+) \{', m[2])
+                    if found:
+                        CLAUSES[(m[1], kind)] = found
+
+
+def by_clauses(right, goal, own):
+    """A tuple for several named clauses as a record of them."""
+    if not CLAUSES:
+        clauses()
+    if goal.startswith('returns'):
+        found = CLAUSES.get((own, 'ensures'))
+    elif re.search(r'-requires(-|$)', goal):
+        found = CLAUSES.get((re.match(r'(\w+)', goal)[1], 'requires'))
+    else:
+        return right
+    if not found:
+        return right
+    # behind the lets
+    at = 0
+    for m in re.finditer(r'\bin\b', right):
+        if right[:m.end()].count('(') == right[:m.end()].count(')') and right.lstrip().startswith('let'):
+            at = m.end()
+    head, term = right[:at], right[at:].strip()
+    flat = []
+    while True:
+        if not (term.startswith('(') and term.endswith(')') and len(split_terms(term)) == 1):
+            return right
+        parts, depth, cur = [], 0, ''
+        for ch in term[1:-1]:
+            depth += (ch in OPEN) - (ch in CLOSE)
+            if ch == ',' and depth == 0:
+                parts.append(cur.strip())
+                cur = ''
+            else:
+                cur += ch
+        if cur.strip():
+            parts.append(cur.strip())
+        break
+    if len(parts) == 2 and len(found) > 2:
+        # nested to the right
+        while len(parts) < len(found) and parts[-1].startswith('('):
+            inner, depth, cur = [], 0, ''
+            for ch in parts[-1][1:-1]:
+                depth += (ch in OPEN) - (ch in CLOSE)
+                if ch == ',' and depth == 0:
+                    inner.append(cur.strip())
+                    cur = ''
+                else:
+                    cur += ch
+            if cur.strip():
+                inner.append(cur.strip())
+            if len(inner) < 2:
+                break
+            parts = parts[:-1] + inner
+    if len(parts) != len(found):
+        return right
+    return (head + ' ' if head else '') + 'record { ' + '; '.join(f'{n} = {p}' for n, p in zip(found, parts)) + ' }'
 
 
 def keep_used(use, text):
