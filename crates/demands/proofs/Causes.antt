@@ -83,8 +83,8 @@ module _ (d : List ℕ) (i : ℕ) where
       go false is false true = omega arith
       go false is false false = omega arith
 
-  pub depth_is : (k : ℕ) → k ≤ i → why.arraysRound d k i ≡ depth_of d k i
-  unfolding why.arraysRound nests_in arrays_of
+  pub depth_is : (k : ℕ) → k ≤ i → why.arrays_round d k i ≡ depth_of d k i
+  unfolding why.arrays_round nests_in arrays_of
   depth_is zero l = refl
   depth_is (suc j) l =
       let e : j + 1 ≡ suc j = omega arith in
@@ -132,9 +132,9 @@ module _ (d : List ℕ) (v : Numbers) (q : ElementName) where
       go : (a : Bool) → is_array f ≡ a → (b : Bool) → why.encloses f at i ≡ b → (c : Bool) → is_choice f ≡ c
           → ((x : ℕ) → x ≡ count (is_array f && why.encloses f at i) + depth_of d at i → or_nothing (first_of (nest_tests n (at + 1))) ≡ in_the_way d v q.item (subscripts_of q) n (at + 1) x)
           → or_nothing (first_of (map (at_nest d v q) (if (a || c) && b then at ∷ nests_in d n (at + 1) i else nests_in d n (at + 1) i)))
-          ≡ (if a && b then (if why.isBelow d v (subscripts_of q) at k then in_the_way d v q.item (subscripts_of q) n (at + 1) (k + 1) else subscript_too_large k)
+          ≡ (if a && b then (if why.is_below d v (subscripts_of q) at k then in_the_way d v q.item (subscripts_of q) n (at + 1) (k + 1) else subscript_too_large k)
           else if c && b then (if why.is_taken d v q.item at then in_the_way d v q.item (subscripts_of q) n (at + 1) k else branch_not_chosen) else in_the_way d v q.item (subscripts_of q) n (at + 1) k)
-      go true is true en c ch rest = rw (is, ← e) (below (why.isBelow d v (subscripts_of q) at k))
+      go true is true en c ch rest = rw (is, ← e) (below (why.is_below d v (subscripts_of q) at k))
         where
           below : (b : Bool) → or_nothing (first_of (given (not b) (subscript_too_large k) ∷ nest_tests n (at + 1))) ≡ (if b then in_the_way d v q.item (subscripts_of q) n (at + 1) (k + 1) else subscript_too_large k)
           below true = rest (k + 1) (rw (is, en) (omega arith))
