@@ -58,6 +58,11 @@ class Names:
                 self.all_steps.setdefault(old, new)
 
 
+def plain(step):
+    # the kit's script and ours turned a few steps that are spelled like names of a library or of ours
+    return re.sub('_lem$', '', step.replace('-', '_')).lower()
+
+
 def resolve(path, names, place, said):
     """A path of an old proof, behind its first name, as this kit spells it."""
     segs = [re.sub('^well-formed$', 'well_formed', s) for s in path.split('.')[1:]]
@@ -74,7 +79,7 @@ def resolve(path, names, place, said):
     at, found = place, None
     while at is not None:
         old = names.step[at][0]
-        if old and old.replace('_', '-').lower() == head.replace('_', '-').lower():
+        if old and plain(old) == plain(head):
             found = names.step[at]
             break
         at = names.parent.get(at)

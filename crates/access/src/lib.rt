@@ -24,7 +24,7 @@ const TABLE: u32 = 1;
 
 // WHAT THE DESCRIPTION SAYS OF AN ITEM
 // An item, and the table that it stands in: the latest TABLE before it.
-#[derive(Drop)]
+#[derive(Clone, Copy)]
 struct Seen {
     fields: Fields,
     table: Fields,

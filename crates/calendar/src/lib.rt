@@ -24,7 +24,7 @@ const EACH_DAY: usize = 7;
 const SHARED: usize = 3;
 
 // Where the parts of Table 54 stand, how wide a row of the matrix is, and how long the table is.
-#[derive(Drop)]
+#[derive(Clone, Copy)]
 struct Sections {
     dates: usize,
     switches: usize,
@@ -34,7 +34,7 @@ struct Sections {
 }
 
 // Where the calendar is: what Table 51 says, and Table 54's octets; or why there is none.
-#[derive(Drop)]
+#[derive(Clone, Copy)]
 enum Calendar {
     At {
         controls: Controls,

@@ -10,7 +10,7 @@ use basics::{both, either};
 use meaning::{Date, Refusal, Reply};
 
 // A day's number, 1 January 1990 being 0; or that there is no such date.
-#[derive(Drop)]
+#[derive(Clone, Copy)]
 pub enum Day {
     NotReal,
     Number(u32),

@@ -9,7 +9,7 @@ use crate::reply;
 use libc::{STDIN_FILENO, STDOUT_FILENO};
 
 // Where reading stands: how many octets of an unfinished line are held, and whether to go on.
-#[derive(Drop)]
+#[derive(Clone, Copy)]
 pub struct Stand {
     pub held: usize,
     pub going: bool,

@@ -9,7 +9,7 @@ use crate::rows;
 use meaning::Reply;
 
 // What a row told: its numbers, and how many octets.
-#[derive(Drop)]
+#[derive(Clone, Copy)]
 pub struct Answered {
     pub numbers: [u64; 6],
     pub count: usize,

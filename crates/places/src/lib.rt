@@ -25,7 +25,7 @@ use survey::{Asked, Standing, TableFound, TableName, open_image};
 use why::{suits, why_none};
 
 // Where two tables are.
-#[derive(Drop)]
+#[derive(Clone, Copy)]
 pub struct Places {
     pub first: Place,
     pub second: Place,
@@ -33,7 +33,7 @@ pub struct Places {
 
 // A table that a range may lie in: its item, where it starts, how long it is, and whether the range
 // lies in it and holds an octet of a dimension; or why there is none.
-#[derive(Drop)]
+#[derive(Clone, Copy)]
 pub enum Ranged {
     In {
         item: usize,
@@ -45,7 +45,7 @@ pub enum Ranged {
 }
 
 // An element where it stands, or none.
-#[derive(Drop)]
+#[derive(Clone, Copy)]
 pub enum ElementFound {
     Missing,
     Here { start: ImageOffset, length: usize },

@@ -13,7 +13,7 @@ use dates::Day;
 use meaning::{Chosen, Quantity, Triple};
 
 // What is wanted of some records.
-#[derive(Drop)]
+#[derive(Clone, Copy)]
 pub enum Wanted {
     // The season on a day, the special schedule on a day.
     Season {

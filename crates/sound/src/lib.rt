@@ -210,7 +210,7 @@ fn lowest_broken(d: &[u8], f: Fields, i: usize, r: Round, slots: &[u8; 64]) -> u
 
 // THE CHECK
 // One item judged: the rule that it breaks (0: none), its fields, and the next place.
-#[derive(Drop)]
+#[derive(Clone, Copy)]
 struct Judged {
     rule: u32,
     fields: Fields,
@@ -246,7 +246,7 @@ fn inside(f: Fields, end: usize, r: Round) -> Round
 
 // The number of the rule that the item at `place` breaks, the first to break one; or 0, and the body
 // ends at `place` with these slots set.
-#[derive(Drop)]
+#[derive(Clone, Copy)]
 struct Checked {
     rule: u32,
     place: Cursor,
