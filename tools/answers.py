@@ -192,7 +192,7 @@ def convert(crate, path, table):
     own, spec, others = {}, None, []
     for comment, block in decls:
         first = block[0]
-        m = re.match(r'^(?:abbrev |pub |unfoldable )*(\S+) : tie\.(\S+)$', first)
+        m = re.match(r'^(?:abbrev |pub |unfoldable )*(\S+) : tie\.(\S+)(?: .*)?$', first)
         if m:
             own[m[1]] = (m[2], comment, block)
         elif re.search(r': \{M : Type 1\} → statement M$', first):
@@ -211,11 +211,27 @@ def convert(crate, path, table):
     if m[1].strip():
         return 'before tie.close: ' + m[1].strip()[:80]
     inner = paren(m[2])
-    if not inner.startswith('tie.spec'):
+    searched = inner.startswith('search (tie.spec')
+    if not searched and not inner.startswith('tie.spec'):
         return 'no tie.spec'
-    terms = split_terms(inner[len('tie.spec'):])
     loops = table['loops']
     n = 2 * len(loops)
+    if searched:
+        # the check finds the rest
+        by_old = {old: new for old, new in table['needs']}
+        wanted = {it[0].replace('_', '-'): name for name, it in own.items()}
+        terms = []
+        for (old, new), _ in loops:
+            for kind in ('invariant', 'decreases'):
+                terms.append(wanted.get(f'{kind}-{old}'.replace('_', '-')))
+        for old, new in table['needs']:
+            terms.append(wanted.get('Need-' + old.replace('_', '-')) or '(λ c. search rules)')
+        left = [k for k in wanted if k.startswith('Need-') and k[5:] not in [o.replace('_', '-') for o in by_old]]
+        if left or None in terms:
+            return f'goals {left} not among {sorted(by_old)}, {terms}'
+        unfolding = []
+    else:
+        terms = split_terms(inner[len('tie.spec'):])
     if len(terms) - n != len(table['needs']):
         return f"{len(terms) - n} answers, {len(table['needs'])} goals: {[a for a, b in table['needs']]}"
     said = []

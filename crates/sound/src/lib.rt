@@ -4,6 +4,7 @@
 // item that breaks a rule. No memory is written. The definitions say the rules flat, item by item;
 // the code goes down into bodies, so that what encloses an item is at hand.
 #![tactic(auto)]
+
 ghost use Rattle.std.specs.Prelude.{◌≡◌, ◌&&◌, ◌+◌, ◌<◌, ◌≤◌, length, get_or};
 ghost use Rattle.meaning.specs.Basics.{if◌then◌else◌};
 ghost use Rattle.meaning.specs.Ranges.{FieldsRange};
