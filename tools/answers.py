@@ -37,12 +37,13 @@ def split_terms(text):
 class Names:
     def __init__(self, table):
         self.t = table
-        self.parent, self.step, self.arms, self.order = {}, {}, {}, []
+        self.parent, self.step, self.arms, self.order, self.callee = {}, {}, {}, [], {}
         for entry in table['places']:
             place, parent, (old, new) = entry[0], entry[1], entry[2]
             self.parent[place] = parent
             self.step[place] = (old, new)
             self.order.append(place)
+            self.callee[place] = entry[3]
         for place, arm in zip(self.order, table['arms']):
             if arm:
                 for field, at, path in arm[2]:
@@ -57,14 +58,20 @@ class Names:
             if old:
                 self.all_steps.setdefault(old, new)
 
+    def up(self, place):
+        while place is not None:
+            yield place
+            place = self.parent.get(place)
+
 
 def plain(step):
     # the kit's script and ours turned a few steps that are spelled like names of a library or of ours
     return re.sub('_lem$', '', step.replace('-', '_')).lower()
 
 
-def resolve(path, names, place, said):
+def resolve(path, names, place, said, start=None):
     """A path of an old proof, behind its first name, as this kit spells it."""
+    start = start or place
     segs = [re.sub('^well-formed$', 'well_formed', s) for s in path.split('.')[1:]]
     while segs and segs[0] == 'before':
         place = names.parent.get(place)
@@ -77,15 +84,21 @@ def resolve(path, names, place, said):
     head = segs[0]
     # the places up from here: the step with that name
     at, found = place, None
+    if not any(names.step[p][0] and plain(names.step[p][0]) == plain(head) for p in names.up(place)):
+        # today's chain of steps may be another
+        at = start
     while at is not None:
         old = names.step[at][0]
         if old and plain(old) == plain(head):
             found = names.step[at]
+            rest_of = names.callee[at]
             break
         at = names.parent.get(at)
     rest = segs[1:]
     if found:
         head = found[0]
+        if rest_of and len(rest) > 1 and rest[0] == 'ensures' and rest[1].isdigit():
+            rest = ['ensures'] + clause_at(rest_of, rest[1:])
     for n in range(len(rest), -1, -1):
         for key in ((head, tuple(rest[:n])),):
             if key in names.arms:
@@ -111,12 +124,13 @@ def turn_body(body, names, place, said, var='c'):
         if m.start() and body_now[m.start() - 1] in '.':
             return word
         if head in aliases:
-            new, at = resolve(word, names, aliases[head], said)
+            new, at = resolve(word, names, aliases[head], said, place)
             if new is None:
                 return 'c' if word == head or True else word
             return 'c' + new
         if head in texts:
-            return texts[head] + word[len(head):]
+            path, at = texts[head]
+            return 'c' + resolve(path + word[len(head):], names, at, said, place)[0]
         return word
 
     while True:
@@ -127,13 +141,13 @@ def turn_body(body, names, place, said, var='c'):
         head = path.split('.')[0]
         if head not in aliases:
             break
-        new, at = resolve(path, names, aliases[head], said)
+        new, at = resolve(path, names, aliases[head], said, place)
         before = body[:m.start()]
         after = body[m.end():]
         if new is None:
             aliases[name] = at
         else:
-            texts[name] = 'c' + new
+            texts[name] = (path, aliases[head])
         body = before + after
         # what else the alias was used for stays under its name until the end
     body_now = body
@@ -282,6 +296,9 @@ def convert(crate, path, table):
         if right == 'tt':
             continue
         right = turn_body(right, names, place, said, pattern[0])
+        right = re.sub(r'(c\.args\.\w+)\.ptr\b', r'\1.ref_ptr', right)
+        # a test of `!x` tells of x itself now
+        right = re.sub(r'not-(?:true|false) [^\s()]+ (c\.if-not-[^\s(),]+\.(?:true|false))', r'\1', right)
         right = by_clauses(right, new, path.split('/')[-1])
         answers.append((new, pattern, unfold, right))
     heading = '\n'.join(head) + '\n' if head else ''
@@ -312,6 +329,26 @@ def convert(crate, path, table):
 CLAUSES = {}
 
 
+def clause_at(callee, numbers):
+    """The name of the clause that the numbers of nested pairs point to."""
+    if not CLAUSES:
+        clauses()
+    parts = callee.split('::')
+    found = CLAUSES.get((parts[0], parts[-1], 'ensures'))
+    if not found:
+        return numbers
+    at, i = 0, 0
+    while i < len(numbers) and numbers[i] == '1' and at < len(found) - 1:
+        at += 1
+        i += 1
+    if at < len(found) - 1:
+        if i < len(numbers) and numbers[i] == '0':
+            i += 1
+        else:
+            return numbers
+    return [found[at]] + numbers[i:]
+
+
 def clauses():
     """Of each function of src/ the names of its requires and its ensures, where it has more than one of a kind."""
     for folder, dirs, fs in os.walk('crates'):
@@ -325,7 +362,7 @@ def clauses():
                 for kind in ('requires', 'ensures'):
                     found = re.findall(kind + r'\*? (\w+) \{', m[2])
                     if found:
-                        CLAUSES[(m[1], kind)] = found
+                        CLAUSES[(m[1], kind)] = CLAUSES[(folder.split('/')[1], m[1], kind)] = found
 
 
 def by_clauses(right, goal, own):
@@ -349,7 +386,10 @@ def by_clauses(right, goal, own):
     flat = []
     while True:
         if not (term.startswith('(') and term.endswith(')') and len(split_terms(term)) == 1):
-            return right
+            if term.startswith('record') or term == 'search rules' or len(found) != 2:
+                return right
+            # a lemma that gives both
+            return (head + ' ' if head else '') + f'let both = {term} in record {{ {found[0]} = both.0; {found[1]} = both.1 }}'
         parts, depth, cur = [], 0, ''
         for ch in term[1:-1]:
             depth += (ch in OPEN) - (ch in CLOSE)

@@ -7,6 +7,7 @@
 // any of its elements is told by arithmetic. Why there is no such element is told by the items before
 // its own, which are looked at once more then.
 #![tactic(auto)]
+
 mod measure;
 mod rows;
 mod survey;
