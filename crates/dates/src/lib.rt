@@ -1,6 +1,7 @@
 // Dates and times of day: whether they are real, a date's day number, the weekday. Years from 1990 to
 // 2089; any numbers may be given.
 #![tactic(auto)]
+
 ghost use Rattle.std.specs.Prelude.{◌≡◌, ◌≤◌};
 ghost use Rattle.meaning.specs.Calendar.{leap, month_length, real_date, real_time, year_days, month_days, weekday_of, weekday_reply};
 ghost use Rattle.dates.specs.Days.{day_of};

@@ -17,7 +17,7 @@ use Rattle.meaning.specs.declared.Refusal.{Refusal}
 use Rattle.meaning.specs.Causes as why
 use Rattle.meaning.specs.Causes.{subscripts_of, in_branch, in_the_way, suits, why_none}
 use Rattle.meaning.specs.Description.{item_count, fields_at, is_uint, is_element, is_array, is_choice, nests, count}
-use Rattle.meaning.specs.Layout.{Numbers, value, branches_in, if_branches, branches_of, taken}
+use Rattle.meaning.specs.Layout.{Numbers, value, branches_in, if_branches, taken}
 use Rattle.meaning.specs.Numbers.{nothing_refused, not_an_element, branch_not_chosen, subscript_count, subscript_too_large, not_aNumber}
 use Rattle.meaning.specs.Passed.{Exactly, end_of}
 use Rattle.meaning.proofs.Causes.{way_none, way_step}
@@ -25,7 +25,7 @@ use Rattle.meaning.proofs.Either.{clash}
 use Rattle.demands.specs.Causes.{is_one, is_other, is_counted, depth_of, is_open, told_at, at_nest, causes_of, Addressed, InTheWay, Clear, Unchosen, TooLarge, CausesSay}
 use Rattle.demands.specs.Given.{given, first_of}
 use Rattle.demands.specs.Rules.{NestRound}
-use Rattle.demands.specs.Walk.{encloses, nests_in, nests_round, arrays_of, arrays_round, in_chosen, all_chosen, is_chosen, all_below, has_element, exists}
+use Rattle.demands.specs.Walk.{encloses, nests_in, arrays_of, arrays_round, in_chosen, all_chosen, is_chosen, all_below, has_element, exists}
 use Rattle.demands.proofs.Around.{nests_to, to_next}
 
 -- LISTS OF TESTS

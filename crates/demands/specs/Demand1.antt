@@ -16,7 +16,7 @@ use Rattle.meaning.specs.declared.Place.{Place}
 use Rattle.meaning.specs.declared.Refusal.{Refusal}
 use Rattle.meaning.specs.declared.Told.{Told}
 use Rattle.meaning.specs.declared.Verdict.{Verdict}
-use Rattle.meaning.specs.Description.{item_count, fields_at, is_uint, is_dimension, is_table_named, table_given}
+use Rattle.meaning.specs.Description.{item_count, fields_at, is_dimension, is_table_named, table_given}
 use Rattle.meaning.specs.Layout.{data_order}
 use Rattle.meaning.specs.Refusals.{refused_with, told_by, verdict_reply, table_around, writable, place_start, place_length}
 use Rattle.meaning.specs.Calendar.{real_date, real_time, day_number, controls_of, table54_size, dates_of, season_on, in_season, special_on, missing_special}
