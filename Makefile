@@ -1,5 +1,5 @@
 # The library for C: built, installed, and the sample programs over it. `rt` proves every crate that the archive is
-# made of before it writes the archive. What it proved it keeps in target/, so only what changed is proved again.
+# made of before it writes the archive. What it proved it keeps in crates/*/out/, so only what changed is proved again.
 #
 #     make                          target/staticlib/libbilashonge.a
 #     make install PREFIX=/where    header, archive and bilashonge.pc; DESTDIR goes before PREFIX, for packagers
@@ -42,12 +42,12 @@ export PC
 
 all: $(ARCHIVE)
 
-# An old archive goes first: where a proof fails, none is left that would pass for the new one. `rt check` proves what the
-# interface stands on several crates at a time; `rt staticlib` would prove one after another.
-$(BUILT): crates.txt $(shell find crates -name '*.rt' -o -name '*.antt')
+# An old archive goes first: where a proof fails, none is left that would pass for the new one. `rt lib` proves each library that the
+# interface stands on, then the exports of crate bilashonge_c, and writes the archive into that crate's out/.
+$(BUILT): crates.txt $(shell find crates -name out -prune -o \( -name '*.rt' -o -name '*.antt' \) -print)
 	rm -f $@
-	rt check messages calendar replies
-	rt staticlib bilashonge
+	cd crates/bilashonge_c && rt lib
+	install -D -m 644 crates/bilashonge_c/out/libbilashonge_c.a $@
 
 install: $(ARCHIVE)
 	install -d $(DESTDIR)$(prefix)/include $(DESTDIR)$(prefix)/lib/pkgconfig

@@ -128,24 +128,21 @@ fn place_of(place: meaning::Place) -> Place
 }
 
 // Is this description sound.
-#[unsafe(no_mangle)]
-pub extern "C" fn bilashonge_check(description: &[u8]) -> Refusal
+pub fn bilashonge_check(description: &[u8]) -> Refusal
     ensures { result ≡ (told_to ask.check description.now []).refusal }
 {
     refusal_of(sound::check(description))
 }
 
 // Lay the image out: the total of octets used.
-#[unsafe(no_mangle)]
-pub extern "C" fn bilashonge_layout(description: &[u8], image: &[u8]) -> Total
+pub fn bilashonge_layout(description: &[u8], image: &[u8]) -> Total
     ensures { result ≡ in_total (told_to ask.layout description.now image.now) }
 {
     total_of(places::layout(description, image))
 }
 
 // Where a table is, and how long.
-#[unsafe(no_mangle)]
-pub extern "C" fn bilashonge_table_place(
+pub fn bilashonge_table_place(
     description: &[u8],
     image: &[u8],
     manufacturer: u32,
@@ -157,8 +154,7 @@ pub extern "C" fn bilashonge_table_place(
 }
 
 // Where a range of a table is.
-#[unsafe(no_mangle)]
-pub extern "C" fn bilashonge_range_place(
+pub fn bilashonge_range_place(
     description: &[u8],
     image: &[u8],
     manufacturer: u32,
@@ -173,8 +169,7 @@ pub extern "C" fn bilashonge_range_place(
 }
 
 // Where an element is, and how long.
-#[unsafe(no_mangle)]
-pub extern "C" fn bilashonge_element_place(
+pub fn bilashonge_element_place(
     description: &[u8],
     image: &[u8],
     item: usize,
@@ -186,8 +181,7 @@ pub extern "C" fn bilashonge_element_place(
 }
 
 // An element's number.
-#[unsafe(no_mangle)]
-pub extern "C" fn bilashonge_element_number(
+pub fn bilashonge_element_number(
     description: &[u8],
     image: &[u8],
     item: usize,
@@ -208,8 +202,7 @@ pub extern "C" fn bilashonge_element_number(
 }
 
 // Writes a range of a table.
-#[unsafe(no_mangle)]
-pub extern "C" fn bilashonge_write_range(
+pub fn bilashonge_write_range(
     description: &[u8],
     image: &mut [u8],
     manufacturer: u32,
@@ -225,8 +218,7 @@ pub extern "C" fn bilashonge_write_range(
 }
 
 // Writes an element's octets.
-#[unsafe(no_mangle)]
-pub extern "C" fn bilashonge_write_octets(
+pub fn bilashonge_write_octets(
     description: &[u8],
     image: &mut [u8],
     item: usize,
@@ -240,8 +232,7 @@ pub extern "C" fn bilashonge_write_octets(
 }
 
 // Writes an element's number, in the image's DATA_ORDER.
-#[unsafe(no_mangle)]
-pub extern "C" fn bilashonge_write_number(
+pub fn bilashonge_write_number(
     description: &[u8],
     image: &mut [u8],
     item: usize,
@@ -255,8 +246,7 @@ pub extern "C" fn bilashonge_write_number(
 }
 
 // The tier at a date and time.
-#[unsafe(no_mangle)]
-pub extern "C" fn bilashonge_tier_at(
+pub fn bilashonge_tier_at(
     description: &[u8],
     image: &[u8],
     year: u32,
@@ -290,8 +280,7 @@ pub extern "C" fn bilashonge_tier_at(
 }
 
 // Whether any season record with a real date stands at or before a date.
-#[unsafe(no_mangle)]
-pub extern "C" fn bilashonge_seasoned(
+pub fn bilashonge_seasoned(
     description: &[u8],
     image: &[u8],
     year: u32,
@@ -314,8 +303,7 @@ pub extern "C" fn bilashonge_seasoned(
 }
 
 // The weekday of a date.
-#[unsafe(no_mangle)]
-pub extern "C" fn bilashonge_weekday_of(year: u32, month: u32, day: u32) -> Weekday
+pub fn bilashonge_weekday_of(year: u32, month: u32, day: u32) -> Weekday
     ensures { result ≡ in_weekday (told_to (ask.weekday (date_of year month day)) [] []) }
 {
     let date = Date {
@@ -332,8 +320,7 @@ pub extern "C" fn bilashonge_weekday_of(year: u32, month: u32, day: u32) -> Week
 }
 
 // The schedule matrix, into cells. A refused call leaves cells as they are.
-#[unsafe(no_mangle)]
-pub extern "C" fn bilashonge_matrix(
+pub fn bilashonge_matrix(
     description: &[u8],
     image: &[u8],
     cells: &mut [[u8; 22]; 15],
@@ -345,8 +332,7 @@ pub extern "C" fn bilashonge_matrix(
 }
 
 // Answers a request over the tables: the reply into the room, and a write done in the image.
-#[unsafe(no_mangle)]
-pub extern "C" fn bilashonge_serve(
+pub fn bilashonge_serve(
     description: &[u8],
     image: &mut [u8],
     request: &[u8],
@@ -360,16 +346,14 @@ pub extern "C" fn bilashonge_serve(
 }
 
 // Reads a request.
-#[unsafe(no_mangle)]
-pub extern "C" fn bilashonge_read_request(request: &[u8]) -> RequestTold
+pub fn bilashonge_read_request(request: &[u8]) -> RequestTold
     ensures { result ≡ request_told (requested_by (request_in request.now)) }
 {
     replies::request_told(messages::read_request(request))
 }
 
 // Writes a request into the room.
-#[unsafe(no_mangle)]
-pub extern "C" fn bilashonge_write_request(
+pub fn bilashonge_write_request(
     kind: u64,
     id: u64,
     offset: u64,
@@ -384,16 +368,14 @@ pub extern "C" fn bilashonge_write_request(
 }
 
 // Reads a meter's reply.
-#[unsafe(no_mangle)]
-pub extern "C" fn bilashonge_read_reply(reply: &[u8]) -> ReplyTold
+pub fn bilashonge_read_reply(reply: &[u8]) -> ReplyTold
     ensures { result ≡ reply_told (heard_by (reply_in reply.now)) }
 {
     replies::reply_told(messages::read_reply(reply))
 }
 
 // Writes a meter's reply into the room.
-#[unsafe(no_mangle)]
-pub extern "C" fn bilashonge_write_reply(kind: u64, code: u64, new: &[u8], room: &mut [u8]) -> Total
+pub fn bilashonge_write_reply(kind: u64, code: u64, new: &[u8], room: &mut [u8]) -> Total
     ensures reply { result ≡ in_total (told_by (reply_sent (reply_of kind code new.now) room.old)) }
     ensures room { room.new ≡ reply_room (reply_of kind code new.now) room.old }
 {
