@@ -1,5 +1,5 @@
 -- Octets put into a room, one field behind the other, and the message that they make: sent where it fits. Assumes nothing.
-use Rattle.std.proofs.Common.{◌≡◌, ℕ, ◌+◌, ◌-◌, ◌≤◌, Bool, true, false, ◌&&◌, List, [], ◌∷◌, ◌++◌, length, take, drop, set, sym, refl, ap, ◌∙◌, append_assoc, zero-add, add-one, arith, length-append, length-take-le, drop-drop, leb-true}
+use Rattle.std.proofs.Common.{◌≡◌, ℕ, ◌+◌, ◌-◌, ◌≤◌, Bool, true, false, ◌&&◌, List, [], ◌∷◌, ◌++◌, length, take, set, sym, refl, ap, ◌∙◌, append_assoc, zero-add, add-one, arith, length-append, length-take-le, drop-drop, leb-true}
 use lib.Seq.{set_split, append_snoc, take-append_seam, drop-append-add}
 use borrow.Rule.Slice.PartMut.{mid_of, put_mid, mid_len, Post-is}
 use Rattle.meaning.specs.Basics.{◌≤?◌, splice, octets_in}
@@ -9,7 +9,6 @@ use Rattle.meaning.specs.declared.Reply.{Reply}
 use Rattle.meaning.proofs.Either.{clash}
 use Rattle.meaning.proofs.Octets.{octets_long}
 use Rattle.meaning.proofs.Splices.{splice_long}
-use Rattle.octets.proofs.Laws.{copied}
 use Rattle.messages.specs.Messages.{IsPut}
 
 -- ONE FIELD

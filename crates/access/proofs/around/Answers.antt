@@ -1,5 +1,4 @@
 -- `access::around`: at each item, the item read and the latest TABLE before it; the items left are the measure. Assumes nothing.
-use Prim.Native.Nat.{◌-◌}
 use Rattle.access.proofs.Laws.{passing_first, passing_next, passing_less, passing_seen}
 use Rattle.access.proofs.around.Goals as goal
 

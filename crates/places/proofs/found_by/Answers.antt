@@ -1,5 +1,4 @@
 -- `places::found_by`: each arm is its case. Assumes nothing.
-use borrow.Author.Tests.{not-true, not-false}
 use borrow.Author.Rules.{rules}
 use Rattle.places.specs.Opening.{spot_found, found_by}
 use Rattle.places.specs.Rows.{spot_at, spot_from, spot_by}

@@ -1,5 +1,4 @@
 -- `sound::table_given`: the loop has looked at the items before `place`; what is left of them is the measure. Assumes nothing.
-use Prim.Native.Nat.{◌-◌}
 use mathlib.Core.Path.{◌≡◌, sym}
 use native.Mathlib.Omega.{arith}
 use Rattle.meaning.proofs.Rules.{given_none, given_step}

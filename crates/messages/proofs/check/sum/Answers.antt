@@ -1,5 +1,5 @@
 -- `check::sum`: octet by octet, the sum wraps. Assumes nothing.
-use Rattle.std.proofs.Common.{ℕ, ◌-◌, ◌%◌, ◌^◌, List, refl, ap, ◌∙◌, arith, take_all}
+use Rattle.std.proofs.Common.{ℕ, ◌%◌, ◌^◌, List, refl, ap, ◌∙◌, arith, take_all}
 use Rattle.meaning.specs.Messages.{sum_of}
 use Rattle.messages.proofs.Checks.{sum_more}
 use Rattle.messages.proofs.check.sum.Goals as goal

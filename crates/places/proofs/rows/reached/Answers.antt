@@ -1,5 +1,5 @@
 -- `rows::reached`: what is left from ARRAY j on leads to the same as the whole; the ARRAYs left are its measure. Assumes nothing.
-use Prim.Native.Nat.{◌-◌, ◌≤◌}
+use Prim.Native.Nat.{◌≤◌}
 use mathlib.Core.Path.{◌∙◌}
 use borrow.Author.Rules.{rules}
 use lib.ListN.{get_or}
@@ -7,7 +7,6 @@ use mir.Syntax.{w32}
 use mir.Val.{Fits}
 use native.Mathlib.Nat.{mul-le-mul}
 use native.Mathlib.Omega.{arith}
-use Rattle.places.specs.Rows.{cut}
 use Rattle.places.proofs.Reach.{left_next, left_past, left_none, reached_all, reached_not}
 use Rattle.places.proofs.rows.reached.Goals as goal
 

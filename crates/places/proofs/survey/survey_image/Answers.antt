@@ -1,6 +1,5 @@
 -- `survey::survey_image`: the tables before `place` are laid, and with those left come to the whole image (Surveyed); the items left are the loop's measure.
 -- Assumes nothing.
-use Prim.Native.Nat.{◌-◌}
 use mathlib.Core.Path.{refl}
 use native.Mathlib.Omega.{arith}
 use Rattle.places.proofs.Surveys.{set_out, laid_all, laid_refused}

@@ -1,5 +1,4 @@
 -- `why::arrays_round`: those among the items before the place are counted; the items left are the measure. Assumes nothing.
-use Prim.Native.Nat.{◌-◌}
 use native.Mathlib.Omega.{arith}
 use Rattle.items.proofs.ReadLaws.{range_read, next_read}
 use Rattle.places.proofs.Reasons.{counted_none, counted_next, counted_all}

@@ -1,5 +1,4 @@
 -- `why::in_the_way`: what is left from the place on leads to the same as all of it; the items left are the measure. Assumes nothing.
-use Prim.Native.Nat.{◌-◌}
 use native.Mathlib.Omega.{arith}
 use Rattle.places.proofs.Reasons.{way_starts, way_past, way_stops, way_ends}
 use Rattle.places.proofs.why.in_the_way.Goals as goal

@@ -1,6 +1,5 @@
 -- `why::why_none`: the causes one after another. Assumes nothing.
 use mathlib.Core.Path.{◌∙◌}
-use borrow.Author.Tests.{not-true, not-false}
 use Rattle.places.proofs.Reasons.{one_there, not_one, not_number, not_right, by_round}
 use Rattle.places.proofs.why.why_none.Goals as goal
 
