@@ -5,6 +5,7 @@
 // 18, 19. Tables 51 and 54 are read as octets, however the description divides them, and their
 // two-octet fields in the image's DATA_ORDER. Nothing is kept: each call lays the image out anew.
 #![tactic(auto)]
+
 ghost use Rattle.std.specs.Prelude.{◌≡◌, length};
 ghost use Rattle.meaning.specs.Basics.{part};
 ghost use Rattle.meaning.specs.Layout.{data_order};
