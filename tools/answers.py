@@ -37,12 +37,13 @@ def split_terms(text):
 class Names:
     def __init__(self, table):
         self.t = table
-        self.parent, self.step, self.arms, self.order = {}, {}, {}, []
+        self.parent, self.step, self.arms, self.order, self.callee = {}, {}, {}, [], {}
         for entry in table['places']:
             place, parent, (old, new) = entry[0], entry[1], entry[2]
             self.parent[place] = parent
             self.step[place] = (old, new)
             self.order.append(place)
+            self.callee[place] = entry[3]
         for place, arm in zip(self.order, table['arms']):
             if arm:
                 for field, at, path in arm[2]:
@@ -57,9 +58,20 @@ class Names:
             if old:
                 self.all_steps.setdefault(old, new)
 
+    def up(self, place):
+        while place is not None:
+            yield place
+            place = self.parent.get(place)
 
-def resolve(path, names, place, said):
+
+def plain(step):
+    # the kit's script and ours turned a few steps that are spelled like names of a library or of ours
+    return re.sub('_lem$', '', step.replace('-', '_')).lower()
+
+
+def resolve(path, names, place, said, start=None):
     """A path of an old proof, behind its first name, as this kit spells it."""
+    start = start or place
     segs = [re.sub('^well-formed$', 'well_formed', s) for s in path.split('.')[1:]]
     while segs and segs[0] == 'before':
         place = names.parent.get(place)
@@ -72,15 +84,21 @@ def resolve(path, names, place, said):
     head = segs[0]
     # the places up from here: the step with that name
     at, found = place, None
+    if not any(names.step[p][0] and plain(names.step[p][0]) == plain(head) for p in names.up(place)):
+        # today's chain of steps may be another
+        at = start
     while at is not None:
         old = names.step[at][0]
-        if old and old.replace('_', '-') == head.replace('_', '-'):
+        if old and plain(old) == plain(head):
             found = names.step[at]
+            rest_of = names.callee[at]
             break
         at = names.parent.get(at)
     rest = segs[1:]
     if found:
         head = found[0]
+        if rest_of and len(rest) > 1 and rest[0] == 'ensures' and rest[1].isdigit():
+            rest = ['ensures'] + clause_at(rest_of, rest[1:])
     for n in range(len(rest), -1, -1):
         for key in ((head, tuple(rest[:n])),):
             if key in names.arms:
@@ -106,12 +124,13 @@ def turn_body(body, names, place, said, var='c'):
         if m.start() and body_now[m.start() - 1] in '.':
             return word
         if head in aliases:
-            new, at = resolve(word, names, aliases[head], said)
+            new, at = resolve(word, names, aliases[head], said, place)
             if new is None:
                 return 'c' if word == head or True else word
             return 'c' + new
         if head in texts:
-            return texts[head] + word[len(head):]
+            path, at = texts[head]
+            return 'c' + resolve(path + word[len(head):], names, at, said, place)[0]
         return word
 
     while True:
@@ -122,13 +141,13 @@ def turn_body(body, names, place, said, var='c'):
         head = path.split('.')[0]
         if head not in aliases:
             break
-        new, at = resolve(path, names, aliases[head], said)
+        new, at = resolve(path, names, aliases[head], said, place)
         before = body[:m.start()]
         after = body[m.end():]
         if new is None:
             aliases[name] = at
         else:
-            texts[name] = 'c' + new
+            texts[name] = (path, aliases[head])
         body = before + after
         # what else the alias was used for stays under its name until the end
     body_now = body
@@ -187,7 +206,7 @@ def convert(crate, path, table):
     own, spec, others = {}, None, []
     for comment, block in decls:
         first = block[0]
-        m = re.match(r'^(?:abbrev |pub |unfoldable )*(\S+) : tie\.(\S+)$', first)
+        m = re.match(r'^(?:abbrev |pub |unfoldable )*(\S+) : tie\.(\S+)(?: .*)?$', first)
         if m:
             own[m[1]] = (m[2], comment, block)
         elif re.search(r': \{M : Type 1\} → statement M$', first):
@@ -206,11 +225,27 @@ def convert(crate, path, table):
     if m[1].strip():
         return 'before tie.close: ' + m[1].strip()[:80]
     inner = paren(m[2])
-    if not inner.startswith('tie.spec'):
+    searched = inner.startswith('search (tie.spec')
+    if not searched and not inner.startswith('tie.spec'):
         return 'no tie.spec'
-    terms = split_terms(inner[len('tie.spec'):])
     loops = table['loops']
     n = 2 * len(loops)
+    if searched:
+        # the check finds the rest
+        by_old = {old: new for old, new in table['needs']}
+        wanted = {it[0].replace('_', '-'): name for name, it in own.items()}
+        terms = []
+        for (old, new), _ in loops:
+            for kind in ('invariant', 'decreases'):
+                terms.append(wanted.get(f'{kind}-{old}'.replace('_', '-')))
+        for old, new in table['needs']:
+            terms.append(wanted.get('Need-' + old.replace('_', '-')) or '(λ c. search rules)')
+        left = [k for k in wanted if k.startswith('Need-') and k[5:] not in [o.replace('_', '-') for o in by_old]]
+        if left or None in terms:
+            return f'goals {left} not among {sorted(by_old)}, {terms}'
+        unfolding = []
+    else:
+        terms = split_terms(inner[len('tie.spec'):])
     if len(terms) - n != len(table['needs']):
         return f"{len(terms) - n} answers, {len(table['needs'])} goals: {[a for a, b in table['needs']]}"
     said = []
@@ -261,6 +296,10 @@ def convert(crate, path, table):
         if right == 'tt':
             continue
         right = turn_body(right, names, place, said, pattern[0])
+        right = re.sub(r'(c\.args\.\w+)\.ptr\b', r'\1.ref_ptr', right)
+        # a test of `!x` tells of x itself now
+        right = re.sub(r'not-(?:true|false) [^\s()]+ (c\.if-not-[^\s(),]+\.(?:true|false))', r'\1', right)
+        right = by_clauses(right, new, path.split('/')[-1])
         answers.append((new, pattern, unfold, right))
     heading = '\n'.join(head) + '\n' if head else ''
     if given:
@@ -279,12 +318,108 @@ def convert(crate, path, table):
             out += '\n' + ''.join(c + '\n' for c in comment) + '\n'.join(block) + '\n'
         for new, pattern, unfold, right in answers:
             sep = '\n    ' if '\n' in right or len(right) > 100 else ' '
-            args = ' '.join(['c'] + pattern[1:])
+            args = 'c'
             out += f'\npub {new} : goal.{new}\n' + ''.join(u + '\n' for u in unfold) + f'{new} {args} ={sep}{right}\n'
         with open(os.path.join(folder, 'Answers.antt'), 'w', encoding='utf-8') as f:
             f.write(out)
     os.remove(os.path.join(folder, 'Proof.antt'))
     return ('ok, look: ' + '; '.join(said)) if said else 'ok'
+
+
+CLAUSES = {}
+
+
+def clause_at(callee, numbers):
+    """The name of the clause that the numbers of nested pairs point to."""
+    if not CLAUSES:
+        clauses()
+    parts = callee.split('::')
+    found = CLAUSES.get((parts[0], parts[-1], 'ensures'))
+    if not found:
+        return numbers
+    at, i = 0, 0
+    while i < len(numbers) and numbers[i] == '1' and at < len(found) - 1:
+        at += 1
+        i += 1
+    if at < len(found) - 1:
+        if i < len(numbers) and numbers[i] == '0':
+            i += 1
+        else:
+            return numbers
+    return [found[at]] + numbers[i:]
+
+
+def clauses():
+    """Of each function of src/ the names of its requires and its ensures, where it has more than one of a kind."""
+    for folder, dirs, fs in os.walk('crates'):
+        dirs[:] = [d for d in dirs if d != 'out']
+        for f in fs:
+            if not f.endswith('.rt'):
+                continue
+            with open(os.path.join(folder, f), encoding='utf-8') as it:
+                text = re.sub(r'//.*', '', it.read())
+            for m in re.finditer(r'\bfn (\w+)(.*?)\n *\{\n', text, re.S):
+                for kind in ('requires', 'ensures'):
+                    found = re.findall(kind + r'\*? (\w+) \{', m[2])
+                    if found:
+                        CLAUSES[(m[1], kind)] = CLAUSES[(folder.split('/')[1], m[1], kind)] = found
+
+
+def by_clauses(right, goal, own):
+    """A tuple for several named clauses as a record of them."""
+    if not CLAUSES:
+        clauses()
+    if goal.startswith('returns'):
+        found = CLAUSES.get((own, 'ensures'))
+    elif re.search(r'-requires(-|$)', goal):
+        found = CLAUSES.get((re.match(r'(\w+)', goal)[1], 'requires'))
+    else:
+        return right
+    if not found:
+        return right
+    # behind the lets
+    at = 0
+    for m in re.finditer(r'\bin\b', right):
+        if right[:m.end()].count('(') == right[:m.end()].count(')') and right.lstrip().startswith('let'):
+            at = m.end()
+    head, term = right[:at], right[at:].strip()
+    flat = []
+    while True:
+        if not (term.startswith('(') and term.endswith(')') and len(split_terms(term)) == 1):
+            if term.startswith('record') or term == 'search rules' or len(found) != 2:
+                return right
+            # a lemma that gives both
+            return (head + ' ' if head else '') + f'let both = {term} in record {{ {found[0]} = both.0; {found[1]} = both.1 }}'
+        parts, depth, cur = [], 0, ''
+        for ch in term[1:-1]:
+            depth += (ch in OPEN) - (ch in CLOSE)
+            if ch == ',' and depth == 0:
+                parts.append(cur.strip())
+                cur = ''
+            else:
+                cur += ch
+        if cur.strip():
+            parts.append(cur.strip())
+        break
+    if len(parts) == 2 and len(found) > 2:
+        # nested to the right
+        while len(parts) < len(found) and parts[-1].startswith('('):
+            inner, depth, cur = [], 0, ''
+            for ch in parts[-1][1:-1]:
+                depth += (ch in OPEN) - (ch in CLOSE)
+                if ch == ',' and depth == 0:
+                    inner.append(cur.strip())
+                    cur = ''
+                else:
+                    cur += ch
+            if cur.strip():
+                inner.append(cur.strip())
+            if len(inner) < 2:
+                break
+            parts = parts[:-1] + inner
+    if len(parts) != len(found):
+        return right
+    return (head + ' ' if head else '') + 'record { ' + '; '.join(f'{n} = {p}' for n, p in zip(found, parts)) + ' }'
 
 
 def keep_used(use, text):

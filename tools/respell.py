@@ -28,6 +28,8 @@ def files(*kinds):
 
 
 def snake(name):
+    # `notADate` has a word of one letter; the first run spelled such names not_aDate, and they were mended after it
+    name = re.sub(r'([a-z0-9])A([A-Z])', lambda m: m[1] + '_a_' + m[2].lower(), name)
     name = re.sub(r'([a-z0-9])([A-Z])', lambda m: m[1] + '_' + m[2].lower(), name)
     return name.replace('-', '_')
 

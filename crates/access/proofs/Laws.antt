@@ -130,10 +130,10 @@ module _ (d img : List ℕ) (es : List Placed) (o : TableOffset) (n : ℕ) where
       go true e = refl
       go false e = rw (held_within o.0 n t es (ltb-false t.size (o.0 + n) e)) (allowed_is d img es t.item (t.start + o.0) n)
 
-module _ (d img : List ℕ) (m k : ℕ) (o : TableOffset) (n : ℕ) (r : Ranged) (is : r ≡ ranges.rangeIn m k o n (open_image d img)) where
+module _ (d img : List ℕ) (m k : ℕ) (o : TableOffset) (n : ℕ) (r : Ranged) (is : r ≡ ranges.range_in m k o n (open_image d img)) where
   -- by cases on the image
   told : RangeTold d img o n r (range_place d img m k o n)
-  unfolding range_place range_in ranges.rangeIn seat_place
+  unfolding range_place range_in ranges.range_in seat_place
   told = go (came d img)
     where
       -- of an image that is opened
@@ -149,10 +149,10 @@ module _ (d img : List ℕ) (m k : ℕ) (o : TableOffset) (n : ℕ) (r : Ranged)
           })
 
       go : Came d img → RangeTold d img o n r (range_place d img m k o n)
-      go (refuses x e) = rw e (subst (λ (z : Ranged). RangeTold d img o n z (Place.Refused x)) (sym (is ∙ ap (ranges.rangeIn m k o n) e)) refl)
+      go (refuses x e) = rw e (subst (λ (z : Ranged). RangeTold d img o n z (Place.Refused x)) (sym (is ∙ ap (ranges.range_in m k o n) e)) refl)
       go (opens ts es s total h) =
           rw (opened_image h)
-          (subst (λ (z : Ranged). RangeTold d img o n z (range_of d img es o n (table_named m k ts))) (sym (is ∙ ap (ranges.rangeIn m k o n) (opened_image h)))
+          (subst (λ (z : Ranged). RangeTold d img o n z (range_of d img es o n (table_named m k ts))) (sym (is ∙ ap (ranges.range_in m k o n) (opened_image h)))
           (in_opened ts es s total h (table_named m k ts) refl))
 
   -- refused, past the table, or allowed there or not
@@ -178,16 +178,16 @@ abbrev table_of : Ranged → Place
 table_of (Ranged.Refused x) = Place.Refused x
 table_of (Ranged.In i s l h) = Place.At (record { 0 = s.0 }) l
 
-module _ (d img : List ℕ) (m k : ℕ) (o : TableOffset) (n : ℕ) (r : Ranged) (is : r ≡ ranges.rangeIn m k o n (open_image d img)) where
+module _ (d img : List ℕ) (m k : ℕ) (o : TableOffset) (n : ℕ) (r : Ranged) (is : r ≡ ranges.range_in m k o n (open_image d img)) where
   table_told : table_place_reply d img m k ≡ table_of r
-  unfolding table_place_reply table_place_in seat_place ranges.rangeIn ranges.range_of
+  unfolding table_place_reply table_place_in seat_place ranges.range_in ranges.range_of
   table_told = rw is (go (open_image d img))
     where
       seated : (t : Option Seat) (es : List Placed) → seat_place t ≡ table_of (ranges.range_of o.0 n t es)
       seated none es = refl
       seated (some t) es = refl
 
-      go : (x : Opened) → table_place_in m k x ≡ table_of (ranges.rangeIn m k o n x)
+      go : (x : Opened) → table_place_in m k x ≡ table_of (ranges.range_in m k o n x)
       go (opened ts es s total) = seated (table_named m k ts) es
       go (refused x) = refl
 
@@ -210,7 +210,7 @@ pub lies_in : (e x b : Bool) → b ≡ (e && x) → b ≡ true → e ≡ true
 lies_in true x b w t = refl
 lies_in false x b w t = absurd (true≢false (sym t ∙ w))
 
-module _ (whole : Bool) (d img : List ℕ) (m k : ℕ) (o : TableOffset) (n : ℕ) (r : Ranged) (is : r ≡ ranges.rangeIn m k o n (open_image d img)) where
+module _ (whole : Bool) (d img : List ℕ) (m k : ℕ) (o : TableOffset) (n : ℕ) (r : Ranged) (is : r ≡ ranges.range_in m k o n (open_image d img)) where
   pub place_refused : (x : Refusal) → r ≡ Ranged.Refused x → Place.Refused x ≡ place_to_write whole d img m k o n
   unfolding place_to_write other_size
   place_refused x e = rw (table_told d img m k o n r is, e) (go whole)

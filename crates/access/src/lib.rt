@@ -6,6 +6,7 @@
 // 26, then 12 to 15 in their order. A write's place is found before an octet is written, so a refused write changes none.
 // Nothing is kept: each call lays the image out anew.
 #![tactic(auto)]
+
 ghost use Rattle.std.specs.Prelude.{◌≡◌, not, ◌&&◌, ◌||◌, ◌+◌, ◌^◌, ◌<◌, length};
 ghost use Rattle.meaning.specs.Basics.{if◌then◌else◌, ◌<?◌, ◌≤?◌, ◌=?◌};
 ghost use Rattle.meaning.specs.Description.{item_count, is_table, is_dimension};
@@ -24,7 +25,7 @@ const TABLE: u32 = 1;
 
 // WHAT THE DESCRIPTION SAYS OF AN ITEM
 // An item, and the table that it stands in: the latest TABLE before it.
-#[derive(Drop)]
+#[derive(Clone, Copy)]
 struct Seen {
     fields: Fields,
     table: Fields,

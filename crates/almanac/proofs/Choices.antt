@@ -13,7 +13,7 @@ use Rattle.meaning.specs.declared.Chosen.TheVariants.{Nothing, Entry}
 use Rattle.meaning.specs.declared.Quantity.{Quantity}
 use Rattle.meaning.specs.declared.Triple.{Triple}
 use Rattle.meaning.specs.Passed.{Exactly}
-use Rattle.meaning.specs.Calendar.{entry_if, or_later, latest, record_day, action, selects_season, season_entry, special_entry, season_on, season_stands, special_on, counts, switch_minute, switch_entry}
+use Rattle.meaning.specs.Calendar.{entry_if, or_later, latest, record_day, action, selects_season, season_entry, special_entry, season_on, season_stands, special_on, switch_minute, switch_entry}
 use Rattle.almanac.specs.Latest.{◌among◌}
 use Rattle.almanac.specs.Choices.{LatestOf, SelectsSeason, SeasonStands, SeasonSays, SelectsSpecial, SpecialSays, Switches, SwitchSays}
 use Rattle.almanac.proofs.Tests.{all_four}

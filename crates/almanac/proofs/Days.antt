@@ -2,7 +2,7 @@
 use Prim.Native.Nat.{ℕ, zero, suc, ◌+◌, ◌*◌, ◌%◌, ◌<◌, ◌≤◌}
 use mathlib.Core.Path.{◌≡◌, refl, sym, ap, ◌∙◌}
 use mathlib.Core.Logic.{⊎_elim}
-use mathlib.Core.Bool.{Bool, true, false, cond, not, ◌&&◌, ◌||◌, and_true}
+use mathlib.Core.Bool.{Bool, true, false, cond, not, ◌&&◌, ◌||◌, and-true}
 use mathlib.Core.List.{List, [], ◌∷◌}
 use native.Mathlib.Nat.{le_of_suc-le-suc, not-suc-le-zero}
 use native.Mathlib.Numerals.{add-one}
@@ -132,7 +132,7 @@ fourth n h = go (eqb ((1990 + n) % 100) 0) refl
   where
     go : (b : Bool) → eqb ((1990 + n) % 100) 0 ≡ b → (eqb ((1990 + n) % 4) 0 && (not b || eqb ((1990 + n) % 400) 0)) ≡ eqb ((1990 + n) % 4) 0
     go true e = let ten : n ≡ 10 = omega (arith, eqb-true ((1990 + n) % 100) 0 e) in rw ten
-    go false e = and_true (eqb ((1990 + n) % 4) 0)
+    go false e = and-true (eqb ((1990 + n) % 4) 0)
 
 -- so the days of years are known at once, up to the end of 2099
 pub years_at_once : (n : ℕ) → n ≤ 110 → every_fourth n ≡ year_days n

@@ -16,7 +16,7 @@ use Rattle.meaning.specs.declared.Refusal.{Refusal}
 use Rattle.meaning.specs.Layout.{Seat, data_order}
 use Rattle.meaning.specs.Refusals.{Opened, opened, refused, open_image, seat_place, table_place_in, table_place_reply, place_part, table_part_reply}
 use Rattle.meaning.specs.Calendar.{controls_of, matrix_at, day_columns, row_width, table54_size, cell_at, Found, found, missing, sized, seats_found, calendar_in, calendar, matrix_cell, matrix_of, matrix_in}
-use Rattle.meaning.specs.Numbers.{no_table, not_aCalendar}
+use Rattle.meaning.specs.Numbers.{no_table, not_a_calendar}
 use Rattle.almanac.specs.Matrix.{cell, Fifteen, Shown}
 use Rattle.almanac.proofs.Tests.{lt_or_ge, both_true, cond_most}
 use Rattle.meaning.proofs.Either.{tested}
@@ -73,7 +73,7 @@ sized_found o a b =
     (λ e.
     let n = controls_few o a in
     there (record { rows = n.0; columns = width_most (controls_of o a) n.1; size = eqb-true _ _ (both_true (eqb (length a) 9) _ e).1 }))
-    (λ e. absent not_aCalendar)
+    (λ e. absent not_a_calendar)
 
 seats_found_lem : (img : List ℕ) (a b c : Option Seat) → FoundIn (data_order img) (place_part img (seat_place b)) (place_part img (seat_place c)) (seats_found img a b c)
 unfolding seats_found seat_place place_part

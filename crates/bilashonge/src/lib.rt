@@ -20,7 +20,7 @@ use offsets::TableOffset;
 
 // The total of octets used, of the image or of the room for a message, 0 on refusal.
 #[repr(C)]
-#[derive(Drop)]
+#[derive(Clone, Copy)]
 pub struct Total {
     pub refusal: Refusal,
     pub total: u64,
@@ -28,7 +28,7 @@ pub struct Total {
 
 // The first octet in the image, and the length, both 0 on refusal.
 #[repr(C)]
-#[derive(Drop)]
+#[derive(Clone, Copy)]
 pub struct Place {
     pub refusal: Refusal,
     pub start: u64,
@@ -37,7 +37,7 @@ pub struct Place {
 
 // An element's number, 0 on refusal.
 #[repr(C)]
-#[derive(Drop)]
+#[derive(Clone, Copy)]
 pub struct Number {
     pub refusal: Refusal,
     pub number: u64,
@@ -45,7 +45,7 @@ pub struct Number {
 
 // 1 for "none yet today", and the tier, both 0 on refusal.
 #[repr(C)]
-#[derive(Drop)]
+#[derive(Clone, Copy)]
 pub struct Tier {
     pub refusal: Refusal,
     pub none: u64,
@@ -54,7 +54,7 @@ pub struct Tier {
 
 // 1 for yes and 0 for no, 0 on refusal.
 #[repr(C)]
-#[derive(Drop)]
+#[derive(Clone, Copy)]
 pub struct Answer {
     pub refusal: Refusal,
     pub yes: u64,
@@ -62,7 +62,7 @@ pub struct Answer {
 
 // 0 for Sunday to 6 for Saturday, 0 on refusal.
 #[repr(C)]
-#[derive(Drop)]
+#[derive(Clone, Copy)]
 pub struct Weekday {
     pub refusal: Refusal,
     pub weekday: u64,

@@ -19,7 +19,7 @@ use Rattle.meaning.specs.declared.Controls.{Controls}
 use Rattle.meaning.specs.declared.Moment.{Moment}
 use Rattle.meaning.specs.declared.Place.{Place}
 use Rattle.meaning.specs.declared.Quantity.{Quantity}
-use Rattle.meaning.specs.Calendar.{real_time, weekday_of, dates_at, switches_at, matrix_at, day_columns, row_width, table54_size, latest, dates_of, season_on, season_stands, day_column, column_on, missing_special, switches_of, tier_from, tier_by_schedule, Found, found, missing, sized, seats_found, calendar_in, calendar}
+use Rattle.meaning.specs.Calendar.{real_time, weekday_of, dates_at, switches_at, matrix_at, day_columns, row_width, table54_size, latest, dates_of, season_on, season_stands, day_column, column_on, missing_special, switches_of, tier_from, tier_by_schedule, Found, missing, sized, seats_found, calendar_in, calendar}
 use Rattle.meaning.proofs.Rules.{either_false}
 use Rattle.almanac.proofs.Tests.{both_true, cond_most}
 use Rattle.meaning.proofs.Either.{tested}

@@ -5,6 +5,7 @@
 // 18, 19. Tables 51 and 54 are read as octets, however the description divides them, and their
 // two-octet fields in the image's DATA_ORDER. Nothing is kept: each call lays the image out anew.
 #![tactic(auto)]
+
 ghost use Rattle.std.specs.Prelude.{◌≡◌, length};
 ghost use Rattle.meaning.specs.Basics.{part};
 ghost use Rattle.meaning.specs.Layout.{data_order};
@@ -24,7 +25,7 @@ const EACH_DAY: usize = 7;
 const SHARED: usize = 3;
 
 // Where the parts of Table 54 stand, how wide a row of the matrix is, and how long the table is.
-#[derive(Drop)]
+#[derive(Clone, Copy)]
 struct Sections {
     dates: usize,
     switches: usize,
@@ -34,7 +35,7 @@ struct Sections {
 }
 
 // Where the calendar is: what Table 51 says, and Table 54's octets; or why there is none.
-#[derive(Drop)]
+#[derive(Clone, Copy)]
 enum Calendar {
     At {
         controls: Controls,

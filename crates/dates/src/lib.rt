@@ -1,6 +1,7 @@
 // Dates and times of day: whether they are real, a date's day number, the weekday. Years from 1990 to
 // 2089; any numbers may be given.
 #![tactic(auto)]
+
 ghost use Rattle.std.specs.Prelude.{◌≡◌, ◌≤◌};
 ghost use Rattle.meaning.specs.Calendar.{leap, month_length, real_date, real_time, year_days, month_days, weekday_of, weekday_reply};
 ghost use Rattle.dates.specs.Days.{day_of};
@@ -9,7 +10,7 @@ use basics::{both, either};
 use meaning::{Date, Refusal, Reply};
 
 // A day's number, 1 January 1990 being 0; or that there is no such date.
-#[derive(Drop)]
+#[derive(Clone, Copy)]
 pub enum Day {
     NotReal,
     Number(u32),

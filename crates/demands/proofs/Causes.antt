@@ -17,15 +17,15 @@ use Rattle.meaning.specs.declared.Refusal.{Refusal}
 use Rattle.meaning.specs.Causes as why
 use Rattle.meaning.specs.Causes.{subscripts_of, in_branch, in_the_way, suits, why_none}
 use Rattle.meaning.specs.Description.{item_count, fields_at, is_uint, is_element, is_array, is_choice, nests, count}
-use Rattle.meaning.specs.Layout.{Numbers, value, branches_in, if_branches, branches_of, taken}
-use Rattle.meaning.specs.Numbers.{nothing_refused, not_an_element, branch_not_chosen, subscript_count, subscript_too_large, not_aNumber}
+use Rattle.meaning.specs.Layout.{Numbers, value, branches_in, if_branches, taken}
+use Rattle.meaning.specs.Numbers.{nothing_refused, not_an_element, branch_not_chosen, subscript_count, subscript_too_large, not_a_number}
 use Rattle.meaning.specs.Passed.{Exactly, end_of}
 use Rattle.meaning.proofs.Causes.{way_none, way_step}
 use Rattle.meaning.proofs.Either.{clash}
 use Rattle.demands.specs.Causes.{is_one, is_other, is_counted, depth_of, is_open, told_at, at_nest, causes_of, Addressed, InTheWay, Clear, Unchosen, TooLarge, CausesSay}
 use Rattle.demands.specs.Given.{given, first_of}
 use Rattle.demands.specs.Rules.{NestRound}
-use Rattle.demands.specs.Walk.{encloses, nests_in, nests_round, arrays_of, arrays_round, in_chosen, all_chosen, is_chosen, all_below, has_element, exists}
+use Rattle.demands.specs.Walk.{encloses, nests_in, arrays_of, arrays_round, in_chosen, all_chosen, is_chosen, all_below, has_element, exists}
 use Rattle.demands.proofs.Around.{nests_to, to_next}
 
 -- LISTS OF TESTS
@@ -83,8 +83,8 @@ module _ (d : List ℕ) (i : ℕ) where
       go false is false true = omega arith
       go false is false false = omega arith
 
-  pub depth_is : (k : ℕ) → k ≤ i → why.arraysRound d k i ≡ depth_of d k i
-  unfolding why.arraysRound nests_in arrays_of
+  pub depth_is : (k : ℕ) → k ≤ i → why.arrays_round d k i ≡ depth_of d k i
+  unfolding why.arrays_round nests_in arrays_of
   depth_is zero l = refl
   depth_is (suc j) l =
       let e : j + 1 ≡ suc j = omega arith in
@@ -132,9 +132,9 @@ module _ (d : List ℕ) (v : Numbers) (q : ElementName) where
       go : (a : Bool) → is_array f ≡ a → (b : Bool) → why.encloses f at i ≡ b → (c : Bool) → is_choice f ≡ c
           → ((x : ℕ) → x ≡ count (is_array f && why.encloses f at i) + depth_of d at i → or_nothing (first_of (nest_tests n (at + 1))) ≡ in_the_way d v q.item (subscripts_of q) n (at + 1) x)
           → or_nothing (first_of (map (at_nest d v q) (if (a || c) && b then at ∷ nests_in d n (at + 1) i else nests_in d n (at + 1) i)))
-          ≡ (if a && b then (if why.isBelow d v (subscripts_of q) at k then in_the_way d v q.item (subscripts_of q) n (at + 1) (k + 1) else subscript_too_large k)
+          ≡ (if a && b then (if why.is_below d v (subscripts_of q) at k then in_the_way d v q.item (subscripts_of q) n (at + 1) (k + 1) else subscript_too_large k)
           else if c && b then (if why.is_taken d v q.item at then in_the_way d v q.item (subscripts_of q) n (at + 1) k else branch_not_chosen) else in_the_way d v q.item (subscripts_of q) n (at + 1) k)
-      go true is true en c ch rest = rw (is, ← e) (below (why.isBelow d v (subscripts_of q) at k))
+      go true is true en c ch rest = rw (is, ← e) (below (why.is_below d v (subscripts_of q) at k))
         where
           below : (b : Bool) → or_nothing (first_of (given (not b) (subscript_too_large k) ∷ nest_tests n (at + 1))) ≡ (if b then in_the_way d v q.item (subscripts_of q) n (at + 1) (k + 1) else subscript_too_large k)
           below true = rest (k + 1) (rw (is, en) (omega arith))
@@ -160,8 +160,8 @@ module _ (d : List ℕ) (v : Numbers) (q : ElementName) where
       rw (depth_is d i i (omega arith)) (go (q.item <? item_count d) (is_element (fields_at d i)) number (is_uint (fields_at d i)) (is_counted d q) (way_is i 0 0 z refl))
     where
       go : (t e n u c : Bool) → or_nothing (first_of (nest_tests i 0)) ≡ in_the_way d v q.item (subscripts_of q) i 0 0
-          → or_nothing (first_of (given (not (t && e)) not_an_element ∷ given (n && not u) not_aNumber ∷ given (not c) subscript_count ∷ nest_tests i 0))
-          ≡ (if not (t && e) then not_an_element else if not (not n || t && u) then not_aNumber else if not c then subscript_count else in_the_way d v q.item (subscripts_of q) i 0 0)
+          → or_nothing (first_of (given (not (t && e)) not_an_element ∷ given (n && not u) not_a_number ∷ given (not c) subscript_count ∷ nest_tests i 0))
+          ≡ (if not (t && e) then not_an_element else if not (not n || t && u) then not_a_number else if not c then subscript_count else in_the_way d v q.item (subscripts_of q) i 0 0)
       go false e n u c h = refl
       go true false n u c h = refl
       go true true true false c h = refl
@@ -249,7 +249,7 @@ module _ (d : List ℕ) (v : Numbers) (q : ElementName) where
           open_is i 0 0 (omega arith) refl (omega arith)
 
       go : (f t e m : Bool) → (length (subscripts_of q) =? length (arrays_round d i)) ≡ m → (o : Bool)
-          → is_nothing (first_of (given (not (t && e)) not_an_element ∷ given o not_aNumber ∷ given (not (f && m)) subscript_count ∷ nest_tests i 0))
+          → is_nothing (first_of (given (not (t && e)) not_an_element ∷ given o not_a_number ∷ given (not (f && m)) subscript_count ∷ nest_tests i 0))
           ≡ ((f && (t && e && m && all_below d v (arrays_round d i) (subscripts_of q) && is_chosen d v i)) && not o)
       go false false e m h o = refl
       go false true false m h o = refl
@@ -361,7 +361,7 @@ module _ (d : List ℕ) (v : Numbers) (q : ElementName) where
     -- the one that is told
     data Told : Type 0 where
       item : is_one d q ≡ false → X ≡ some not_an_element → Told
-      kind : is_one d q ≡ true → is_other number d q ≡ true → X ≡ some not_aNumber → Told
+      kind : is_one d q ≡ true → is_other number d q ≡ true → X ≡ some not_a_number → Told
       many : is_one d q ≡ true → is_other number d q ≡ false → is_counted d q ≡ false → X ≡ some subscript_count → Told
       round : Addressed number d q → X ≡ first_of (nest_tests i 0) → Told
 
@@ -459,7 +459,7 @@ module _ (d : List ℕ) (v : Numbers) (q : ElementName) where
       where
         go : Told → X ≡ some not_an_element → is_one d q ≡ false
         go (item h x) e = h
-        go (kind h k x) e = absurd (omega (arith, same not_an_element not_aNumber e x))
+        go (kind h k x) e = absurd (omega (arith, same not_an_element not_a_number e x))
         go (many h k m x) e = absurd (omega (arith, same not_an_element subscript_count e x))
         go (round a x) e = absurd (not_round not_an_element x e (λ z. omega arith) (λ z. omega arith))
 
@@ -469,16 +469,16 @@ module _ (d : List ℕ) (v : Numbers) (q : ElementName) where
         back (many h k m x) e = absurd (true≢false (sym h ∙ e))
         back (round a x) e = absurd (true≢false (sym a.one ∙ e))
 
-    twenty_six_lem : Exactly (X ≡ some not_aNumber) ((is_one d q ≡ true) × (is_other number d q ≡ true))
+    twenty_six_lem : Exactly (X ≡ some not_a_number) ((is_one d q ≡ true) × (is_other number d q ≡ true))
     twenty_six_lem = (λ e. go told e, back told)
       where
-        go : Told → X ≡ some not_aNumber → (is_one d q ≡ true) × (is_other number d q ≡ true)
-        go (item h x) e = absurd (omega (arith, same not_aNumber not_an_element e x))
+        go : Told → X ≡ some not_a_number → (is_one d q ≡ true) × (is_other number d q ≡ true)
+        go (item h x) e = absurd (omega (arith, same not_a_number not_an_element e x))
         go (kind h k x) e = (h, k)
-        go (many h k m x) e = absurd (omega (arith, same not_aNumber subscript_count e x))
-        go (round a x) e = absurd (not_round not_aNumber x e (λ z. omega arith) (λ z. omega arith))
+        go (many h k m x) e = absurd (omega (arith, same not_a_number subscript_count e x))
+        go (round a x) e = absurd (not_round not_a_number x e (λ z. omega arith) (λ z. omega arith))
 
-        back : Told → (is_one d q ≡ true) × (is_other number d q ≡ true) → X ≡ some not_aNumber
+        back : Told → (is_one d q ≡ true) × (is_other number d q ≡ true) → X ≡ some not_a_number
         back (item h x) e = absurd (true≢false (sym e.0 ∙ h))
         back (kind h k x) e = x
         back (many h k m x) e = absurd (true≢false (sym e.1 ∙ k))
@@ -489,7 +489,7 @@ module _ (d : List ℕ) (v : Numbers) (q : ElementName) where
       where
         go : Told → X ≡ some subscript_count → (is_one d q ≡ true) × (is_other number d q ≡ false) × (is_counted d q ≡ false)
         go (item h x) e = absurd (omega (arith, same subscript_count not_an_element e x))
-        go (kind h k x) e = absurd (omega (arith, same subscript_count not_aNumber e x))
+        go (kind h k x) e = absurd (omega (arith, same subscript_count not_a_number e x))
         go (many h k m x) e = (h, k, m)
         go (round a x) e = absurd (not_round subscript_count x e (λ z. omega arith) (λ z. omega arith))
 
@@ -511,7 +511,7 @@ module _ (d : List ℕ) (v : Numbers) (q : ElementName) where
       where
         go : Told → Round r
         go (item h x) = absurd (omega (arith, same r not_an_element e x))
-        go (kind h k x) = absurd (n (same r not_aNumber e x))
+        go (kind h k x) = absurd (n (same r not_a_number e x))
         go (many h k o x) = absurd (m (same r subscript_count e x))
         go (round a x) = let s = first_shut i 0 r (sym x ∙ e) in record { addressed = a; nest = s.0; first = (in_the_way_lem s.0).0 s.1; is = s.2 }
 

@@ -1,7 +1,7 @@
 -- Of demand 3: laid out, every octet below the total lies in exactly one element, known by its name, and no octet from the total on in any; each name that there is has an element of its
 -- length, and elements stand in the description's order. Assumes nothing.
 use Prim.Native.Nat.{ℕ, ◌+◌, ◌-◌, ◌<◌, ◌≤◌}
-use mathlib.Core.Path.{◌≡◌, refl, sym, ◌∙◌, ap}
+use mathlib.Core.Path.{◌≡◌, sym, ◌∙◌, ap}
 use mathlib.Core.Bool.{Bool, true, false}
 use mathlib.Core.List.{List, ◌++◌}
 use lib.ListN.{length, replicate, length-append, length-replicate}
@@ -12,7 +12,7 @@ use Rattle.meaning.specs.declared.ElementName.{ElementName}
 use Rattle.meaning.specs.Causes.{subscripts_of}
 use Rattle.meaning.specs.declared.Reply.{Reply}
 use Rattle.meaning.specs.declared.Place.{Place}
-use Rattle.meaning.specs.Description.{item_count, fields_at, is_uint}
+use Rattle.meaning.specs.Description.{item_count, fields_at}
 use Rattle.meaning.specs.Layout.{Placed, Seat, Slots}
 use Rattle.meaning.specs.Questions.{refusal_in}
 use Rattle.meaning.specs.Refusals.{open_image, place_reply, layout_reply, element_in, placed_place, element_place_in, element_place_reply, integer_place_reply, place_number, element_number_reply}

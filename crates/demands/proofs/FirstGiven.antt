@@ -34,7 +34,7 @@ use Rattle.meaning.specs.Calendar.{tier_by_schedule, dates_of}
 use Rattle.meaning.proofs.Either.{tested}
 use Rattle.meaning.specs.Questions as ask
 use Rattle.meaning.specs.Questions.{Question, refusal_in}
-use Rattle.meaning.specs.Numbers.{image_short, no_table, outside_table, not_writable, holds_dimension, wrong_size, not_aDate, season_change_armed, no_row_or_column, not_aCalendar}
+use Rattle.meaning.specs.Numbers.{image_short, no_table, outside_table, not_writable, holds_dimension, wrong_size, not_a_date, season_change_armed, no_row_or_column, not_a_calendar}
 use Rattle.laying.proofs.Opened.{Opens, opening, opened_image, total_laid, table_laid}
 use Rattle.laying.proofs.Found.{for_exactly}
 use Rattle.demands.specs.Given.{given, first_of}
@@ -156,7 +156,7 @@ calendar_first img (some a) none c = refl
 calendar_first img (some a) (some b) none = refl
 calendar_first img (some a) (some b) (some c) =
     fails_first found_refusal (length (seat_octets img b) =? 9 && length (seat_octets img c) =? table54_size (controls_of (data_order img) (seat_octets img b)))
-    not_aCalendar _ _ [] refl refl
+    not_a_calendar _ _ [] refl refl
 
 matrix_found : (f : Found) → verdict_refusal (matrix_verdict_in f) ≡ found_refusal f
 unfolding refusal_in verdict_reply matrix_verdict_in
@@ -178,13 +178,13 @@ season_first o c t day m q x s = test_first refusal_in (c.seasons ≤? s || miss
 moment_first : (o : ℕ) (c : Controls) (t : List ℕ) (w : Moment) (q : Quantity) → refusal_in (tier_in w q (found o c t)) ≡ first_of (sixteen_to_nineteen o c t w)
 unfolding refusal_in tier_in tier_day sixteen_to_nineteen
 moment_first o c t w q =
-    test_first refusal_in (not (real_date w.year w.month w.day && real_time w.hour w.minute)) not_aDate _ _ _ refl
+    test_first refusal_in (not (real_date w.year w.month w.day && real_time w.hour w.minute)) not_a_date _ _ _ refl
     (test_first refusal_in c.armed season_change_armed _ _ _ refl (season_first o c t _ _ q _ _))
 
 -- of a date without a time
 date_first : (o : ℕ) (c : Controls) (b : List ℕ) (t : Date) → refusal_in (seasoned_in t (found o c b)) ≡ first_of (sixteen t)
 unfolding refusal_in seasoned_in sixteen
-date_first o c b t = test_first refusal_in (not (real_date t.year t.month t.day)) not_aDate _ _ [] refl (unrefused (season_stands _ (dates_of o c b)))
+date_first o c b t = test_first refusal_in (not (real_date t.year t.month t.day)) not_a_date _ _ [] refl (unrefused (season_stands _ (dates_of o c b)))
   where
     unrefused : (x : Bool) → refusal_in (if x then Reply.Yes else Reply.No) ≡ first_of []
     unrefused x = tested (λ r. refusal_in r ≡ first_of []) x _ _ (λ e. none_given) (λ e. none_given)
@@ -192,7 +192,7 @@ date_first o c b t = test_first refusal_in (not (real_date t.year t.month t.day)
 -- of a date alone
 weekday_first : (t : Date) → refusal_in (weekday_reply t) ≡ first_of (sixteen t)
 unfolding refusal_in weekday_reply sixteen
-weekday_first t = fails_first refusal_in (real_date t.year t.month t.day) not_aDate _ _ [] refl none_given
+weekday_first t = fails_first refusal_in (real_date t.year t.month t.day) not_a_date _ _ [] refl none_given
 
 -- what is asked of a calendar that is found: the calendar's refusal where there is one, else the question's own
 module _ (img : List ℕ) (reply : Found → Reply) (absent : (r : Refusal) → refusal_in (reply (missing r)) ≡ some r) (rest : ℕ → Controls → List ℕ → List (Option Refusal))
@@ -205,8 +205,8 @@ module _ (img : List ℕ) (reply : Found → Reply) (absent : (r : Refusal) → 
   found_first (some a) (some b) none = absent no_table
   found_first (some a) (some b) (some c) =
       let k = controls_of (data_order img) (seat_octets img b) in
-      fails_first (λ f. refusal_in (reply f)) (length (seat_octets img b) =? 9 && length (seat_octets img c) =? table54_size k) not_aCalendar _ _
-      (rest (data_order img) k (seat_octets img c)) (absent not_aCalendar) (own (data_order img) k (seat_octets img c))
+      fails_first (λ f. refusal_in (reply f)) (length (seat_octets img b) =? 9 && length (seat_octets img c) =? table54_size k) not_a_calendar _ _
+      (rest (data_order img) k (seat_octets img c)) (absent not_a_calendar) (own (data_order img) k (seat_octets img c))
 
 tier_first : (img : List ℕ) (w : Moment) (q : Quantity) (a b c : Option Seat)
     → refusal_in (tier_in w q (seats_found img a b c)) ≡ first_of (ten_and_twenty img a b c ++ sixteen_to_nineteen (data_order img) (controls_of (data_order img) (octets_of img b)) (octets_of img c) w)

@@ -27,7 +27,7 @@ use Rattle.demands.specs.Replies.{Replies, octets_at, alone}
 use Rattle.demands.specs.Walk.{octets_in, numbers_in, arrays_round, way, way_to, Earlier}
 use Rattle.demands.proofs.OnlyFirst.{check_decided}
 use Rattle.demands.proofs.OnlyNames.{Element, Array, existing, arrays_are, names_compared}
-use Rattle.demands.proofs.OnlyPlaces.{told_none, passed_is, element_told, number_told, Is, start, size, set_out}
+use Rattle.demands.proofs.OnlyPlaces.{told_none, passed_is, element_told, number_told, Is, start, set_out}
 use Rattle.demands.proofs.OnlyTiles.{Compared, earlier, same, later}
 use Rattle.meaning.specs.Refusals.{place_start}
 

@@ -3,7 +3,7 @@
 use Prim.Native.Nat.{ℕ, ◌≤◌}
 use mathlib.Core.Path.{◌≡◌, refl, sym, ◌∙◌, ap}
 use mathlib.Core.Logic.{inl, inr}
-use mathlib.Core.Bool.{Bool, true, false}
+use mathlib.Core.Bool.{true}
 use mathlib.Core.List.{List, [], ◌∷◌}
 use mathlib.Core.Option.{Option, none}
 use lib.ListN.{length}
@@ -20,7 +20,7 @@ use Rattle.meaning.specs.Numbers.{image_too_long}
 use Rattle.meaning.specs.Questions as ask
 use Rattle.meaning.specs.Questions.{Question, refusal_in}
 use Rattle.meaning.specs.Refusals.{verdict_reply, place_reply, place_start, place_length}
-use Rattle.demands.specs.Given.{given, first_of}
+use Rattle.demands.specs.Given.{first_of}
 use Rattle.demands.specs.Demand1.{eight, nine_from, ten, refusals_of}
 use Rattle.demands.specs.Demand3.{Passed, LaysOrShort, SameName, length_in}
 use Rattle.demands.specs.Demands.{Demands}

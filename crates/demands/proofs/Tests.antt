@@ -10,10 +10,9 @@ use borrow.Author.Tests.{ltb-true, ltb-false, lt-ltb}
 use native.Mathlib.Decide.{dec_lt}
 use native.Mathlib.Omega.{arith}
 use Rattle.meaning.specs.Basics.{if◌then◌else◌, ◌<?◌}
-use Rattle.meaning.specs.declared.ElementName.{ElementName}
 use Rattle.meaning.specs.Description.{item_count, fields_at, is_table_named, is_dimension, table_given}
 use Rattle.meaning.specs.Layout.{Placed, Seat, Slots, table_named}
-use Rattle.meaning.specs.Refusals.{any_dimension, element_in, placed_place, element_place_reply}
+use Rattle.meaning.specs.Refusals.{any_dimension, placed_place, element_place_reply}
 use Rattle.meaning.proofs.Given.{table_given_lem}
 use Rattle.meaning.proofs.Passed.{passed_laws}
 use Rattle.meaning.proofs.Rules.{either_false, both_false}
@@ -23,10 +22,10 @@ use Rattle.laying.proofs.Found.{own}
 use Rattle.laying.proofs.Opened.{Opens, where_laid}
 use Rattle.demands.specs.Demand1.{table_item, meets, some_before, touches_dimension}
 use Rattle.demands.specs.Replies.{ours, octets_at, alone}
-use Rattle.demands.specs.Walk.{numbers_in, arrays_of, has_element, exists}
+use Rattle.demands.specs.Walk.{numbers_in, arrays_of, has_element}
 use Rattle.demands.proofs.Elements.{name_told}
 use Rattle.demands.proofs.Laid.{laid_facts}
-use Rattle.demands.proofs.Names.{name_long, dimension_direct, dimension_exists, is_found, name_found, found_name}
+use Rattle.demands.proofs.Names.{name_long, dimension_direct, dimension_exists, is_found}
 use Rattle.demands.proofs.Tables.{TableNamed, named_is, is_named, one_table, table_found_lem, found_table}
 use Rattle.meaning.proofs.Either.{clash}
 

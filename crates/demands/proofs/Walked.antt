@@ -10,7 +10,7 @@ use native.Mathlib.Omega.{arith}
 use Rattle.meaning.specs.Basics.{if◌then◌else◌, ◌<?◌, ◌≤?◌}
 use Rattle.meaning.specs.declared.Fields.{Fields}
 use Rattle.meaning.specs.declared.Round.{Round}
-use Rattle.meaning.specs.Description.{item_count, fields_at, is_element, is_array, is_choice, nests, nested, inside, slot_octets}
+use Rattle.meaning.specs.Description.{item_count, fields_at, is_element, is_array, is_choice, nests, nested, slot_octets}
 use Rattle.meaning.specs.Layout.{Body, branches_in, if_branches, branches_of, taken, body_in, only_body, body_at, leaf_octets, number_at}
 use Rattle.meaning.specs.Layout.{Slots, Placed, short, Laid, laid, stopped, in_image, placed, size_from, repeated, lay_body, lay_node, Numbers, value, slot_numbers}
 use Rattle.meaning.specs.Passed.{PassedLaws, end_of}

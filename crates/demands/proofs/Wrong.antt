@@ -1,7 +1,7 @@
 -- The wrong programs of specs/Wrong.antt break their clauses: what a clause says of our replies doesn't mention whose they are, so it says it of theirs. Assumes nothing.
 use Prim.Native.Nat.{ℕ, ◌≤◌}
 use mathlib.Core.Path.{◌≡◌, refl, sym, ◌∙◌, ap, subst}
-use mathlib.Core.Bool.{Bool, true, false, true≢false}
+use mathlib.Core.Bool.{true, true≢false}
 use mathlib.Core.List.{List, [], ◌∷◌}
 use lib.ListN.{length}
 use native.Mathlib.Omega.{arith}
@@ -19,7 +19,7 @@ use Rattle.meaning.specs.Questions.{refusal_in}
 use Rattle.meaning.specs.Refusals.{place_reply, layout_reply, element_place_reply, place_start, place_length}
 use Rattle.meaning.specs.Calendar.{tier_reply, seasoned_reply, matrix_verdict}
 use Rattle.meaning.proofs.Computing.{computing}
-use Rattle.demands.specs.Demand3.{Passed, AllInside, ElementsStand, length_in}
+use Rattle.demands.specs.Demand3.{AllInside, ElementsStand, length_in}
 use Rattle.demands.specs.Replies.{Replies, ours, octets_at, alone}
 use Rattle.demands.specs.Walk.{numbers_in, exists}
 use Rattle.demands.specs.Wrong.{TotalsOfD, CalendarRead, two_seasons, WrongPrograms}

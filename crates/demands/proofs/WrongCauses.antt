@@ -3,13 +3,12 @@ use Prim.Native.Nat.{ℕ}
 use mathlib.Core.Path.{◌≡◌, refl, sym, ◌∙◌, ap}
 use mathlib.Core.Option.{Option, some, none}
 use native.Mathlib.Omega.{arith}
-use Rattle.meaning.specs.declared.ElementName.{ElementName}
 use Rattle.meaning.specs.declared.Place.{Place}
 use Rattle.meaning.specs.declared.Refusal.{Refusal}
 use Rattle.meaning.specs.declared.Reply.{Reply}
 use Rattle.meaning.specs.Careful.{with_subscripts, maze, two_by_two, none_outside}
 use Rattle.meaning.specs.Examples.{plain}
-use Rattle.meaning.specs.Numbers.{branch_not_chosen, subscript_too_large, not_aNumber}
+use Rattle.meaning.specs.Numbers.{branch_not_chosen, subscript_too_large, not_a_number}
 use Rattle.meaning.specs.Questions.{refusal_in}
 use Rattle.meaning.specs.Refusals.{place_reply, layout_reply, element_place_reply, element_number_reply}
 use Rattle.meaning.proofs.Computing.{computing}
@@ -27,7 +26,7 @@ none_total : layout_reply maze none_outside ≡ Reply.Total 2
 unfolding computing
 none_total = refl
 
-block_number : refusal_in (element_number_reply maze two_by_two (plain 8)) ≡ some not_aNumber
+block_number : refusal_in (element_number_reply maze two_by_two (plain 8)) ≡ some not_a_number
 unfolding computing
 block_number = refl
 

@@ -2,7 +2,7 @@
 -- number asked of a BLOCK or SET. Order 22, 26, 24, then from the outside in: 23 for a branch, 25 for a subscript."
 -- Said twice. As tests, made apart from one another: their list alone says which comes first (specs/Demand1). And cause by cause, when each is told and when none (`CausesSay`): by which items
 -- enclose which, with no list and no search. Both over the description and the numbers of its dimensions. proofs/Causes.antt proves that they say the same, for every description. Assumes nothing.
-use Rattle.std.specs.Prelude.{ℕ, ◌<◌, ◌≤◌, ◌≡◌, Bool, true, false, not, ◌&&◌, List, [], ◌∷◌, map, length, get_or}
+use Rattle.std.specs.Prelude.{ℕ, ◌<◌, ◌≡◌, Bool, true, false, not, ◌&&◌, List, ◌∷◌, map, length, get_or}
 use Rattle.std.proofs.Math.Option.{Option, some, none}
 use Rattle.meaning.specs.Basics.{if◌then◌else◌, ◌=?◌, ◌<?◌, ◌≤?◌}
 use Rattle.meaning.specs.declared.ElementName.{ElementName}
@@ -10,7 +10,7 @@ use Rattle.meaning.specs.declared.Refusal.{Refusal}
 use Rattle.meaning.specs.Causes.{subscripts_of}
 use Rattle.meaning.specs.Description.{item_count, fields_at, is_uint, is_element, is_array}
 use Rattle.meaning.specs.Layout.{Numbers, value}
-use Rattle.meaning.specs.Numbers.{not_an_element, branch_not_chosen, subscript_count, subscript_too_large, not_aNumber}
+use Rattle.meaning.specs.Numbers.{not_an_element, branch_not_chosen, subscript_count, subscript_too_large, not_a_number}
 use Rattle.meaning.specs.Passed.{Exactly}
 use Rattle.demands.specs.Given.{given}
 use Rattle.demands.specs.Rules.{NestRound}
@@ -48,7 +48,7 @@ at_nest d v q j = given (not (is_open d v q j)) (told_at d q j)
 unfoldable pub causes_of : (number : Bool) → (description : List ℕ) → Numbers → ElementName → List (Option Refusal)
 causes_of number d v q =
     given (not (is_one d q)) not_an_element
-    ∷ given (is_other number d q) not_aNumber
+    ∷ given (is_other number d q) not_a_number
     ∷ given (not (is_counted d q)) subscript_count
     ∷ map (at_nest d v q) (nests_round d q.item)
 
@@ -90,7 +90,7 @@ pub record CausesSay (number : Bool) (d : List ℕ) (v : Numbers) (q : ElementNa
   pub clear : Exactly (refusal ≡ none) (Clear number d v q)
   pub granted : Exactly (refusal ≡ none) ((exists d v q ≡ true) × (is_other number d q ≡ false))
   pub twenty_two : Exactly (refusal ≡ some not_an_element) (is_one d q ≡ false)
-  pub twenty_six : Exactly (refusal ≡ some not_aNumber) ((is_one d q ≡ true) × (is_other number d q ≡ true))
+  pub twenty_six : Exactly (refusal ≡ some not_a_number) ((is_one d q ≡ true) × (is_other number d q ≡ true))
   pub twenty_four : Exactly (refusal ≡ some subscript_count) ((is_one d q ≡ true) × (is_other number d q ≡ false) × (is_counted d q ≡ false))
   pub twenty_three : Exactly (refusal ≡ some branch_not_chosen) (Unchosen number d v q)
   pub twenty_five : (k : ℕ) → Exactly (refusal ≡ some (subscript_too_large k)) (TooLarge number d v q k)

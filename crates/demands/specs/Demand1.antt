@@ -16,14 +16,14 @@ use Rattle.meaning.specs.declared.Place.{Place}
 use Rattle.meaning.specs.declared.Refusal.{Refusal}
 use Rattle.meaning.specs.declared.Told.{Told}
 use Rattle.meaning.specs.declared.Verdict.{Verdict}
-use Rattle.meaning.specs.Description.{item_count, fields_at, is_uint, is_dimension, is_table_named, table_given}
+use Rattle.meaning.specs.Description.{item_count, fields_at, is_dimension, is_table_named, table_given}
 use Rattle.meaning.specs.Layout.{data_order}
 use Rattle.meaning.specs.Refusals.{refused_with, told_by, verdict_reply, table_around, writable, place_start, place_length}
 use Rattle.meaning.specs.Calendar.{real_date, real_time, day_number, controls_of, table54_size, dates_of, season_on, in_season, special_on, missing_special}
 use Rattle.meaning.specs.Questions as ask
 use Rattle.meaning.specs.Questions.{Question, refusal_in}
 use Rattle.meaning.specs.Numbers.{reports_item, reports_octet, reports_depth, is_given, nothing_refused, image_too_long, image_short, no_table, outside_table}
-use Rattle.meaning.specs.Numbers.{not_writable, holds_dimension, wrong_size, not_aDate, season_change_armed, no_row_or_column, not_aCalendar}
+use Rattle.meaning.specs.Numbers.{not_writable, holds_dimension, wrong_size, not_a_date, season_change_armed, no_row_or_column, not_a_calendar}
 use Rattle.demands.specs.Causes.{causes_of}
 use Rattle.demands.specs.Given.{given, first_of}
 use Rattle.demands.specs.Replies.{Replies, outcome_by, alone}
@@ -84,7 +84,7 @@ fifteen fits = given (not fits) wrong_size
 -- THE CALENDAR
 -- 10: tables 00, 51, 54; 20: Table 51 isn't 9 octets, or Table 54 isn't of the size that Table 51 says
 unfoldable pub twenty : (order : ℕ) → (table51 table54 : List ℕ) → Option Refusal
-twenty o a b = given (not (length a =? 9 && length b =? table54_size (controls_of o a))) not_aCalendar
+twenty o a b = given (not (length a =? 9 && length b =? table54_size (controls_of o a))) not_a_calendar
 
 unfoldable pub of_calendar : Replies → (description image : List ℕ) → List (Option Refusal)
 of_calendar R d img = ten d 0 0 ∷ ten d 0 51 ∷ ten d 0 54 ∷ twenty (data_order img) (R.table_part d img 0 51) (R.table_part d img 0 54) ∷ []
@@ -96,7 +96,7 @@ nineteen c x s = given (c.seasons ≤? s || missing_special c x) no_row_or_colum
 -- 16: not a real date or not a time; 18: SEASON_CHNG_ARMED_FLAG set; then that
 unfoldable pub sixteen_to_nineteen : (order : ℕ) → Controls → (table54 : List ℕ) → Moment → List (Option Refusal)
 sixteen_to_nineteen o c t w =
-    given (not (real_date w.year w.month w.day && real_time w.hour w.minute)) not_aDate
+    given (not (real_date w.year w.month w.day && real_time w.hour w.minute)) not_a_date
     ∷ given c.armed season_change_armed
     ∷ nineteen c (special_on (day_number w.year w.month w.day) (dates_of o c t)) (in_season (season_on (day_number w.year w.month w.day) (dates_of o c t)))
     ∷ []
@@ -107,7 +107,7 @@ of_moment R d img w = sixteen_to_nineteen (data_order img) (controls_of (data_or
 
 -- of a date without a time, 16 alone
 unfoldable pub sixteen : Date → List (Option Refusal)
-sixteen t = given (not (real_date t.year t.month t.day)) not_aDate ∷ []
+sixteen t = given (not (real_date t.year t.month t.day)) not_a_date ∷ []
 
 -- ORDER: EACH QUESTION'S REFUSALS
 unfoldable pub refusals_of : Replies → Question → (description image : List ℕ) → List (Option Refusal)

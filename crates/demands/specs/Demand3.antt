@@ -9,7 +9,6 @@ use Rattle.meaning.specs.Basics.{if◌then◌else◌}
 use Rattle.meaning.specs.declared.ElementName.{ElementName}
 use Rattle.meaning.specs.Causes.{subscripts_of}
 use Rattle.meaning.specs.declared.Reply.{Reply}
-use Rattle.meaning.specs.declared.Place.{Place}
 use Rattle.meaning.specs.declared.Verdict.{Verdict}
 use Rattle.meaning.specs.Description.{item_count, fields_at, is_table, is_table_named}
 use Rattle.meaning.specs.Passed.{Exactly, end_of}

@@ -14,7 +14,7 @@ use Rattle.meaning.specs.declared.Verdict.{Verdict}
 use Rattle.meaning.specs.Careful.{with_subscripts, maze, two_by_two, none_outside}
 use Rattle.meaning.specs.Examples.{D, D_writable, first, plain, at, offset, clock, clock_image, moment, date}
 use Rattle.meaning.specs.Messages.{full_write, sum_of}
-use Rattle.meaning.specs.Numbers.{not_aDate, branch_not_chosen, subscript_count, subscript_too_large}
+use Rattle.meaning.specs.Numbers.{not_a_date, branch_not_chosen, subscript_count, subscript_too_large}
 use Rattle.meaning.specs.Layout.{data_order}
 use Rattle.meaning.specs.Refusals.{table_part_reply}
 use Rattle.almanac.specs.Days.{IsReal}
@@ -195,7 +195,7 @@ module _ (R : Replies) where
 
   -- 21. 2000 TAKEN FOR A COMMON YEAR breaks "one of the seven" on every real date
   pub record CommonYear : Type 0 where
-    pub unreal : R.weekday (date 2000 2 29) ≡ Reply.Refused not_aDate
+    pub unreal : R.weekday (date 2000 2 29) ≡ Reply.Refused not_a_date
 
   -- 22. A WEEK THAT STARTS WITH MONDAY AS 0, so that Sunday is 6, breaks what 19 does
   pub record MondayFirst : Type 0 where

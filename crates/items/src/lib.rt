@@ -206,13 +206,13 @@ pub fn nests(f: Fields) -> bool
 }
 
 // A place in a description: before item `at`.
-#[derive(Drop)]
+#[derive(Clone, Copy)]
 pub struct Cursor {
     at: usize,
 }
 
 // What the item here says, and the next place.
-#[derive(Drop)]
+#[derive(Clone, Copy)]
 pub struct Read {
     pub fields: Fields,
     pub next: Cursor,

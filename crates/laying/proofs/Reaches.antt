@@ -11,7 +11,6 @@ use borrow.Author.Tests.{le-ltb}
 use native.Mathlib.Omega.{arith}
 use Rattle.meaning.specs.Basics.{◌≤?◌}
 use Rattle.meaning.specs.declared.Fields.{Fields}
-use Rattle.meaning.specs.Description.{refers}
 use Rattle.meaning.specs.Passed.{Passes}
 use Rattle.meaning.specs.Layout.{Node, Body, Arms, Tables, leaf, array, choice, stray, done, more, last_arm, arm, no_more, table, stray_table, tree_of}
 use Rattle.meaning.specs.Layout.{Slots, unread, holds, set_slot, leaf_octets, number_at, Placed, Stop, fault, short, Laid, laid, stopped, also, and_then, in_image, placed}

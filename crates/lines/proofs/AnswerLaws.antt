@@ -133,14 +133,14 @@ not_taken kind d m numbers new e t = rw (← e, t)
 pub unknown : (kind : ℕ) (line : List ℕ) {word : List ℕ} → kind ≡ kind_of word → word ≡ nth (line_words line) 0 → length rows ≤ kind → length line ≤ 300000
     → no_form ≡ answer_text line
 unfolding answer_words
-unknown kind line is-kind is_IsWord h short = rw (← is_IsWord, ← is-kind, le-ltb kind (length rows) h) refl ∙ taken line short
+unknown kind line is-kind is-word h short = rw (← is-word, ← is-kind, le-ltb kind (length rows) h) refl ∙ taken line short
 
 -- THE REPLIES
 module _ (kind : ℕ) {f : Form} (line : List ℕ) {word description image given : List ℕ} {r : Asked} (is-kind : kind ≡ kind_of word) (is-form : f ≡ form_of kind)
-    (is_IsWord : word ≡ nth (line_words line) 0) (inside : kind < length rows) (s : AskedRead f (line_words line) description image given r) where
+    (is-word : word ≡ nth (line_words line) 0) (inside : kind < length rows) (s : AskedRead f (line_words line) description image given r) where
   answer_as_lem : answer_as kind f (line_words line) ≡ answer_words (line_words line)
   unfolding answer_words
-  answer_as_lem = rw (is-form, ← is_IsWord, ← is-kind, lt-ltb kind (length rows) inside)
+  answer_as_lem = rw (is-form, ← is-word, ← is-kind, lt-ltb kind (length rows) inside)
 
   pub asked_reply : r.is ≡ true → length line ≤ 300000
       → reply_text kind (take r.d description) (take r.m image) r.numbers (take r.given given) ≡ answer_text line

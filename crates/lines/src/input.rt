@@ -1,15 +1,15 @@
 // Standard input, taken apart into lines. A line is gathered in `line`, which has room for one octet
 // more than the longest line that is taken: of a longer line so many octets are held, and the rest
 // is passed over.
-ghost use Rattle.std.specs.Prelude.{◌-◌, ◌≤◌, length, take, drop};
+ghost use Rattle.std.specs.Prelude.{◌-◌, ◌≤◌, length, take, drop, IfOk};
 ghost use Rattle.lines.specs.Answer.{Memory};
 ghost use Rattle.lines.specs.Input.{Held};
 
 use crate::reply;
-use libc::{STDIN_FILENO, STDOUT_FILENO};
+use std::io::{Read, Result, Write};
 
 // Where reading stands: how many octets of an unfinished line are held, and whether to go on.
-#[derive(Drop)]
+#[derive(Clone, Copy)]
 pub struct Stand {
     pub held: usize,
     pub going: bool,
@@ -31,23 +31,26 @@ fn hold(line: &mut [u8], held: usize, chunk: &[u8], from: usize, to: usize) -> u
     words::put_text(line, held, &chunk[from..end])
 }
 
-// Answers a line, and whether its reply was written.
-fn give(
+// Answers a line, and writes its reply.
+fn give<W: Write>(
+    output: &mut W,
     line: &[u8],
     out: &mut [u8],
     description: &mut [u8],
     image: &mut [u8],
     given: &mut [u8],
-) -> bool
+) -> Result<()>
     requires { Memory out.old description.old image.old given.old }
 {
     let n = reply::answer(line, out, description, image, given);
-    io::write_all(STDOUT_FILENO, &out[..n])
+    output.write_all(&out[..n])
 }
 
-// Answers each line that ends in chunk, and holds what comes after the last of them. It stops at a
-// reply that is not written, since the replies after it would answer other lines.
-fn take_lines(
+// Answers each line that ends in chunk, and holds what comes after the last of them: how many octets
+// that is. It stops at a reply that is not written, since the replies after it would answer other
+// lines.
+fn take_lines<W: Write>(
+    output: &mut W,
     chunk: &[u8],
     line: &mut [u8],
     held: usize,
@@ -55,39 +58,33 @@ fn take_lines(
     description: &mut [u8],
     image: &mut [u8],
     given: &mut [u8],
-) -> Stand
+) -> Result<usize>
     requires held_in_bounds { held ≤ length line.old }
     requires memory { Memory out.old description.old image.old given.old }
-    ensures { result.held ≤ length line.old }
+    ensures { IfOk result (λ n. n ≤ length line.old) }
 {
     let mut n = held;
     let mut from = 0;
     while from < chunk.len() {
-        let end = bytes::scan::find(chunk, from, chunk.len(), b'\n');
+        let end = match chunk[from..].iter().position(|b| *b == b'\n') {
+            Some(before) => from + before,
+            None => chunk.len(),
+        };
         n = hold(line, n, chunk, from, end);
         if end == chunk.len() {
-            return Stand {
-                held: n,
-                going: true,
-            };
+            return Ok(n);
         }
-        if !give(&line[..n], out, description, image, given) {
-            return Stand {
-                held: 0,
-                going: false,
-            };
-        }
+        give(output, &line[..n], out, description, image, given)?;
         n = 0;
         from = end + 1;
     }
-    Stand {
-        held: n,
-        going: true,
-    }
+    Ok(n)
 }
 
 // Reads once. Where the input ends, or cannot be read, a last line without line feed is answered.
-fn read_some(
+fn read_some<R: Read, W: Write>(
+    input: &mut R,
+    output: &mut W,
     chunk: &mut [u8],
     line: &mut [u8],
     held: usize,
@@ -95,35 +92,49 @@ fn read_some(
     description: &mut [u8],
     image: &mut [u8],
     given: &mut [u8],
-) -> Stand
+) -> Result<Stand>
     requires held_in_bounds { held ≤ length line.old }
     requires memory { Memory out.old description.old image.old given.old }
-    ensures { result.held ≤ length line.old }
+    ensures { IfOk result (λ stand. stand.held ≤ length line.old) }
 {
-    let got = libc::read(STDIN_FILENO, chunk);
-    let n = io::count(got, chunk);
-    if n == 0 {
-        if 0 < held {
-            give(&line[..held], out, description, image, given);
+    let got = input.read(chunk);
+    if let Ok(n) = got {
+        if 0 < n {
+            let held = take_lines(
+                output,
+                &chunk[..n],
+                line,
+                held,
+                out,
+                description,
+                image,
+                given,
+            )?;
+            return Ok(Stand { held, going: true });
         }
-        return Stand {
-            held: 0,
-            going: false,
-        };
     }
-    take_lines(&chunk[..n], line, held, out, description, image, given)
+    if 0 < held {
+        give(output, &line[..held], out, description, image, given)?;
+    }
+    got?;
+    Ok(Stand {
+        held: 0,
+        going: false,
+    })
 }
 
 // A proved loop has to end, and nothing says that the input does. So the loop counts its turns
 // down, from a number that no run uses up.
-pub fn run(
+pub fn run<R: Read, W: Write>(
+    input: &mut R,
+    output: &mut W,
     chunk: &mut [u8],
     line: &mut [u8],
     out: &mut [u8],
     description: &mut [u8],
     image: &mut [u8],
     given: &mut [u8],
-)
+) -> Result<()>
     requires { Memory out.old description.old image.old given.old }
 {
     let mut stand = Stand {
@@ -133,10 +144,21 @@ pub fn run(
     let mut turns = u64::MAX;
     while turns > 0 {
         let held = stand.held;
-        stand = read_some(chunk, line, held, out, description, image, given);
+        stand = read_some(
+            input,
+            output,
+            chunk,
+            line,
+            held,
+            out,
+            description,
+            image,
+            given,
+        )?;
         if !stand.going {
-            return;
+            return Ok(());
         }
         turns -= 1;
     }
+    Ok(())
 }

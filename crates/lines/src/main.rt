@@ -1,6 +1,7 @@
 // Reads requests from standard input, a line each, and writes one reply line for each to standard
 // output, in order, until the input ends. Nothing is kept between lines.
 #![tactic(auto)]
+
 mod ask;
 mod input;
 mod memory;
@@ -10,19 +11,23 @@ mod read;
 mod reply;
 mod rows;
 
-fn main() {
-    let mut chunk = io::large_buffer();
+use std::io::Result;
+
+fn main(rt: HostRuntime) -> Result<()> {
+    let mut chunk = memory::chunk();
     let mut line = memory::line();
     let mut out = memory::reply();
     let mut description = memory::octets();
     let mut image = memory::octets();
     let mut given = memory::octets();
     input::run(
+        &mut rt.stdin(),
+        &mut rt.stdout(),
         &mut chunk,
         &mut line,
         &mut out,
         &mut description,
         &mut image,
         &mut given,
-    );
+    )
 }

@@ -1,6 +1,8 @@
 // The memory that the program lends itself. Each piece is made by a call, so that a proof about its
 // length goes by its type, and never by its hundreds of thousands of octets.
 
+// What is read at a time.
+pub const CHUNK: usize = 65536;
 // The longest line that is taken, and one octet more, by which a longer line is told.
 pub const LINE: usize = 300001;
 // The longest reply that any row could have: six numbers, a part of the image, the matrix or a
@@ -9,6 +11,10 @@ pub const REPLY: usize = 900131;
 // The octets of a description, an image, what is to be written or a message: no line that is taken
 // has hex digits for more.
 pub const OCTETS: usize = 150000;
+
+pub fn chunk() -> [u8; CHUNK] {
+    [0u8; CHUNK]
+}
 
 pub fn line() -> [u8; LINE] {
     [0u8; LINE]

@@ -9,7 +9,7 @@ use crate::rows;
 use meaning::Reply;
 
 // What a row told: its numbers, and how many octets.
-#[derive(Drop)]
+#[derive(Clone, Copy)]
 pub struct Answered {
     pub numbers: [u64; 6],
     pub count: usize,
@@ -30,7 +30,7 @@ fn read_request(d: &[u8], part: &mut [u8]) -> Answered
     ensures { ReadAs (of_request d.now [] [] []) d.now result part.new }
 {
     let told = replies::request_told(messages::read_request(d));
-    let count = bytes::copy(messages::request_data(d), part);
+    let count = words::put_text(part, 0, messages::request_data(d));
     Answered {
         numbers: [told.code, told.kind, told.id, told.offset, told.count, 0],
         count,
@@ -42,7 +42,7 @@ fn read_reply(d: &[u8], part: &mut [u8]) -> Answered
     ensures { ReadAs (of_reply d.now [] [] []) d.now result part.new }
 {
     let told = replies::reply_told(messages::read_reply(d));
-    let count = bytes::copy(messages::reply_data(d), part);
+    let count = words::put_text(part, 0, messages::reply_data(d));
     let refusal = told.refusal;
     Answered {
         numbers: [refusal.number, told.kind, told.code, 0, 0, 0],

@@ -9,14 +9,14 @@ use meaning::{Date, ElementName, Moment};
 use words::{Number, Octets, Words};
 
 // Numbers: whether each is one, and what they come to; 0 behind the last.
-#[derive(Drop)]
+#[derive(Clone, Copy)]
 pub struct Numbers {
     pub are: bool,
     pub values: [u64; 7],
 }
 
 // A word of octets: whether it is one, and how many octets it has.
-#[derive(Drop)]
+#[derive(Clone, Copy)]
 pub struct Part {
     pub are: bool,
     pub count: usize,
@@ -24,7 +24,7 @@ pub struct Part {
 
 // A line: whether it is of the form that was looked for; how many octets D, M and DATA have, and
 // the numbers.
-#[derive(Drop)]
+#[derive(Clone, Copy)]
 pub struct Asked {
     pub is: bool,
     pub d: usize,
@@ -123,7 +123,7 @@ pub fn read_asked(
 }
 
 // A table by its two numbers.
-#[derive(Drop)]
+#[derive(Clone, Copy)]
 pub struct TableName {
     pub manufacturer: u32,
     pub number: u32,

@@ -54,7 +54,7 @@ pub const ROWS: usize = 20;
 // The form of a line: how many words it has; how many of octets stand behind the name, none, D, or D
 // and M; how many numbers stand behind those, and the most that each may come to; whether DATA stands
 // last. And its reply: how many numbers it tells, whether octets, whether the image afterwards.
-#[derive(Drop)]
+#[derive(Clone, Copy)]
 pub struct Form {
     pub words: usize,
     pub lent: usize,
@@ -124,7 +124,7 @@ const ONE_MORE: usize = 5;
 const TWO_MORE: usize = 6;
 
 // A row of the table: the fields of Form, in their order.
-#[derive(Drop)]
+#[derive(Clone, Copy)]
 struct Row(usize, usize, usize, [u64; 7], bool, usize, bool, bool);
 
 const TABLE_ROWS: [Row; ROWS] = [

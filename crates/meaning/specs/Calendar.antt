@@ -15,7 +15,7 @@ use Rattle.meaning.specs.declared.Reply.{Reply}
 use Rattle.meaning.specs.declared.Triple.{Triple}
 use Rattle.meaning.specs.Layout.{Seat, data_order, table_named}
 use Rattle.meaning.specs.Refusals.{Opened, opened, refused, open_image}
-use Rattle.meaning.specs.Numbers.{no_table, not_aDate, season_change_armed, no_row_or_column, not_aCalendar}
+use Rattle.meaning.specs.Numbers.{no_table, not_a_date, season_change_armed, no_row_or_column, not_a_calendar}
 
 -- DATES
 -- Gregorian: every fourth year, but of the hundreds only every fourth
@@ -221,7 +221,7 @@ pub data Found : Type 0 where
 -- 20: Table 51 isn't 9 octets, or Table 54 isn't of the size that Table 51 says
 unfoldable pub sized : (order : ℕ) → (table51 table54 : List ℕ) → Found
 sized o a b =
-    if length a =? 9 && length b =? table54_size (controls_of o a) then found o (controls_of o a) b else missing not_aCalendar
+    if length a =? 9 && length b =? table54_size (controls_of o a) then found o (controls_of o a) b else missing not_a_calendar
 
 abbrev pub seat_octets : (image : List ℕ) → Seat → List ℕ
 seat_octets img t = part img t.start t.size
@@ -254,7 +254,7 @@ tier_day o c t day m q = tier_on o c t day m q (special_on day (dates_of o c t))
 unfoldable pub tier_in : Moment → Quantity → Found → Reply
 tier_in w q (missing r) = Reply.Refused r
 tier_in w q (found o c t) =
-    if not (real_date w.year w.month w.day && real_time w.hour w.minute) then Reply.Refused not_aDate
+    if not (real_date w.year w.month w.day && real_time w.hour w.minute) then Reply.Refused not_a_date
     else if c.armed then Reply.Refused season_change_armed
     else tier_day o c t (day_number w.year w.month w.day) (60 * w.hour + w.minute) q
 
@@ -265,7 +265,7 @@ tier_reply d img w q = tier_in w q (calendar d img)
 unfoldable pub seasoned_in : Date → Found → Reply
 seasoned_in t (missing r) = Reply.Refused r
 seasoned_in t (found o c b) =
-    if not (real_date t.year t.month t.day) then Reply.Refused not_aDate
+    if not (real_date t.year t.month t.day) then Reply.Refused not_a_date
     else if season_stands (day_number t.year t.month t.day) (dates_of o c b) then Reply.Yes
     else Reply.No
 
@@ -275,7 +275,7 @@ seasoned_reply d img t = seasoned_in t (calendar d img)
 -- THE WEEKDAY OF A DATE (document 02, E3), 0 for Sunday to 6 for Saturday; or 16 alone. It needs no table
 unfoldable pub weekday_reply : Date → Reply
 weekday_reply t =
-    if real_date t.year t.month t.day then Reply.Weekday (weekday_of (day_number t.year t.month t.day)) else Reply.Refused not_aDate
+    if real_date t.year t.month t.day then Reply.Weekday (weekday_of (day_number t.year t.month t.day)) else Reply.Refused not_a_date
 
 -- THE MATRIX: fifteen rows of twenty-two; cells stand as in Table 54's rows, unused ones are 0
 unfoldable pub matrix_cell : Controls → (table54 : List ℕ) → (row column : ℕ) → ℕ

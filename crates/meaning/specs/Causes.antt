@@ -10,7 +10,7 @@ use Rattle.meaning.specs.declared.Inner.{Inner}
 use Rattle.meaning.specs.declared.Refusal.{Refusal}
 use Rattle.meaning.specs.Description.{item_count, fields_at, is_uint, is_element, is_array, is_choice, count}
 use Rattle.meaning.specs.Layout.{Numbers, value, branches_of, taken}
-use Rattle.meaning.specs.Numbers.{nothing_refused, not_an_element, branch_not_chosen, subscript_count, subscript_too_large, not_aNumber}
+use Rattle.meaning.specs.Numbers.{nothing_refused, not_an_element, branch_not_chosen, subscript_count, subscript_too_large, not_a_number}
 
 -- WHAT STANDS ROUND AN ITEM
 -- item j, which is f, encloses a later item i
@@ -69,6 +69,6 @@ in_the_way d v i xs (suc n) j k =
 unfoldable pub why_none : (number : Bool) → (description : List ℕ) → Numbers → ElementName → Refusal
 why_none number d v q =
     if not (is_one d q) then not_an_element
-    else if not (suits number d q) then not_aNumber
+    else if not (suits number d q) then not_a_number
     else if not (right_count d q) then subscript_count
     else in_the_way d v q.item (subscripts_of q) q.item 0 0

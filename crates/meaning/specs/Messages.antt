@@ -16,7 +16,7 @@ use Rattle.meaning.specs.declared.Verdict.{Verdict}
 use Rattle.meaning.specs.Refusals.{verdict_reply, table_place_reply, write_range_reply, write_range_image}
 use Rattle.meaning.specs.Questions as ask
 use Rattle.meaning.specs.Questions.{Outcome, outcome, outcome_of, refusal_in}
-use Rattle.meaning.specs.Numbers.{nothing_refused, outside_table, no_room, not_aReply}
+use Rattle.meaning.specs.Numbers.{nothing_refused, outside_table, no_room, not_a_reply}
 
 -- FIELDS
 -- a number in n octets
@@ -240,7 +240,7 @@ unfoldable pub reply_told : Heard → ReplyTold
 reply_told (Heard.Data n) = record { refusal = nothing_refused; kind = 1; code = 0; count = n; start = 3 }
 reply_told Heard.Done = record { refusal = nothing_refused; kind = 2; code = 0; count = 0; start = 0 }
 reply_told (Heard.Refused c) = record { refusal = nothing_refused; kind = 3; code = c; count = 0; start = 0 }
-reply_told Heard.NoReply = record { refusal = not_aReply; kind = 0; code = 0; count = 0; start = 0 }
+reply_told Heard.NoReply = record { refusal = not_a_reply; kind = 0; code = 0; count = 0; start = 0 }
 
 -- what is to be written. A request's kind is its first octet; none where there is no such kind. What a form lacks isn't judged
 unfoldable pub request_of : (kind id offset count : ℕ) → (new : List ℕ) → Option Request

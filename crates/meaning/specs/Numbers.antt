@@ -60,8 +60,8 @@ abbrev pub wrong_size : Refusal
 wrong_size = numbered 15
 
 -- not a real date, or not a time
-abbrev pub not_aDate : Refusal
-not_aDate = numbered 16
+abbrev pub not_a_date : Refusal
+not_a_date = numbered 16
 
 abbrev pub season_change_armed : Refusal
 season_change_armed = numbered 18
@@ -71,8 +71,8 @@ abbrev pub no_row_or_column : Refusal
 no_row_or_column = numbered 19
 
 -- Table 51 isn't 9 octets, or Table 54 isn't the size that it says
-abbrev pub not_aCalendar : Refusal
-not_aCalendar = numbered 20
+abbrev pub not_a_calendar : Refusal
+not_a_calendar = numbered 20
 
 -- a message doesn't fit the room lent, or a number its field
 abbrev pub no_room : Refusal
@@ -95,9 +95,9 @@ abbrev pub subscript_too_large : (depth : ℕ) → Refusal
 subscript_too_large k = record { number = 25; item = 0; octet = 0; depth = k }
 
 -- number asked of a BLOCK or SET
-abbrev pub not_aNumber : Refusal
-not_aNumber = numbered 26
+abbrev pub not_a_number : Refusal
+not_a_number = numbered 26
 
 -- octets that are no reply of a meter
-abbrev pub not_aReply : Refusal
-not_aReply = numbered 43
+abbrev pub not_a_reply : Refusal
+not_a_reply = numbered 43

@@ -5,7 +5,7 @@
 use offsets::ImageOffset;
 
 // What an item of a description says, each field 0 where its kind has none.
-#[derive(Drop)]
+#[derive(Clone, Copy)]
 pub struct Fields {
     // 1 to 6; 0 is malformed.
     pub kind: u32,
@@ -27,14 +27,14 @@ pub struct Fields {
 }
 
 // A body inside an item: how many of the items in it come before that body, and how many it has.
-#[derive(Drop)]
+#[derive(Clone, Copy)]
 pub struct Inner {
     pub skip: usize,
     pub items: usize,
 }
 
 // What stands round an item: where the innermost body round it ends, and how many TABLEs, and ARRAYs and IFs, enclose it.
-#[derive(Drop)]
+#[derive(Clone, Copy)]
 pub struct Round {
     pub limit: usize,
     pub tables: u32,
@@ -42,7 +42,7 @@ pub struct Round {
 }
 
 // The name of an element: its item, and one subscript for each ARRAY round it, outermost first. Places past the count aren't read.
-#[derive(Drop)]
+#[derive(Clone, Copy)]
 pub struct ElementName {
     pub item: usize,
     pub count: usize,
@@ -50,7 +50,7 @@ pub struct ElementName {
 }
 
 // A date.
-#[derive(Drop)]
+#[derive(Clone, Copy)]
 pub struct Date {
     pub year: u32,
     pub month: u32,
@@ -58,7 +58,7 @@ pub struct Date {
 }
 
 // A date and a time of day.
-#[derive(Drop)]
+#[derive(Clone, Copy)]
 pub struct Moment {
     pub year: u32,
     pub month: u32,
@@ -68,14 +68,14 @@ pub struct Moment {
 }
 
 // What a tier is asked for.
-#[derive(Drop)]
+#[derive(Clone, Copy)]
 pub enum Quantity {
     Summations,
     Demands,
 }
 
 // What Table 51 says of the calendar: its flags, and how many records and schedules Table 54 has.
-#[derive(Drop)]
+#[derive(Clone, Copy)]
 pub struct Controls {
     // SEASON_CHNG_ARMED, ANCHOR_DATE, SEPARATE_WEEKDAYS, SEPARATE_SUM_DEMANDS.
     pub armed: bool,
@@ -91,14 +91,14 @@ pub struct Controls {
 }
 
 // Three octets of Table 54: a number of two, and one more.
-#[derive(Drop)]
+#[derive(Clone, Copy)]
 pub struct Triple {
     pub word: u32,
     pub octet: u32,
 }
 
 // What a record of Table 54 brings: nothing, or something from a day or a minute on.
-#[derive(Drop)]
+#[derive(Clone, Copy)]
 pub enum Chosen {
     Nothing,
     Entry { when: u32, brings: u32 },
@@ -107,7 +107,7 @@ pub enum Chosen {
 // Why a question is refused: the number of document 01 or 02, and what it reports, an item, an octet and a subscript's depth, each 0 where it reports none. C has this very struct. The numbers that
 // report nothing have their names here; specs/Numbers.antt has the same names, for the definitions.
 #[repr(C)]
-#[derive(Drop)]
+#[derive(Clone, Copy)]
 pub struct Refusal {
     pub number: u64,
     pub item: u64,
@@ -245,21 +245,21 @@ impl Refusal {
 }
 
 // Whether a description is sound, a write is accepted, the matrix can be had.
-#[derive(Drop)]
+#[derive(Clone, Copy)]
 pub enum Verdict {
     Passed,
     Refused(Refusal),
 }
 
 // Where a table or an element is, and how long.
-#[derive(Drop)]
+#[derive(Clone, Copy)]
 pub enum Place {
     At { start: ImageOffset, length: usize },
     Refused(Refusal),
 }
 
 // What a question is answered: a case for each kind of answer. specs/Refusals.antt has the numbers that each tells.
-#[derive(Drop)]
+#[derive(Clone, Copy)]
 pub enum Reply {
     Refused(Refusal),
     // A verdict that refuses nothing.
@@ -281,7 +281,7 @@ pub enum Reply {
 }
 
 // A reply in numbers, for callers that know no enum: the refusal, and two numbers of the answer's own, 0 where it has fewer or is refused.
-#[derive(Drop)]
+#[derive(Clone, Copy)]
 pub struct Told {
     pub refusal: Refusal,
     pub first: u64,
@@ -290,7 +290,7 @@ pub struct Told {
 
 // A request as it was read (document 02's E2): what it asks for, or the octet that refuses it. Of a write, how many octets of data it has; they stand from its octet 5 on,
 // behind an offset from octet 8 on.
-#[derive(Drop)]
+#[derive(Clone, Copy)]
 pub enum Requested {
     Refused(u32),
     FullRead {
@@ -313,7 +313,7 @@ pub enum Requested {
 }
 
 // A meter's reply as it was read: so many octets of data, from its octet 3 on; a write done; the octet that refuses. Or it is no reply.
-#[derive(Drop)]
+#[derive(Clone, Copy)]
 pub enum Heard {
     Data { count: usize },
     Done,
@@ -324,7 +324,7 @@ pub enum Heard {
 // A request that was read, in numbers, for callers that know no enum; C has this very struct. The octet that refuses it, 0 where none does; its kind, which is its first
 // octet, id, offset and count; where its data start. All else is 0 where it is refused, and so is what its form lacks.
 #[repr(C)]
-#[derive(Drop)]
+#[derive(Clone, Copy)]
 pub struct RequestTold {
     pub code: u64,
     pub kind: u64,
@@ -336,7 +336,7 @@ pub struct RequestTold {
 
 // A meter's reply that was read, likewise: its kind, 1 for data, 2 for done, 3 for refused; the octet that refuses; how many data, and where they start.
 #[repr(C)]
-#[derive(Drop)]
+#[derive(Clone, Copy)]
 pub struct ReplyTold {
     pub refusal: Refusal,
     pub kind: u64,

@@ -1,5 +1,5 @@
 -- Octets put into a room, one field behind the other, and the message that they make: sent where it fits. Assumes nothing.
-use Rattle.std.proofs.Common.{◌≡◌, ℕ, ◌+◌, ◌-◌, ◌≤◌, Bool, true, false, ◌&&◌, List, [], ◌∷◌, ◌++◌, length, take, drop, set, sym, refl, ap, ◌∙◌, append_assoc, zero-add, add-one, arith, length-append, length-take-le, drop-drop, leb-true}
+use Rattle.std.proofs.Common.{◌≡◌, ℕ, ◌+◌, ◌-◌, ◌≤◌, Bool, true, false, ◌&&◌, List, [], ◌∷◌, ◌++◌, length, take, set, sym, refl, ap, ◌∙◌, append_assoc, zero-add, add-one, arith, length-append, length-take-le, drop-drop, leb-true}
 use lib.Seq.{set_split, append_snoc, take-append_seam, drop-append-add}
 use borrow.Rule.Slice.PartMut.{mid_of, put_mid, mid_len, Post-is}
 use Rattle.meaning.specs.Basics.{◌≤?◌, splice, octets_in}
@@ -9,7 +9,6 @@ use Rattle.meaning.specs.declared.Reply.{Reply}
 use Rattle.meaning.proofs.Either.{clash}
 use Rattle.meaning.proofs.Octets.{octets_long}
 use Rattle.meaning.proofs.Splices.{splice_long}
-use Rattle.octets.proofs.Laws.{copied}
 use Rattle.messages.specs.Messages.{IsPut}
 
 -- ONE FIELD
@@ -24,9 +23,8 @@ unfolding splice
 put_part room at e xs h i = record { fits = omega arith; reply = h; memory = rw (Post-is at e room (omega arith), h) (sym (append_assoc (take at room) xs _)) }
 
 -- octets copied into it
-pub put_copied : (room : List ℕ) (at : ℕ) (xs later : List ℕ) → at + length xs ≤ length room
-    → later ≡ take (length xs) xs ++ drop (length xs) (mid_of at (at + length xs - at) room) → IsPut room at xs (put_mid at (at + length xs - at) room later) (at + length xs)
-put_copied room at xs later h l = rw (copied room at (at + length xs) xs later refl h l) (put_part room at (at + length xs) xs refl h)
+pub put_copied : (room : List ℕ) (at : ℕ) (xs later : List ℕ) → at + length xs ≤ length room → later ≡ xs → IsPut room at xs (put_mid at (at + length xs - at) room later) (at + length xs)
+put_copied room at xs later h l = rw l (put_part room at (at + length xs) xs refl h)
 
 -- a number filled into it
 pub put_filled : (room : List ℕ) (at n x : ℕ) (later : List ℕ) → at + n ≤ length room

@@ -4,7 +4,7 @@ ghost use Rattle.meaning.specs.Messages.{sum_of, check_octet, number_from};
 ghost use Rattle.messages.specs.Messages.{CountedAs};
 
 // Data that stand from some octet of a message on, to its end: how many; or they don't.
-#[derive(Drop)]
+#[derive(Clone, Copy)]
 pub(crate) enum Counted {
     Are(usize),
     Not,

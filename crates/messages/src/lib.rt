@@ -6,6 +6,7 @@
 // changes no octet. What a request asks of the tables is asked of the layers below. A write's reply
 // is one octet, so that it fits is known before the write is made.
 #![tactic(auto)]
+
 mod check;
 mod replying;
 mod requests;

@@ -2,11 +2,10 @@
 use Prim.Native.Nat.{ℕ, suc, ◌+◌, ◌-◌, ◌/◌, ◌%◌, ◌<◌, ◌≤◌}
 use mathlib.Core.Path.{◌≡◌, refl, ◌∙◌, ap, sym}
 use mathlib.Core.List.{List, ◌++◌, reverse, append_assoc, append-nil}
-use lib.ListN.{length, take, drop, set, length-set}
-use lib.Seq.{take-suc-set, take_all, take-length, drop-length}
+use lib.ListN.{length, take, set, length-set}
+use lib.Seq.{take-suc-set, take_all}
 use borrow.Author.Tests.{ne_eqb}
 use native.Mathlib.Omega.{arith}
-use Rattle.bytes.specs.Bytes.{rev, slice}
 use Rattle.meaning.specs.Basics.{octets_least_first, octets_in}
 use Rattle.octets.specs.Octets.{Filling}
 
@@ -41,8 +40,6 @@ filled_all room x later rest i f h =
 pub order_least : (room later : List ℕ) (order x : ℕ) → order ≡ 0 → later ≡ octets_in 0 (length room) x → later ≡ octets_in order (length room) x
 order_least room later order x e h = rw e h
 
-pub order_most : (room least later : List ℕ) (order x : ℕ) → (order ≡ 0 → ⊥) → least ≡ octets_in 0 (length room) x
-    → later ≡ take 0 least ++ (rev (slice 0 (length least) least) ++ drop (length least) least) → later ≡ octets_in order (length room) x
-unfolding octets_in rev slice
-order_most room least later order x n h e =
-    rw (ne_eqb order 0 n) (e ∙ rw (take-length least, drop-length least) (append-nil (reverse least)) ∙ ap reverse h)
+pub order_most : (room least later : List ℕ) (order x : ℕ) → (order ≡ 0 → ⊥) → least ≡ octets_in 0 (length room) x → later ≡ reverse least → later ≡ octets_in order (length room) x
+unfolding octets_in
+order_most room least later order x n h e = rw (ne_eqb order 0 n) (e ∙ ap reverse h)

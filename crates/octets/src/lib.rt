@@ -102,8 +102,7 @@ pub fn fill(octets: &mut [u8], order: u32, value: u64)
 {
     least_first(octets, value);
     if order != 0 {
-        let end = octets.len();
-        bytes::reverse(octets, 0, end);
+        octets.reverse();
     }
 }
 
@@ -114,7 +113,7 @@ pub fn put_octets(image: &mut [u8], start: ImageOffset, new: &[u8])
     let at = start.octet();
     if ends_within(at, new.len(), image.len()) {
         let end = at + new.len();
-        bytes::copy(new, &mut image[at..end]);
+        image[at..end].copy_from_slice(new);
     }
 }
 

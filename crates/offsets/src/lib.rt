@@ -9,15 +9,15 @@
 ghost use Rattle.std.specs.Prelude.{◌≡◌, ◌+◌, min};
 
 // A place in a table, counted from the table's first octet.
-#[derive(Drop)]
+#[derive(Clone, Copy)]
 pub struct TableOffset(usize);
 
 // A place in the image, counted from the image's first octet.
-#[derive(Drop)]
+#[derive(Clone, Copy)]
 pub struct ImageOffset(usize);
 
 // Where a table starts in the image.
-#[derive(Drop)]
+#[derive(Clone, Copy)]
 pub struct TableStart(usize);
 
 // The sum of two numbers, or the last number that can be counted.

@@ -24,7 +24,6 @@ use Rattle.laying.proofs.Rows.{first_none_right, first_assoc, onward_first, onwa
 use Rattle.laying.proofs.Steps.{body_none, body_step}
 use Rattle.places.specs.declared.measure.Sized.{Sized}
 use Rattle.places.specs.declared.measure.Span.{Span}
-use Rattle.places.specs.declared.rows.Row.{Row}
 use Rattle.places.specs.declared.rows.Stands.TheVariants.{Nowhere, There}
 use Rattle.places.specs.Measuring.{numbers_in, inner_of, leaf_span, joined, array_span, node_in, SpanAs, BodyReady, ItemReady, BodyAs, ItemAs, Going}
 use Rattle.places.specs.Rows.{cut, levels, saying, cut_arrays, cut_row, RowAs, alone}

@@ -16,7 +16,7 @@ use Rattle.meaning.specs.declared.Refusal.{Refusal}
 use Rattle.meaning.specs.Causes.{encloses, arrays_round, in_branch, is_one, subscripts_of, right_count, is_below, is_taken, in_the_way, suits, why_none}
 use Rattle.meaning.specs.Description.{item_count, fields_at, is_element, is_array, is_choice, count, malformed}
 use Rattle.meaning.specs.Layout.{Numbers, value, branches_in, taken}
-use Rattle.meaning.specs.Numbers.{nothing_refused, not_an_element, branch_not_chosen, subscript_count, subscript_too_large, not_aNumber}
+use Rattle.meaning.specs.Numbers.{nothing_refused, not_an_element, branch_not_chosen, subscript_count, subscript_too_large, not_a_number}
 use Rattle.meaning.proofs.Causes.{way_none, way_step}
 use Rattle.meaning.proofs.Either.{tested}
 use Rattle.items.specs.declared.Read.{Read}
@@ -210,7 +210,7 @@ module _ (number : Bool) (d : List ℕ) (v : Numbers) (q : ElementName) {one : B
   not_one h = rw (sym is_one_lem ∙ h)
 
   module _ (h : one ≡ true) {suit : Bool} (is-suit : suit ≡ suits number d q) where
-    pub not_number : suit ≡ false → not_aNumber ≡ why_none number d v q
+    pub not_number : suit ≡ false → not_a_number ≡ why_none number d v q
     unfolding why_none
     not_number g = rw (sym is_one_lem ∙ h, sym is-suit ∙ g)
 

@@ -35,7 +35,6 @@ use Rattle.laying.proofs.Rising.{RisesBody, rises_body}
 use Rattle.laying.proofs.Steps.{tables_none, tables_step}
 use Rattle.laying.proofs.Tops.{passed_sound, fit_body, table_one}
 use Rattle.laying.proofs.Rows.{first_none_right, first_assoc}
-use Rattle.places.specs.declared.rows.Row.{Row}
 use Rattle.places.specs.declared.rows.Stands.{Stands}
 use Rattle.places.specs.declared.rows.Stands.TheVariants.{Nowhere, There}
 use Rattle.places.specs.declared.survey.Answer.{Answer}

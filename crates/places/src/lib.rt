@@ -7,6 +7,7 @@
 // any of its elements is told by arithmetic. Why there is no such element is told by the items before
 // its own, which are looked at once more then.
 #![tactic(auto)]
+
 mod measure;
 mod rows;
 mod survey;
@@ -25,7 +26,7 @@ use survey::{Asked, Standing, TableFound, TableName, open_image};
 use why::{suits, why_none};
 
 // Where two tables are.
-#[derive(Drop)]
+#[derive(Clone, Copy)]
 pub struct Places {
     pub first: Place,
     pub second: Place,
@@ -33,7 +34,7 @@ pub struct Places {
 
 // A table that a range may lie in: its item, where it starts, how long it is, and whether the range
 // lies in it and holds an octet of a dimension; or why there is none.
-#[derive(Drop)]
+#[derive(Clone, Copy)]
 pub enum Ranged {
     In {
         item: usize,
@@ -45,7 +46,7 @@ pub enum Ranged {
 }
 
 // An element where it stands, or none.
-#[derive(Drop)]
+#[derive(Clone, Copy)]
 pub enum ElementFound {
     Missing,
     Here { start: ImageOffset, length: usize },

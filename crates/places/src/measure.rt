@@ -76,7 +76,7 @@ fn inner_of(d: &[u8], f: Fields, next: Cursor, value: usize) -> Inner
 
 // SIZES
 // A size, and in it the row of the item asked for.
-#[derive(Drop)]
+#[derive(Clone, Copy)]
 pub struct Span {
     pub size: usize,
     pub row: Row,
@@ -131,7 +131,7 @@ fn array_span(count: usize, body: Span) -> Span
 }
 
 // What an item takes, and the place after it and all that is nested in it.
-#[derive(Drop)]
+#[derive(Clone, Copy)]
 pub struct Sized {
     pub span: Span,
     pub next: Cursor,

@@ -9,7 +9,7 @@ use meaning::ElementName;
 
 // The ARRAYs round an element, outside in: how many there are, and of each its count and stride.
 // Places past the depth mean nothing.
-#[derive(Drop)]
+#[derive(Clone, Copy)]
 pub struct Arrays {
     pub depth: usize,
     pub counts: [u32; 4],
@@ -17,14 +17,14 @@ pub struct Arrays {
 }
 
 // Whether an element's item stands here, and where its first element does.
-#[derive(Drop)]
+#[derive(Clone, Copy)]
 pub enum Stands {
     Nowhere,
     There { first: usize, length: usize },
 }
 
 // What is found for an element's item, with the ARRAYs round it.
-#[derive(Drop)]
+#[derive(Clone, Copy)]
 pub struct Row {
     pub stands: Stands,
     pub arrays: Arrays,
@@ -103,7 +103,7 @@ pub(crate) fn in_array(count: usize, stride: usize, row: Row) -> Row
 }
 
 // Whether an element of some subscripts stands there, and at which octet.
-#[derive(Drop)]
+#[derive(Clone, Copy)]
 pub struct Reach {
     pub found: bool,
     pub octet: usize,

@@ -14,7 +14,7 @@ use meaning::{Fields, Refusal, Verdict};
 use offsets::{TableOffset, TableStart};
 
 // A table found: its item, where it starts, how long it is.
-#[derive(Drop)]
+#[derive(Clone, Copy)]
 pub enum TableFound {
     No,
     Yes {
@@ -25,7 +25,7 @@ pub enum TableFound {
 }
 
 // The name of a table.
-#[derive(Drop)]
+#[derive(Clone, Copy)]
 pub struct TableName {
     pub manufacturer: u32,
     pub number: u32,
@@ -33,7 +33,7 @@ pub struct TableName {
 
 // What is asked for: two tables, the row of an item, and whether so many octets of the first table,
 // from `from` on, hold an octet of a dimension.
-#[derive(Drop)]
+#[derive(Clone, Copy)]
 pub struct Asked {
     pub first: TableName,
     pub second: TableName,
@@ -43,7 +43,7 @@ pub struct Asked {
 }
 
 // A row, and where the table starts that its octets are counted in.
-#[derive(Drop)]
+#[derive(Clone, Copy)]
 pub struct Standing {
     pub start: TableStart,
     pub row: Row,
@@ -52,7 +52,7 @@ pub struct Standing {
 // The image opened, or refused by 1 to 9: the total, the numbers of the slots, where the tables asked
 // for are, the row of the item, and whether those octets lie in the first table and hold one of a
 // dimension.
-#[derive(Drop)]
+#[derive(Clone, Copy)]
 pub struct Answer {
     pub verdict: Verdict,
     pub total: usize,
@@ -66,7 +66,7 @@ pub struct Answer {
 // Tables laid one after another: the numbers of the slots, where the next table starts and its item,
 // and what of that asked for is found among those laid. Refused, the image is short in the table
 // before `next`.
-#[derive(Drop)]
+#[derive(Clone, Copy)]
 pub struct Survey {
     pub numbers: [u32; 64],
     pub start: TableStart,

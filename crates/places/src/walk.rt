@@ -51,7 +51,7 @@ fn holds_one(here: TableOffset, size: usize, from: TableOffset, octets: usize) -
 // How far a walk has come in a table: the numbers of the slots, the octets walked, the row found of
 // the item asked for, whether the octets asked about hold one of a dimension, and the item that is
 // next; or, short, the octets and the item at which the image ends too soon.
-#[derive(Drop)]
+#[derive(Clone, Copy)]
 pub struct Walk {
     pub numbers: [u32; 64],
     pub octets: TableOffset,
@@ -63,7 +63,7 @@ pub struct Walk {
 
 // What a walk over a table goes by: where the table starts, the item asked for, and the octets of the
 // table asked about.
-#[derive(Drop)]
+#[derive(Clone, Copy)]
 pub struct Aim {
     pub start: TableStart,
     pub wanted: usize,

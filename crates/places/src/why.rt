@@ -109,7 +109,7 @@ fn too_large(depth: usize) -> Refusal
 }
 
 // Past an item, with how many ARRAYs stand outside what follows; or it is in the way.
-#[derive(Drop)]
+#[derive(Clone, Copy)]
 pub enum Step {
     Past(usize),
     InTheWay(Refusal),

@@ -4,6 +4,7 @@
 // Any octets may be given; one or two past the last whole record aren't read. Tests are joined and
 // made into a reply by functions without a branch, so that each reply is one equation.
 #![tactic(auto)]
+
 ghost use Rattle.std.specs.Prelude.{◌≡◌, ◌+◌, ◌-◌, ◌≤◌, length};
 ghost use Rattle.meaning.specs.Calendar.{triple_at, entry_if, or_later, year_of, flagged_for, counts, switch_entry};
 ghost use Rattle.records.specs.Records.{record_date, due_on, date_entry, brought_to, latest_in};
@@ -13,7 +14,7 @@ use dates::Day;
 use meaning::{Chosen, Quantity, Triple};
 
 // What is wanted of some records.
-#[derive(Drop)]
+#[derive(Clone, Copy)]
 pub enum Wanted {
     // The season on a day, the special schedule on a day.
     Season {

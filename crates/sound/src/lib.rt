@@ -4,6 +4,7 @@
 // item that breaks a rule. No memory is written. The definitions say the rules flat, item by item;
 // the code goes down into bodies, so that what encloses an item is at hand.
 #![tactic(auto)]
+
 ghost use Rattle.std.specs.Prelude.{◌≡◌, ◌&&◌, ◌+◌, ◌<◌, ◌≤◌, length, get_or};
 ghost use Rattle.meaning.specs.Basics.{if◌then◌else◌};
 ghost use Rattle.meaning.specs.Ranges.{FieldsRange};
@@ -210,7 +211,7 @@ fn lowest_broken(d: &[u8], f: Fields, i: usize, r: Round, slots: &[u8; 64]) -> u
 
 // THE CHECK
 // One item judged: the rule that it breaks (0: none), its fields, and the next place.
-#[derive(Drop)]
+#[derive(Clone, Copy)]
 struct Judged {
     rule: u32,
     fields: Fields,
@@ -246,7 +247,7 @@ fn inside(f: Fields, end: usize, r: Round) -> Round
 
 // The number of the rule that the item at `place` breaks, the first to break one; or 0, and the body
 // ends at `place` with these slots set.
-#[derive(Drop)]
+#[derive(Clone, Copy)]
 struct Checked {
     rule: u32,
     place: Cursor,

@@ -5,3 +5,4 @@ pub mod PutLaws
 pub mod LineLaws
 pub mod IndexLaws
 pub mod ReadBack
+pub mod FindLaws

@@ -10,21 +10,21 @@ use native.Mathlib.Omega.{arith}
 use borrow.Author.Tests.{le-leb, lt-leb, leb-true, eqb-true, eq-eqb}
 use lib.Dec.{leb, eqb}
 use lib.ListN.{length, get_or, set, take, drop, replicate, length-append, length-drop}
-use lib.Seq.{sets, sets-eq, take-length, take-append_seam, drop_at, drop-drop, length-take-le}
-use Rattle.bytes.specs.Bytes.{slice, index_of, index_after}
+use lib.Seq.{sets, sets-eq, take-append_seam, drop_at, drop-drop, length-take-le}
+use Rattle.words.specs.Find.{first_of}
 use Rattle.words.specs.declared.types.Words.{Words}
 use Rattle.words.specs.Line.{longer, words_of, none_empty, starts_from, ends_from, forty, line_words, places_of, split_of, part_of, part_start, word_in, is_name}
 use Rattle.words.proofs.Cases.{by_test, by_less}
 use Rattle.words.proofs.ReadBack.{joined, one_word, line_back}
 
 -- THE FIRST WORD. What stands before the first space, with what its place in the line is
-first_more : (xs : List ℕ) → index_of 32 xs < length xs → words_of xs ≡ take (index_of 32 xs) xs ∷ words_of (drop (suc (index_of 32 xs)) xs)
-unfolding words_of longer index_of index_after
+first_more : (xs : List ℕ) → first_of 32 xs < length xs → words_of xs ≡ take (first_of 32 xs) xs ∷ words_of (drop (suc (first_of 32 xs)) xs)
+unfolding words_of longer first_of
 first_more [] h = absurd (not-suc-le-zero h)
 first_more (x ∷ xs) h = by_test (eqb x 32) (λ e. rw e) (λ e. rw (e, first_more xs (le_of_suc-le-suc (rw e at h))))
 
-first_last : (xs : List ℕ) → length xs ≤ index_of 32 xs → words_of xs ≡ xs ∷ []
-unfolding words_of longer index_of index_after
+first_last : (xs : List ℕ) → length xs ≤ first_of 32 xs → words_of xs ≡ xs ∷ []
+unfolding words_of longer first_of
 first_last [] h = refl
 first_last (x ∷ xs) h =
     by_test (eqb x 32) (λ e. absurd (not-suc-le-zero (rw e at h))) (λ e. rw (e, first_last xs (le_of_suc-le-suc (rw e at h))))
@@ -76,14 +76,9 @@ split_many {line} {from = from} {n} s h =
     let ws : List (List ℕ) = words_of (drop from line) in
     sym (s.left ∙ rw (lt-leb (n + length ws) 40 (omega (arith, one_word (drop from line))), and-false))
 
--- the next space, or the line's end, is found at `end`
+-- the next space, or the line's end, is found at `end`, as many octets after `from` as the word has
 module _ {line starts ends : List ℕ} {from n : ℕ} (end : ℕ) (s : Splitting line starts ends from n)
-    (found : end ≡ from + index_of 32 (slice from (length line) line)) where
-  -- it stands as many octets after `from` as the word has
-  at_end : end ≡ from + index_of 32 (drop from line)
-  unfolding slice
-  at_end = found ∙ rw (take-length line)
-
+    (at_end : end ≡ from + first_of 32 (drop from line)) where
   -- the word from `from` to `end`, and the words behind it
   record Next (w : List ℕ) (ws : List (List ℕ)) : Type 0 where
     are : words_of (drop from line) ≡ w ∷ ws
@@ -93,7 +88,7 @@ module _ {line starts ends : List ℕ} {from n : ℕ} (end : ℕ) (s : Splitting
   next_more : end < length line → Next (take (end - from) (drop from line)) (words_of (drop (end + 1) line))
   next_more h =
       let l = length-drop from line in
-      let k : index_of 32 (drop from line) ≡ end - from = omega (arith, at_end) in
+      let k : first_of 32 (drop from line) ≡ end - from = omega (arith, at_end) in
       let d : from + suc (end - from) ≡ end + 1 = omega (arith, at_end) in
       record {
         are = first_more (drop from line) (omega (arith, at_end)) ∙ rw (k, drop-drop, d);

@@ -2,3 +2,4 @@ pub mod Number
 pub mod Hex
 pub mod Line
 pub mod Put
+pub mod Find

@@ -7,6 +7,7 @@
 //
 // What each function answers, and what it leaves in memory that it is lent, is said in specs/.
 #![tactic(auto)]
+
 mod decimal;
 mod hex;
 mod line;

@@ -1,8 +1,25 @@
 // A line as words.
-ghost use Rattle.std.specs.Prelude.{◌≡◌, ◌+◌, []};
+ghost use Rattle.std.specs.Prelude.{◌≡◌, ◌+◌, ◌≤◌, [], length, drop};
+ghost use Rattle.words.specs.Find.{first_of};
 ghost use Rattle.words.specs.Line.{line_words, split_of, places_of, part_of, part_start, word_in, word_start, word_index};
 
 use crate::types::Words;
+
+// The place of the first octet b at or after `from`; the text's end where there is none. Where `from`
+// is past the end, it is the answer.
+fn find(text: &[u8], from: usize, b: u8) -> usize
+    ensures value { result ≡ from + first_of b (drop from text.now) }
+    ensures within { from ≤ length text.now → result ≤ length text.now }
+{
+    let mut i = from;
+    while i < text.len() {
+        if text[i] == b {
+            return i;
+        }
+        i += 1;
+    }
+    i
+}
 
 // The answer for what is not a line of words.
 fn no_words() -> Words
@@ -25,7 +42,7 @@ pub fn split(line: &[u8]) -> Words
     let mut from = 0;
     let mut n = 0;
     while n < 40 {
-        let end = bytes::scan::find(line, from, line.len(), b' ');
+        let end = find(line, from, b' ');
         if end == from {
             return no_words();
         }

@@ -16,7 +16,7 @@ pub enum Octets {
 
 // The words of a line: word k is its part from starts[k] to ends[k], for k below count. What is
 // past count is 0.
-#[derive(Drop)]
+#[derive(Clone, Copy)]
 pub struct Words {
     pub count: usize,
     pub starts: [usize; 40],

@@ -1,0 +1,19 @@
+-- `access::octets_place`: by where the element is, case by case. Assumes nothing.
+use mathlib.Core.Path.{◌∙◌, sym}
+use Rattle.meaning.specs.Refusals.{element_place_reply}
+use Rattle.access.proofs.Laws.{write_refused, write_there}
+use Rattle.access.proofs.Inside.{stands}
+use Rattle.access.proofs.octets_place.Goals as goal
+
+pub around-seen-requires : goal.around-seen-requires
+unfolding element_place_reply
+around-seen-requires c = (stands _ _ _ _ _ (sym c.element_place-found.ensures ∙ c.in-At.is)).there
+
+pub returns-in-Refused : goal.returns-in-Refused
+unfolding element_place_reply
+returns-in-Refused c = write_refused _ _ _ _ _ _ c.element_place-found.ensures _ c.in-Refused.is
+
+pub returns-in-At : goal.returns-in-At
+unfolding element_place_reply
+returns-in-At c =
+    c.fitted.ensures ∙ rw c.element_allowed.ensures (write_there _ _ _ _ _ _ c.element_place-found.ensures _ _ c.in-At.is _ c.around-seen.ensures)

@@ -1,0 +1,18 @@
+-- `access::range_place`: by what a walk tells of the table, case by case. Assumes nothing.
+use mathlib.Core.Path.{◌∙◌}
+use Rattle.access.proofs.Laws.{table_in, read_refused, read_past, read_there, counted_on}
+use Rattle.access.proofs.range_place.Goals as goal
+
+pub returns-then-ends_within : goal.returns-then-ends_within
+returns-then-ends_within c =
+    let a = table_in _ _ _ _ _ _ _ c.range_in-found.ensures _ _ _ _ c.in-In.is in
+    let w = rw c.octets.ensures at c.ends_within.ensures in
+    read_there _ _ _ _ _ _ _ c.range_in-found.ensures _ _ _ _ c.in-In.is _ w c.if-ends_within.true _
+    (counted_on _ _ _ _ _ _ _ c.in_image.ensures a.inside a.small w c.if-ends_within.true)
+
+pub returns-in-Refused : goal.returns-in-Refused
+returns-in-Refused c = read_refused _ _ _ _ _ _ _ c.range_in-found.ensures _ c.in-Refused.is
+
+pub returns-else-ends_within : goal.returns-else-ends_within
+returns-else-ends_within c =
+    read_past _ _ _ _ _ _ _ c.range_in-found.ensures _ _ _ _ c.in-In.is _ (c.ends_within.ensures ∙ rw c.octets.ensures) c.if-ends_within.false

@@ -1,0 +1,18 @@
+-- `survey::open_image`: 1 to 7 by the check, 8 by the length, else what laying out comes to. Assumes nothing.
+use mathlib.Core.Path.{◌∙◌, sym}
+use Rattle.places.proofs.Surveys.{opened_refused, opened_long, opened_laid}
+use Rattle.places.proofs.survey.open_image.Goals as goal
+
+pub returns-then-image-gt65535 : goal.returns-then-image-gt65535
+returns-then-image-gt65535 c =
+    opened_long _ _ _ _ (sym c.check-verdict.ensures ∙ c.in-Passed.is) c.if-image-gt65535.true c.refused-then-image-gt65535.ensures
+
+pub survey_image-requires : goal.survey_image-requires
+survey_image-requires c = record { passes = sym c.check-verdict.ensures ∙ c.in-Passed.is; small = c.if-image-gt65535.false }
+
+pub returns-in-Refused : goal.returns-in-Refused
+returns-in-Refused c = opened_refused _ _ _ _ _ (sym c.check-verdict.ensures ∙ c.in-Refused.is) c.refused.ensures
+
+pub returns-else-image-gt65535 : goal.returns-else-image-gt65535
+returns-else-image-gt65535 c =
+    opened_laid _ _ _ _ (sym c.check-verdict.ensures ∙ c.in-Passed.is) c.if-image-gt65535.false c.survey_image.ensures

@@ -1,0 +1,95 @@
+-- `walk::walk_body` and `walk::walk_item`: what is left of a body leads where the whole does, and an item is walked by what it comes to. Assumes nothing.
+use mathlib.Core.Path.{refl}
+use native.Mathlib.Omega.{arith}
+use Rattle.items.proofs.ReadLaws.{range_read}
+use Rattle.places.proofs.Opened.{level_left}
+use Rattle.places.proofs.Through.{sets_out, arrives, item_ready, stops, further, goes_on}
+use Rattle.places.proofs.Walking.{here, valued, leaf_ready, leaf_walks, array_step, array_walks}
+use Rattle.places.proofs.Walking.{choosing, through_ready, choice_stops, choice_walks}
+use Rattle.places.proofs.walk.+walk_body_walk_item.Goals as goal
+
+pub walk_body-loop-aim-init : goal.walk_body-loop-aim-init
+walk_body-loop-aim-init t c =
+    (sets_out _ _ _ _ _ _ c.requires, refl)
+
+pub walk_body-walk_item-walk-requires : goal.walk_body-walk_item-walk-requires
+walk_body-walk_item-walk-requires t c =
+    (omega arith, item_ready _ _ _ _ _ _ _ c.loop-aim.invariant.0 (omega arith))
+
+pub walk_body-returns-then-walk : goal.walk_body-returns-then-walk
+walk_body-returns-then-walk t c =
+    stops _ _ _ _ _ _ _ c.loop-aim.invariant.0 (omega arith) _ c.walk_item-walk.ensures c.if-walk.true
+
+pub walk_body-loop-aim-smaller : goal.walk_body-loop-aim-smaller
+walk_body-loop-aim-smaller t c =
+    omega (arith, further _ _ _ _ _ _ _ c.loop-aim.invariant.0 (omega arith) _ c.walk_item-walk.ensures c.if-walk.false)
+
+pub walk_body-loop-aim-preserved : goal.walk_body-loop-aim-preserved
+walk_body-loop-aim-preserved t c =
+    (goes_on _ _ _ _ _ _ _ c.loop-aim.invariant.0 (omega arith) _ c.walk_item-walk.ensures c.if-walk.false, refl)
+
+pub walk_body-returns : goal.walk_body-returns
+walk_body-returns t c =
+    arrives _ _ _ _ _ _ _ c.loop-aim.invariant.0 (omega arith)
+
+pub walk_item-value_here-value-requires : goal.walk_item-value_here-value-requires
+walk_item-value_here-value-requires t c =
+    (range_read _ _ c.read-read.ensures, c.requires.ready.slots)
+
+pub walk_item-overflow_add-inside : goal.walk_item-overflow_add-inside
+walk_item-overflow_add-inside t c =
+    omega (arith, range_read _ _ c.read-read.ensures)
+
+pub walk_item-overflow_sub-depth : goal.walk_item-overflow_sub-depth
+walk_item-overflow_sub-depth t c =
+    let h = here c.requires c.read-read.ensures c.value_here-value.ensures c.past-after.ensures in
+    let g = choosing h c.is_choice.ensures c.if-is_choice.true c.chosen-taken.ensures c.past.ensures c.elsewhere-before.ensures in
+    level_left g.enters
+
+pub walk_item-walk_body-inner-requires : goal.walk_item-walk_body-inner-requires
+walk_item-walk_body-inner-requires t c =
+    let h = here c.requires c.read-read.ensures c.value_here-value.ensures c.past-after.ensures in
+    let g = choosing h c.is_choice.ensures c.if-is_choice.true c.chosen-taken.ensures c.past.ensures c.elsewhere-before.ensures in
+    (omega (arith, level_left g.enters), through_ready g)
+
+pub walk_item-returns-then-inner : goal.walk_item-returns-then-inner
+walk_item-returns-then-inner t c =
+    let h = here c.requires c.read-read.ensures c.value_here-value.ensures c.past-after.ensures in
+    let g = choosing h c.is_choice.ensures c.if-is_choice.true c.chosen-taken.ensures c.past.ensures c.elsewhere-before.ensures in
+    choice_stops g c.walk_body-inner.ensures c.if-inner.true
+
+pub walk_item-returns-then-is_choice : goal.walk_item-returns-then-is_choice
+walk_item-returns-then-is_choice t c =
+    let h = here c.requires c.read-read.ensures c.value_here-value.ensures c.past-after.ensures in
+    let g = choosing h c.is_choice.ensures c.if-is_choice.true c.chosen-taken.ensures c.past.ensures c.elsewhere-before.ensures in
+    choice_walks g c.walk_body-inner.ensures c.if-inner.false c.elsewhere.ensures
+
+pub walk_item-item_size-all-requires : goal.walk_item-item_size-all-requires
+walk_item-item_size-all-requires t c =
+    let h = here c.requires c.read-read.ensures c.value_here-value.ensures c.past-after.ensures in
+    h.item.ready
+
+pub walk_item-step-requires : goal.walk_item-step-requires
+walk_item-step-requires t c =
+    let h = here c.requires c.read-read.ensures c.value_here-value.ensures c.past-after.ensures in
+    array_step h c.if-f-eq-ARRAY.true c.item_size-all.ensures
+
+pub walk_item-returns-then-f-eq-ARRAY : goal.walk_item-returns-then-f-eq-ARRAY
+walk_item-returns-then-f-eq-ARRAY t c =
+    let h = here c.requires c.read-read.ensures c.value_here-value.ensures c.past-after.ensures in
+    array_walks h c.if-f-eq-ARRAY.true c.item_size-all.ensures c.step.ensures
+
+pub walk_item-leaf_span-piece-requires : goal.walk_item-leaf_span-piece-requires
+walk_item-leaf_span-piece-requires t c =
+    let h = here c.requires c.read-read.ensures c.value_here-value.ensures c.past-after.ensures in
+    valued h
+
+pub walk_item-step-requires-2 : goal.walk_item-step-requires-2
+walk_item-step-requires-2 t c =
+    let h = here c.requires c.read-read.ensures c.value_here-value.ensures c.past-after.ensures in
+    leaf_ready h c.is_choice.ensures c.if-is_choice.false c.if-f-eq-ARRAY.false c.item.ensures c.leaf_span-piece.ensures
+
+pub walk_item-returns : goal.walk_item-returns
+walk_item-returns t c =
+    let h = here c.requires c.read-read.ensures c.value_here-value.ensures c.past-after.ensures in
+    leaf_walks h c.is_choice.ensures c.if-is_choice.false c.if-f-eq-ARRAY.false c.item.ensures c.leaf_span-piece.ensures c.step-2.ensures

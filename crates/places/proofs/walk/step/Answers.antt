@@ -1,0 +1,30 @@
+-- `walk::step`: the octet of the image is the table's start and what is walked, and the piece ends inside or not; it sets a slot or none. Assumes nothing.
+use mathlib.Core.Path.{◌≡◌, ◌∙◌}
+use native.Mathlib.Omega.{arith}
+use Rattle.places.specs.Walking.{place}
+use Rattle.places.proofs.Pieces.{step_plain, step_sets, step_short}
+use Rattle.places.proofs.walk.step.Goals as goal
+
+pub returns-then-image-octet : goal.returns-then-image-octet
+returns-then-image-octet c =
+    step_short _ _ _ _ _ _ (omega (arith, c.if-image-octet.true, c.octet.ensures, c.in_image-here.ensures, c.requires.inside, c.requires.small))
+
+pub returns-then-slot-eq0 : goal.returns-then-slot-eq0
+returns-then-slot-eq0 c =
+    step_plain _ _ _ _ _ _ c.if-slot-eq0.true _ _ (omega (arith, c.if-image-octet.false, c.octet.ensures, c.in_image-here.ensures, c.requires.inside, c.requires.small)) (c.new-octets.ensures ∙ rw c.octets-far.ensures) (c.first_row-row.ensures ∙ rw (c.onward.ensures, c.octets-far.ensures))
+
+pub noted-requires : goal.noted-requires
+noted-requires c = (
+  omega (arith, c.if-slot-eq0.false),
+  c.requires.slots,
+  record {
+    few = (c.requires.dimension (omega (arith, c.if-slot-eq0.false))).1;
+    inside = omega (arith, c.if-image-octet.false, c.octet.ensures, c.in_image-here.ensures, c.requires.inside, c.requires.small);
+  },
+)
+
+pub returns : goal.returns
+returns c =
+    let here : c.in_image-here.result.0 ≡ place c.args.aim c.args.w = omega (arith, c.in_image-here.ensures, c.requires.inside, c.requires.small) in
+    step_sets _ _ _ _ _ _ (omega (arith, c.if-slot-eq0.false)) _ _ _ _ _ (omega (arith, c.if-image-octet.false, c.octet.ensures, here, c.requires.inside, c.requires.small)) here c.noted.ensures
+    (c.new-octets.ensures ∙ rw c.octets-far.ensures) (c.first_row-row.ensures ∙ rw (c.onward.ensures, c.octets-far.ensures)) (c.either.ensures ∙ rw c.holds_one-dimension.ensures)
