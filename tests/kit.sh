@@ -1,23 +1,44 @@
-# Sourced by the scripts of this repository: how what they compare is built, where the Rattle kit's loader is, and how a program that it built is run.
-# Programs are x86-64; on another processor the kit's emulator runs them.
+# Sourced by the scripts of this repository: how what they compare is built, and how a program is run that was built. Programs are x86-64; on another processor Debian's
+# emulator runs them.
 . tests/packages.sh
 
-kit=$(cd "$(dirname "$(rt doc)")/.." && pwd)
-kit_tools=$kit/on/$(uname -m)/toolchain
-
-# C is compiled for x86-64 as well: on another processor by Debian's cross compilers, and linked statically, as there is no C library that the emulator could load.
+# C is compiled for x86-64 as well: on another processor by Debian's cross compilers, and linked statically, as there is no C library that a program could load by itself.
 emulator=()
 target_tools=
 target_link=()
 if [ "$(uname -m)" != x86_64 ]; then
-    emulator=("$kit_tools/bin/qemu-x86_64")
+    need qemu-x86_64 qemu-user >&2
+    emulator=(qemu-x86_64 -cpu max)
     target_tools=x86_64-linux-gnu-
     target_link=(-static)
 fi
 
-# run_program NAME: the program target/bin/NAME of this repository, as a filter.
-run_program() {
-    "${emulator[@]}" "$kit_tools/lib/ld-linux-x86-64.so.2" --library-path "$kit_tools/lib" "target/bin/$1"
+# copy_crate NAME FOLDER: the crate's files as FOLDER/crates/NAME, without its must-fail edits and what rt keeps.
+copy_crate() {
+    mkdir -p "$2/crates/$1"
+    find "crates/$1" -mindepth 1 -maxdepth 1 \( -name src -o -name specs -o -name proofs \) -exec cp -r -t "$2/crates/$1" {} +
+}
+
+# build_lines FOLDER: `line_program` is the line program: what BILASHONGE_LINES names, else proved and built by `rt run`; what that prints is shown where it fails.
+build_lines() {
+    line_program=${BILASHONGE_LINES:-crates/lines/out/lines}
+    [ -z "${BILASHONGE_LINES:-}" ] || return 0
+    (cd crates/lines && rt run) </dev/null >"$1/log" 2>&1 || {
+        cat "$1/log"
+        return 1
+    }
+}
+
+# run_lines: the line program, as a filter, once build_lines has named it. It loads its C library, on another processor from Debian's cross compiler.
+run_lines() {
+    local loader
+    if [ -z "$target_tools" ]; then
+        "$line_program"
+    else
+        need_c >&2
+        loader=$("${target_tools}gcc" -print-file-name=ld-linux-x86-64.so.2)
+        "${emulator[@]}" "$loader" --library-path "${loader%/*}" "$line_program"
+    fi
 }
 
 # need_c: the C compiler for x86-64.
@@ -48,14 +69,6 @@ run_c() {
 build_second() {
     rustc --edition 2021 -O tests/second/src/main.rs -o "$1/second"
     rustc --edition 2021 -O tests/second/gen.rs -o "$1/gen"
-}
-
-# build_lines FOLDER: proves and builds the line program; what that prints is shown where it fails.
-build_lines() {
-    rt check lines >"$1/log" || {
-        cat "$1/log"
-        return 1
-    }
 }
 
 # build_archive FOLDER: `archive` is the library for C: what BILASHONGE_ARCHIVE names, else built by `make`; what that prints is shown where it fails.

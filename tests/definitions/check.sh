@@ -11,22 +11,20 @@ trap 'rm -rf "$work"' EXIT
 build_second "$work"
 rustc --edition 2021 -O tests/definitions/translate.rs -o "$work/translate"
 
-mkdir "$work/repository" "$work/repository/crates"
-cp -r crates/offsets crates/meaning "$work/repository/crates/"
-rm -rf "$work/repository/crates/meaning/must-fail"
+copy_crate offsets "$work/repository"
+copy_crate meaning "$work/repository"
 printf 'offsets:\nmeaning: offsets\n' >"$work/repository/crates.txt"
 proofs=$work/repository/crates/meaning/proofs
 for kind in check places access calendar messages weekdays elements; do
     module=Random_$kind
-    module=${module//_/-}
     "$work/gen" "$seed" $((20 * most)) "$kind" >"$work/requests"
     "$work/second" <"$work/requests" >"$work/replies"
     printf 'definitions, %s: ' "$kind"
     LC_ALL=C paste -d '\t' "$work/requests" "$work/replies" | "$work/translate" "$most" 2>&1 >"$proofs/$module.antt"
     echo "pub mod $module" >>"$proofs/Lib.antt"
 done
-cd "$work/repository"
-if ! rt check meaning >"$work/log" 2>&1; then
+cd "$work/repository/crates/meaning"
+if ! rt check >"$work/log" 2>&1; then
     grep -a 'error' "$work/log" | cut -c 1-600 | head -n 20
     echo 'definitions: a definition and the second program disagree'
     exit 1

@@ -66,14 +66,14 @@ fn question(words: &[&str]) -> Option<(String, usize, bool, bool)> {
     Some(match words[0] {
         "check" => ("check".to_string(), 4, false, false),
         "layout" => ("layout".to_string(), 5, false, false),
-        "table" => (format!("tablePlace {}", table()), 6, false, false),
-        "tablepart" => (format!("tablePart {}", table()), 0, true, false),
-        "where" => (format!("elementPlace {}", element()), 6, false, false),
-        "octets" => (format!("elementPart {}", element()), 0, true, false),
-        "number" => (format!("elementNumber {}", element()), 5, false, false),
-        "writerange" => (format!("writeRange {} (record {{ 0 = {} }}) {}", table(), words[5], hex_list(words[6])), 4, false, true),
-        "writeoctets" => (format!("writeOctets {} {}", element(), hex_list(words[9])), 4, false, true),
-        "writenumber" => (format!("writeNumber {} {}", element(), words[9]), 4, false, true),
+        "table" => (format!("table_place {}", table()), 6, false, false),
+        "tablepart" => (format!("table_part {}", table()), 0, true, false),
+        "where" => (format!("element_place {}", element()), 6, false, false),
+        "octets" => (format!("element_part {}", element()), 0, true, false),
+        "number" => (format!("element_number {}", element()), 5, false, false),
+        "writerange" => (format!("write_range {} (record {{ 0 = {} }}) {}", table(), words[5], hex_list(words[6])), 4, false, true),
+        "writeoctets" => (format!("write_octets {} {}", element(), hex_list(words[9])), 4, false, true),
+        "writenumber" => (format!("write_number {} {}", element(), words[9]), 4, false, true),
         "tier" => {
             let moment = format!(
                 "(record {{ year = {}; month = {}; day = {}; hour = {}; minute = {} }})",
@@ -84,7 +84,7 @@ fn question(words: &[&str]) -> Option<(String, usize, bool, bool)> {
         }
         "matrix" => ("matrix".to_string(), 4, true, false),
         "seasoned" => (format!("seasoned {}", date(&words[3..])), 5, false, false),
-        "readrange" => (format!("readRange {} (record {{ 0 = {} }}) {}", table(), words[5], words[6]), 6, true, false),
+        "readrange" => (format!("read_range {} (record {{ 0 = {} }}) {}", table(), words[5], words[6]), 6, true, false),
         _ => return None,
     })
 }
@@ -96,19 +96,19 @@ fn table_equations(words: &[&str], values: &[&str]) -> Vec<String> {
         _ => return Vec::new(),
     };
     let on = format!("({}) {} {}", question, hex_list(words[1]), if words[0] == "check" { "[]".to_string() } else { hex_list(words[2]) });
-    let mut found = vec![format!("numbersOf {} (replyTo {}) ≡ {}", count, on, word_list(&values[..count]))];
+    let mut found = vec![format!("numbers_of {} (reply_to {}) ≡ {}", count, on, word_list(&values[..count]))];
     if octets {
-        found.push(format!("octetsTo {} ≡ {}", on, hex_list(values[count])));
+        found.push(format!("octets_to {} ≡ {}", on, hex_list(values[count])));
     }
     if after {
-        found.push(format!("imageAfter {} ≡ {}", on, hex_list(values[count])));
+        found.push(format!("image_after {} ≡ {}", on, hex_list(values[count])));
     }
     found
 }
 
 // The weekday of a date, by the question about no table.
 fn weekday_equations(words: &[&str], values: &[&str]) -> Vec<String> {
-    vec![format!("numbersOf 5 (replyTo (weekday {}) [] []) ≡ ({} ∷ 0 ∷ 0 ∷ 0 ∷ {} ∷ [])", date(&words[1..]), values[0], values[1])]
+    vec![format!("numbers_of 5 (reply_to (weekday {}) [] []) ≡ ({} ∷ 0 ∷ 0 ∷ 0 ∷ {} ∷ [])", date(&words[1..]), values[0], values[1])]
 }
 
 // A message put into a room: its number of octets and the room afterwards, by the two definitions that say these of `what` in a room; the reply has the refusal's
@@ -123,7 +123,7 @@ fn in_room(replies: &str, leaves: &str, what: &str, room: &str, values: &[&str])
     later[..message.len()].copy_from_slice(&message);
     let before = format!("(replicate {} {})", room, BEFORE);
     vec![
-        format!("numbersOf 5 ({} {} {}) ≡ ({} ∷ 0 ∷ 0 ∷ 0 ∷ {} ∷ [])", replies, what, before, values[0], message.len()),
+        format!("numbers_of 5 ({} {} {}) ≡ ({} ∷ 0 ∷ 0 ∷ 0 ∷ {} ∷ [])", replies, what, before, values[0], message.len()),
         format!("{} {} {} ≡ {}", leaves, what, before, octet_list(&later)),
     ]
 }
@@ -134,27 +134,27 @@ fn message_equations(words: &[&str], values: &[&str]) -> Vec<String> {
         "serve" if counts_far(words[1]) => Vec::new(),
         "serve" => {
             let what = format!("{} {} {}", hex_list(words[1]), hex_list(words[2]), hex_list(words[4]));
-            let mut found = in_room("serveReply", "serveRoom", &what, words[3], values);
+            let mut found = in_room("serve_reply", "serve_room", &what, words[3], values);
             if !found.is_empty() {
-                found.push(format!("serveImage {} (replicate {} {}) ≡ {}", what, words[3], BEFORE, hex_list(values[2])));
+                found.push(format!("serve_image {} (replicate {} {}) ≡ {}", what, words[3], BEFORE, hex_list(values[2])));
             }
             found
         }
         "readrequest" => vec![
-            format!("requestNumbers (requestTold (requestedBy (requestIn {}))) ≡ {}", hex_list(words[1]), word_list(&values[..5])),
-            format!("requestData (requestIn {}) ≡ {}", hex_list(words[1]), hex_list(values[5])),
+            format!("request_numbers (request_told (requested_by (request_in {}))) ≡ {}", hex_list(words[1]), word_list(&values[..5])),
+            format!("request_data (request_in {}) ≡ {}", hex_list(words[1]), hex_list(values[5])),
         ],
         "writerequest" => {
-            let what = format!("(requestOf {} {})", words[1..5].join(" "), hex_list(words[6]));
-            in_room("requestSent", "requestRoom", &what, words[5], values)
+            let what = format!("(request_of {} {})", words[1..5].join(" "), hex_list(words[6]));
+            in_room("request_sent", "request_room", &what, words[5], values)
         }
         "readreply" => vec![
-            format!("replyNumbers (replyTold (heardBy (replyIn {}))) ≡ {}", hex_list(words[1]), word_list(&values[..3])),
-            format!("replyData (replyIn {}) ≡ {}", hex_list(words[1]), hex_list(values[3])),
+            format!("reply_numbers (reply_told (heard_by (reply_in {}))) ≡ {}", hex_list(words[1]), word_list(&values[..3])),
+            format!("reply_data (reply_in {}) ≡ {}", hex_list(words[1]), hex_list(values[3])),
         ],
         "writereply" => {
-            let what = format!("(replyOf {} {})", words[1..3].join(" "), hex_list(words[4]));
-            in_room("replySent", "replyRoom", &what, words[3], values)
+            let what = format!("(reply_of {} {})", words[1..3].join(" "), hex_list(words[4]));
+            in_room("reply_sent", "reply_room", &what, words[3], values)
         }
         _ => Vec::new(),
     }
@@ -174,23 +174,21 @@ fn equations(request: &str, reply: &str) -> Vec<String> {
     if found.is_empty() { message_equations(&words, &values) } else { found }
 }
 
-const HEAD: &str = "use mathlib.Core.Path.{_≡_, refl}
-use mathlib.Core.List.{List, [], _∷_}
-use lib.ListN.{replicate}
-use Prim.Native.Nat.{ℕ}
-use Rattle·meaning·proofs.proofs.Computing.{computing}
-use Rattle·meaning·specs.specs.declared.Quantity.{Quantity}
-use Rattle·meaning·specs.specs.declared.ReplyTold.{ReplyTold}
-use Rattle·meaning·specs.specs.declared.RequestTold.{RequestTold}
-use Rattle·meaning·specs.specs.Refusals.{numbersOf}
-use Rattle·meaning·specs.specs.Questions.{check, layout, tablePlace, tablePart, elementPlace, elementPart, elementNumber, writeRange, writeOctets, writeNumber, tier, matrix, seasoned, weekday, readRange, replyTo, octetsTo, imageAfter}
-use Rattle·meaning·specs.specs.Messages.{requestIn, requestedBy, requestData, requestTold, replyIn, heardBy, replyData, replyTold, requestOf, requestSent, requestRoom, replyOf, replySent, replyRoom, serveReply, serveRoom, serveImage}
+const HEAD: &str = "use mathlib.Core.Path.{refl}
+use Rattle.std.specs.Prelude.{ℕ, ◌≡◌, List, [], ◌∷◌, replicate}
+use Rattle.meaning.proofs.Computing.{computing}
+use Rattle.meaning.specs.declared.Quantity.{Quantity}
+use Rattle.meaning.specs.declared.ReplyTold.{ReplyTold}
+use Rattle.meaning.specs.declared.RequestTold.{RequestTold}
+use Rattle.meaning.specs.Refusals.{numbers_of}
+use Rattle.meaning.specs.Questions.{check, layout, table_place, table_part, element_place, element_part, element_number, write_range, write_octets, write_number, tier, matrix, seasoned, weekday, read_range, reply_to, octets_to, image_after}
+use Rattle.meaning.specs.Messages.{request_in, requested_by, request_data, request_told, reply_in, heard_by, reply_data, reply_told, request_of, request_sent, request_room, reply_of, reply_sent, reply_room, serve_reply, serve_room, serve_image}
 
-abbrev requestNumbers : RequestTold → List ℕ
-requestNumbers t = t .code ∷ t .kind ∷ t .id ∷ t .offset ∷ t .count ∷ []
+abbrev request_numbers : RequestTold → List ℕ
+request_numbers t = t.code ∷ t.kind ∷ t.id ∷ t.offset ∷ t.count ∷ []
 
-abbrev replyNumbers : ReplyTold → List ℕ
-replyNumbers t = t .refusal .number ∷ t .kind ∷ t .code ∷ []
+abbrev reply_numbers : ReplyTold → List ℕ
+reply_numbers t = t.refusal.number ∷ t.kind ∷ t.code ∷ []
 ";
 
 fn main() -> io::Result<()> {

@@ -1,4 +1,5 @@
 -- What is found lies inside the image, and over a description of whole items; so a write that is accepted fits where it goes. Assumes nothing.
+use Rattle.std.specs.Prelude.{if◌then◌else◌}
 use Prim.Native.Nat.{ℕ, ◌+◌, ◌^◌, ◌<◌, ◌≤◌, min}
 use mathlib.Core.Path.{◌≡◌, refl, ◌∙◌, ap, sym, subst}
 use mathlib.Core.Bool.{Bool, true, false, not, ◌&&◌}
@@ -9,7 +10,7 @@ use borrow.Author.Tests.{ltb-false, eqb-true}
 use native.Mathlib.Omega.{arith}
 use Rattle.offsets.specs.declared.ImageOffset.{ImageOffset}
 use Rattle.offsets.specs.declared.TableOffset.{TableOffset}
-use Rattle.meaning.specs.Basics.{if◌then◌else◌, ◌<?◌, ◌=?◌}
+use Rattle.meaning.specs.Basics.{◌<?◌, ◌=?◌}
 use Rattle.meaning.specs.declared.ElementName.{ElementName}
 use Rattle.meaning.specs.declared.Refusal.{Refusal}
 use Rattle.meaning.specs.declared.Place.{Place}

@@ -1,4 +1,5 @@
 -- What the replies come to, case by case. Assumes nothing.
+use Rattle.std.specs.Prelude.{if◌then◌else◌}
 use Prim.Native.Nat.{ℕ, zero, suc, ◌+◌, ◌-◌, ◌*◌, ◌^◌, ◌/◌, ◌<◌, ◌≤◌, min}
 use mathlib.Core.Path.{◌≡◌, refl, ◌∙◌, ap, sym, subst}
 use mathlib.Core.Bool.{Bool, true, false, not, ◌&&◌, ◌||◌, true≢false}
@@ -12,7 +13,7 @@ use native.Mathlib.Nat.{pow-le-pow_right, pow-suc, div-eq_of_lt, div-eq-sub-div}
 use lib.Pow.{pow-add}
 use Rattle.offsets.specs.declared.TableOffset.{TableOffset}
 use Rattle.offsets.specs.declared.TableStart.{TableStart}
-use Rattle.meaning.specs.Basics.{if◌then◌else◌, ◌<?◌, ◌≤?◌, ◌=?◌, octets_in}
+use Rattle.meaning.specs.Basics.{◌<?◌, ◌≤?◌, ◌=?◌, octets_in}
 use Rattle.meaning.specs.declared.ElementName.{ElementName}
 use Rattle.meaning.specs.declared.Refusal.{Refusal}
 use Rattle.meaning.specs.declared.Verdict.{Verdict}

@@ -1,6 +1,5 @@
 -- WHAT IS KNOWN WHERE SOMETHING IS FOUND, for the contracts of the functions below the public calls. Assumes nothing.
-use Rattle.std.specs.Prelude.{ℕ, ◌+◌, ◌≤◌, ◌≡◌, Bool, ◌&&◌, List, length}
-use Rattle.meaning.specs.Basics.{if◌then◌else◌}
+use Rattle.std.specs.Prelude.{ℕ, ◌+◌, ◌≤◌, ◌≡◌, Bool, ◌&&◌, List, length, if◌then◌else◌}
 use Rattle.meaning.specs.declared.Place.{Place}
 use Rattle.meaning.specs.Description.{fields_at}
 use Rattle.meaning.specs.Numbers.{outside_table, not_writable, holds_dimension, wrong_size}

@@ -7,8 +7,8 @@
 // Nothing is kept: each call lays the image out anew.
 #![tactic(auto)]
 
-ghost use Rattle.std.specs.Prelude.{◌≡◌, not, ◌&&◌, ◌||◌, ◌+◌, ◌^◌, ◌<◌, length};
-ghost use Rattle.meaning.specs.Basics.{if◌then◌else◌, ◌<?◌, ◌≤?◌, ◌=?◌};
+ghost use Rattle.std.specs.Prelude.{◌≡◌, not, ◌&&◌, ◌||◌, ◌+◌, ◌^◌, ◌<◌, length, if◌then◌else◌};
+ghost use Rattle.meaning.specs.Basics.{◌<?◌, ◌≤?◌, ◌=?◌};
 ghost use Rattle.meaning.specs.Description.{item_count, is_table, is_dimension};
 ghost use Rattle.meaning.specs.Refusals.{open_image, table_place_reply, element_place_reply, place_part, place_start, table_part_reply, element_part_reply, read_range_reply, read_range_part, element_number_reply, place_verdict, image_with, octets_place_in, number_place_in, write_range_reply, write_range_image, write_octets_reply, write_octets_image, write_number_reply, write_number_image};
 ghost use Rattle.meaning.specs.Messages.{write_table_reply, write_table_image};

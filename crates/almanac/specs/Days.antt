@@ -1,7 +1,7 @@
 -- DAYS AND WEEKDAYS: what a real date is, the day after it, and what day numbers and weekdays then say of the calendar. Assumes nothing.
 -- Wrong answers ruled out: 29 February 2023 counted as a day, where 1 March has the number after 28 February's; a week that starts anew each year.
-use Rattle.std.specs.Prelude.{ℕ, ◌+◌, ◌*◌, ◌/◌, ◌%◌, ◌<◌, ◌≤◌, ◌≡◌, ◌⊎◌, true}
-use Rattle.meaning.specs.Basics.{if◌then◌else◌, ◌<?◌}
+use Rattle.std.specs.Prelude.{ℕ, ◌+◌, ◌*◌, ◌/◌, ◌%◌, ◌<◌, ◌≤◌, ◌≡◌, ◌⊎◌, true, if◌then◌else◌}
+use Rattle.meaning.specs.Basics.{◌<?◌}
 use Rattle.meaning.specs.declared.Date.{Date}
 use Rattle.meaning.specs.Calendar.{month_length, real_date, year_days, day_number, weekday_of}
 

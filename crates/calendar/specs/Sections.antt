@@ -1,6 +1,6 @@
 -- TABLE 54 AND ITS PARTS, as the functions below the public calls go by them. Assumes nothing.
-use Rattle.std.specs.Prelude.{ℕ, ◌+◌, ◌*◌, ◌<◌, ◌≤◌, ◌≡◌, List, length, get_or, replicate}
-use Rattle.meaning.specs.Basics.{if◌then◌else◌, ◌<?◌, part, build}
+use Rattle.std.specs.Prelude.{ℕ, ◌+◌, ◌*◌, ◌<◌, ◌≤◌, ◌≡◌, List, length, get_or, replicate, if◌then◌else◌}
+use Rattle.meaning.specs.Basics.{◌<?◌, part, build}
 use Rattle.meaning.specs.Layout.{data_order}
 use Rattle.meaning.specs.Calendar.{dates_at, switches_at, matrix_at, row_width, table54_size, Found, found, missing}
 use Rattle.meaning.specs.declared.Controls.{Controls}

@@ -1,6 +1,5 @@
 -- What a date comes to. Assumes nothing.
-use Rattle.std.specs.Prelude.{ℕ}
-use Rattle.meaning.specs.Basics.{if◌then◌else◌}
+use Rattle.std.specs.Prelude.{ℕ, if◌then◌else◌}
 use Rattle.meaning.specs.Calendar.{real_date, day_number}
 use Rattle.dates.specs.declared.Day.{Day}
 

@@ -1,5 +1,6 @@
 -- Of demands 1 and 3: which names have an element among those laid out is told by the description and the numbers of its dimensions; and a dimension's element has its item's name, without
 -- subscripts. Assumes nothing.
+use Rattle.std.specs.Prelude.{if◌then◌else◌}
 use Prim.Native.Nat.{ℕ, zero, suc, ◌+◌, ◌<◌}
 use mathlib.Core.Path.{◌≡◌, refl, sym, ◌∙◌}
 use mathlib.Core.Bool.{Bool, true, false, ◌&&◌, true≢false, and-eq-true_iff}
@@ -7,7 +8,7 @@ use mathlib.Core.List.{List, []}
 use mathlib.Core.Option.{Option, some, none}
 use lib.ListN.{length}
 use borrow.Author.Tests.{lt-ltb, ltb-true, eqb-true}
-use Rattle.meaning.specs.Basics.{if◌then◌else◌, ◌=?◌, ◌<?◌, ◌≤?◌}
+use Rattle.meaning.specs.Basics.{◌=?◌, ◌<?◌, ◌≤?◌}
 use Rattle.meaning.specs.declared.ElementName.{ElementName}
 use Rattle.meaning.specs.Causes.{subscripts_of}
 use Rattle.meaning.specs.Description.{item_count, fields_at, is_element, nests}

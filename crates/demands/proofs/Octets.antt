@@ -1,10 +1,11 @@
 -- Of demand 2: the octets of a number are octets, each below 256, of any width and in either DATA_ORDER. Assumes nothing.
+use Rattle.std.specs.Prelude.{if◌then◌else◌}
 use Prim.Native.Nat.{ℕ, zero, suc, ◌/◌, ◌<◌}
 use mathlib.Core.Bool.{Bool, true, false}
 use mathlib.Core.List.{List, [], ◌∷◌, reverse, reverse-cons}
 use lib.ListN.{get_or}
 use native.Mathlib.Omega.{arith}
-use Rattle.meaning.specs.Basics.{if◌then◌else◌, ◌=?◌, octets_least_first, octets_in}
+use Rattle.meaning.specs.Basics.{◌=?◌, octets_least_first, octets_in}
 use Rattle.laying.specs.Every.{Every}
 use Rattle.laying.proofs.Every.{every_append}
 

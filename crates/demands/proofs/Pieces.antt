@@ -1,5 +1,6 @@
 -- The pieces of a passed description: what is no piece moves nothing; a slot's number, once read, stays; a piece that ends inside the image, or is the first that doesn't. Assumes
 -- nothing.
+use Rattle.std.specs.Prelude.{if◌then◌else◌}
 use Prim.Native.Nat.{ℕ, zero, suc, ◌+◌, ◌<◌, ◌≤◌}
 use mathlib.Core.Path.{◌≡◌, refl, ◌∙◌, ap, sym, subst}
 use mathlib.Core.Bool.{Bool, true, false, cond, and-false, ◌&&◌}
@@ -8,7 +9,6 @@ use lib.ListN.{length}
 use borrow.Author.Tests.{ltb-true, lt-ltb, le-ltb, eq-eqb, ne_eqb}
 use native.Mathlib.Decide.{dec_lt}
 use native.Mathlib.Omega.{arith}
-use Rattle.meaning.specs.Basics.{if◌then◌else◌}
 use Rattle.meaning.specs.Description.{item_count, fields_at, refers, slot_octets}
 use Rattle.meaning.specs.Layout.{number_at, bit_range, Numbers, value}
 use Rattle.meaning.specs.Passed.{PassedLaws}

@@ -1,4 +1,5 @@
 -- OUR MESSAGES AS THEY ARE WRITTEN: the octets of a request or a reply have its form, and stand in the room, or are refused as 21. One law for both. Assumes nothing.
+use Rattle.std.specs.Prelude.{if◌then◌else◌}
 use Prim.Native.Nat.{ℕ, ◌+◌, ◌*◌, ◌/◌, ◌%◌, ◌<◌, ◌≤◌}
 use mathlib.Core.Path.{◌≡◌, refl, ◌∙◌, ap}
 use mathlib.Core.Logic.{inl, inr}
@@ -8,7 +9,7 @@ use borrow.Author.Tests.{leb-true, leb-false}
 use lib.ListN.{length, get_or, take, drop, length-append, get_or-append}
 use lib.Seq.{take-append_seam, get_or-append-add, get_or-append_seam}
 use native.Mathlib.Omega.{arith}
-use Rattle.meaning.specs.Basics.{if◌then◌else◌, ◌≤?◌, splice, octets_least_first, octets_in}
+use Rattle.meaning.specs.Basics.{◌≤?◌, splice, octets_least_first, octets_in}
 use Rattle.meaning.specs.declared.Reply.{Reply}
 use Rattle.meaning.specs.Messages.{check_octet, in_octets, counted, Request, full_read, offset_read, full_write, offset_write, request_octets, request_fits, MeterReply, holds, done, refuses, reply_octets, reply_fits, sent, sent_reply, sent_room}
 use Rattle.meaning.specs.Numbers.{no_room}

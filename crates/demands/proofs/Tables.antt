@@ -1,4 +1,5 @@
 -- Of demand 3: laid out, the tables are the TABLEs of the description, in its order, each where the reply says and where the walk has it, and they follow one another. Assumes nothing.
+use Rattle.std.specs.Prelude.{if◌then◌else◌}
 use Prim.Native.Nat.{ℕ, zero, suc, ◌+◌, ◌-◌, ◌<◌, ◌≤◌}
 use mathlib.Core.Path.{◌≡◌, refl, ◌∙◌, ap, sym, subst}
 use mathlib.Core.Logic.{inl, inr}
@@ -8,7 +9,7 @@ use mathlib.Core.Option.{some}
 use borrow.Author.Tests.{eqb-true, eq-eqb}
 use native.Mathlib.Decide.{dec_lt}
 use native.Mathlib.Omega.{arith}
-use Rattle.meaning.specs.Basics.{if◌then◌else◌, ◌=?◌}
+use Rattle.meaning.specs.Basics.{◌=?◌}
 use Rattle.meaning.specs.declared.Reply.{Reply}
 use Rattle.meaning.specs.Description.{item_count, fields_at, is_table, is_table_named, nested, inside, round}
 use Rattle.meaning.specs.Layout.{body_at, tables_of, tree_of, Placed, Slots, Laid, laid, stopped}

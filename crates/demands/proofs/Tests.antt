@@ -1,5 +1,6 @@
 -- Of demand 1: over an opened image, the tests by which a question is refused come to what the replies look at: whether a table and an element are found, which item the table is of, and
 -- whether octets are a dimension's. Assumes nothing.
+use Rattle.std.specs.Prelude.{if◌then◌else◌}
 use Prim.Native.Nat.{ℕ, zero, suc, ◌+◌, ◌<◌, ◌≤◌, min, max}
 use mathlib.Core.Path.{◌≡◌, refl, sym, ◌∙◌, ap}
 use mathlib.Core.Bool.{Bool, true, false, not, ◌&&◌, ◌||◌, true≢false}
@@ -9,7 +10,7 @@ use lib.ListN.{length}
 use borrow.Author.Tests.{ltb-true, ltb-false, lt-ltb}
 use native.Mathlib.Decide.{dec_lt}
 use native.Mathlib.Omega.{arith}
-use Rattle.meaning.specs.Basics.{if◌then◌else◌, ◌<?◌}
+use Rattle.meaning.specs.Basics.{◌<?◌}
 use Rattle.meaning.specs.Description.{item_count, fields_at, is_table_named, is_dimension, table_given}
 use Rattle.meaning.specs.Layout.{Placed, Seat, Slots, table_named}
 use Rattle.meaning.specs.Refusals.{any_dimension, placed_place, element_place_reply}

@@ -2,9 +2,9 @@
 -- number asked of a BLOCK or SET. Order 22, 26, 24, then from the outside in: 23 for a branch, 25 for a subscript."
 -- Said twice. As tests, made apart from one another: their list alone says which comes first (specs/Demand1). And cause by cause, when each is told and when none (`CausesSay`): by which items
 -- enclose which, with no list and no search. Both over the description and the numbers of its dimensions. proofs/Causes.antt proves that they say the same, for every description. Assumes nothing.
-use Rattle.std.specs.Prelude.{ℕ, ◌<◌, ◌≡◌, Bool, true, false, not, ◌&&◌, List, ◌∷◌, map, length, get_or}
+use Rattle.std.specs.Prelude.{ℕ, ◌<◌, ◌≡◌, Bool, true, false, not, ◌&&◌, List, ◌∷◌, map, length, get_or, if◌then◌else◌}
 use Rattle.std.proofs.Math.Option.{Option, some, none}
-use Rattle.meaning.specs.Basics.{if◌then◌else◌, ◌=?◌, ◌<?◌, ◌≤?◌}
+use Rattle.meaning.specs.Basics.{◌=?◌, ◌<?◌, ◌≤?◌}
 use Rattle.meaning.specs.declared.ElementName.{ElementName}
 use Rattle.meaning.specs.declared.Refusal.{Refusal}
 use Rattle.meaning.specs.Causes.{subscripts_of}

@@ -3,9 +3,8 @@
 -- out, every octet below the total lies in exactly one element; after an accepted write every element stands where it stood."
 -- Each clause is one named statement over any family of replies R, by the rules in words (specs/Rules) and the walk in words (specs/Walk). proofs/Demand3.antt proves every
 -- statement here of our replies, for every description and image.
-use Rattle.std.specs.Prelude.{ℕ, zero, suc, ◌+◌, ◌<◌, ◌≤◌, ◌≡◌, ◌⊎◌, true, false, List, [], ◌∷◌, length}
+use Rattle.std.specs.Prelude.{ℕ, zero, suc, ◌+◌, ◌<◌, ◌≤◌, ◌≡◌, ◌⊎◌, true, false, List, [], ◌∷◌, length, if◌then◌else◌}
 use Rattle.offsets.specs.declared.TableOffset.{TableOffset}
-use Rattle.meaning.specs.Basics.{if◌then◌else◌}
 use Rattle.meaning.specs.declared.ElementName.{ElementName}
 use Rattle.meaning.specs.Causes.{subscripts_of}
 use Rattle.meaning.specs.declared.Reply.{Reply}

@@ -1,7 +1,6 @@
 -- A LIST OF REFUSALS, each with its test; or of the codes that refuse a message (specs/Messages). Assumes nothing.
-use Rattle.std.specs.Prelude.{Bool, List, [], ◌∷◌}
+use Rattle.std.specs.Prelude.{Bool, List, [], ◌∷◌, if◌then◌else◌}
 use Rattle.std.proofs.Math.Option.{Option, some, none}
-use Rattle.meaning.specs.Basics.{if◌then◌else◌}
 
 -- one of them, where its test holds
 unfoldable pub given : {A : Type 0} → Bool → A → Option A

@@ -6,10 +6,10 @@
 -- as 21, before any write is done; a reply read that has none of these forms is 43."
 -- Said of any family of messages M, over any family R of the tables' replies: octet by octet what a form is, then what is read, written and served by these forms. No message is made or
 -- taken apart here. proofs/Messages.antt proves it of ours, over our tables' replies, and proofs/OnlyMessages.antt that no other family meets it. Assumes nothing.
-use Rattle.std.specs.Prelude.{ℕ, ◌+◌, ◌-◌, ◌*◌, ◌%◌, ◌<◌, ◌≤◌, ◌≡◌, ◌⊎◌, Bool, true, not, ◌&&◌, ◌||◌, List, [], ◌∷◌, ◌++◌, map, length, get_or, take}
+use Rattle.std.specs.Prelude.{ℕ, ◌+◌, ◌-◌, ◌*◌, ◌%◌, ◌<◌, ◌≤◌, ◌≡◌, ◌⊎◌, Bool, true, not, ◌&&◌, ◌||◌, List, [], ◌∷◌, ◌++◌, map, length, get_or, take, if◌then◌else◌}
 use Rattle.std.proofs.Math.Option.{Option, some, none}
 use Rattle.offsets.specs.declared.TableOffset.{TableOffset}
-use Rattle.meaning.specs.Basics.{if◌then◌else◌, ◌=?◌, ◌<?◌, part}
+use Rattle.meaning.specs.Basics.{◌=?◌, ◌<?◌, part}
 use Rattle.meaning.specs.declared.Refusal.{Refusal}
 use Rattle.meaning.specs.declared.Reply.{Reply}
 use Rattle.meaning.specs.Messages.{Request, full_read, offset_read, full_write, offset_write, RequestRead, is_request, not_request, MeterReply, holds, done, refuses, sum_of}

@@ -1,8 +1,8 @@
 -- THE RULES ON DESCRIPTIONS, as facts in the words of document 01, "Description items" and refusals 1 to 7. What an item's fields are is read from its octets by `fields_at` (crate
 -- meaning, specs/Description); all else is said here, by which items enclose which. proofs/Rules.antt proves `CheckSays` of our check, for every description. Assumes
 -- nothing.
-use Rattle.std.specs.Prelude.{ℕ, ◌+◌, ◌<◌, ◌≤◌, ◌≡◌, true, false, List}
-use Rattle.meaning.specs.Basics.{if◌then◌else◌, ◌=?◌, ◌<?◌}
+use Rattle.std.specs.Prelude.{ℕ, ◌+◌, ◌<◌, ◌≤◌, ◌≡◌, true, false, List, if◌then◌else◌}
+use Rattle.meaning.specs.Basics.{◌=?◌, ◌<?◌}
 use Rattle.meaning.specs.declared.Verdict.{Verdict}
 use Rattle.meaning.specs.Description.{item_count, fields_at, is_table, nests, is_table_named}
 use Rattle.meaning.specs.Passed.{Exactly, LengthAllowed, end_of, SetEarlier}

@@ -1,6 +1,6 @@
 -- What is read at a place in a description. Assumes nothing.
-use Rattle.std.specs.Prelude.{ℕ, ◌+◌, List}
-use Rattle.meaning.specs.Basics.{if◌then◌else◌, ◌<?◌}
+use Rattle.std.specs.Prelude.{ℕ, ◌+◌, List, if◌then◌else◌}
+use Rattle.meaning.specs.Basics.{◌<?◌}
 use Rattle.meaning.specs.Description.{item_count, fields_at, malformed}
 use Rattle.items.specs.declared.Read.{Read}
 

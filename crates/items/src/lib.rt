@@ -5,8 +5,8 @@
 // and move on from there.
 #![tactic(auto)]
 
-ghost use Rattle.std.specs.Prelude.{◌≡◌, ◌+◌, ◌<◌, ◌≤◌, min};
-ghost use Rattle.meaning.specs.Basics.{if◌then◌else◌, bits};
+ghost use Rattle.std.specs.Prelude.{◌≡◌, ◌+◌, ◌<◌, ◌≤◌, min, if◌then◌else◌};
+ghost use Rattle.meaning.specs.Basics.{bits};
 ghost use Rattle.meaning.specs.Description.{item_count, word_at, own_octets, referring, malformed, names_slot, octets_of_code, table_of, uint_of, block_of, set_of, array_of, if_of, fields_of, is_choice, nests};
 ghost use Rattle.items.specs.Read.{read_at};
 

@@ -1,10 +1,10 @@
 -- The arm that a choice takes, by its branches: the arm is laid, as long as, and has the row that, the body of the branch taken has; and what holds of each
 -- branch holds of that one. Of any branches. Assumes nothing.
+use Rattle.std.specs.Prelude.{if◌then◌else◌}
 use Prim.Native.Nat.{ℕ, ◌+◌, ◌≤◌}
 use mathlib.Core.Path.{◌≡◌, refl}
 use mathlib.Core.Bool.{Bool, true, false}
 use mathlib.Core.List.{List}
-use Rattle.meaning.specs.Basics.{if◌then◌else◌}
 use Rattle.meaning.specs.declared.Inner.{Inner}
 use Rattle.meaning.specs.Layout.{Body, Branches, otherwise, branch, taken, body_in, arms_of, Slots, lay_body, lay_arms, Numbers}
 use Rattle.laying.specs.Rows.{body_row, arms_row, walk_body, walk_arms}

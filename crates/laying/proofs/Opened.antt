@@ -1,5 +1,6 @@
 -- What the replies about an image mean: the description is passed, the image is allowed, and laying out comes to these tables and elements; or all of them
 -- are refused. From laying out each reply is computed. Assumes nothing.
+use Rattle.std.specs.Prelude.{if◌then◌else◌}
 use Prim.Native.Nat.{ℕ, ◌≤◌}
 use mathlib.Core.Path.{◌≡◌, refl, ◌∙◌, ap, subst, sym}
 use mathlib.Core.Bool.{Bool, true, false}
@@ -7,7 +8,7 @@ use mathlib.Core.List.{List}
 use mathlib.Core.Option.{Option, some, none}
 use lib.ListN.{length, take}
 use borrow.Author.Tests.{ltb-false, le-ltb}
-use Rattle.meaning.specs.Basics.{if◌then◌else◌, ◌<?◌, ◌≤?◌}
+use Rattle.meaning.specs.Basics.{◌<?◌, ◌≤?◌}
 use Rattle.meaning.specs.declared.ElementName.{ElementName}
 use Rattle.meaning.specs.declared.Refusal.{Refusal}
 use Rattle.meaning.specs.declared.Verdict.{Verdict}

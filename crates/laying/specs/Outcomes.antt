@@ -1,6 +1,6 @@
 -- WHAT LAYING OUT COMES TO for a passed description, and the number that a dimension read gives its slot. Assumes nothing.
-use Rattle.std.specs.Prelude.{ℕ, zero, suc}
-use Rattle.meaning.specs.Basics.{if◌then◌else◌, ◌=?◌}
+use Rattle.std.specs.Prelude.{ℕ, zero, suc, if◌then◌else◌}
+use Rattle.meaning.specs.Basics.{◌=?◌}
 use Rattle.meaning.specs.Layout.{fault, short, Layout, laid_out, stopped_at, Numbers}
 
 -- the whole image is laid out, or it is short; nothing else stops it

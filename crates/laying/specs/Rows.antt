@@ -1,8 +1,8 @@
 -- ROWS: what laying out finds for an element's item; of other items a row says nothing. Where the element of some subscripts stands is then arithmetic.
 -- Assumes nothing.
-use Rattle.std.specs.Prelude.{ℕ, ◌+◌, ◌*◌, false, List, [], ◌∷◌}
+use Rattle.std.specs.Prelude.{ℕ, ◌+◌, ◌*◌, false, List, [], ◌∷◌, if◌then◌else◌}
 use Rattle.std.proofs.Math.Option.{Option, some, none}
-use Rattle.meaning.specs.Basics.{if◌then◌else◌, ◌=?◌, ◌<?◌}
+use Rattle.meaning.specs.Basics.{◌=?◌, ◌<?◌}
 use Rattle.meaning.specs.Layout.{Node, Body, Arms, Tables, leaf, array, choice, stray, done, more, last_arm, arm, no_more, table, stray_table, tree_of, leaf_octets}
 use Rattle.meaning.specs.Layout.{Slots, unread, Placed, Laid, laid, stopped, lay_node, lay_body, element_named, Numbers, value, slot_numbers}
 use Rattle.laying.specs.Sizes.{body_size, item_size}

@@ -1,7 +1,6 @@
 -- SIZES: how long an item of the tree is, worked out by arithmetic from the numbers of the slots, with no image at hand. Sizes are whole numbers without
 -- limit. Assumes nothing.
-use Rattle.std.specs.Prelude.{ℕ, ◌+◌, ◌*◌}
-use Rattle.meaning.specs.Basics.{if◌then◌else◌}
+use Rattle.std.specs.Prelude.{ℕ, ◌+◌, ◌*◌, if◌then◌else◌}
 use Rattle.meaning.specs.Layout.{Node, Body, Arms, leaf, array, choice, stray, done, more, last_arm, arm, leaf_octets, Numbers, value}
 
 unfoldable mutual

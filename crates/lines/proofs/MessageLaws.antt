@@ -1,4 +1,5 @@
 -- What asking about messages leans on: a message in a room, wherever the room is, and data copied out of a message. Assumes nothing.
+use Rattle.std.specs.Prelude.{if◌then◌else◌}
 use Prim.Native.Nat.{ℕ, ◌+◌, ◌≤◌, ◌<◌, zero-le}
 use mathlib.Core.Path.{◌≡◌, refl, sym, ap, ◌∙◌}
 use mathlib.Core.Bool.{Bool, true, false, ◌||◌, and-eq-true_iff}
@@ -8,7 +9,7 @@ use lib.ListN.{length, take, drop, length-replicate}
 use lib.Seq.{take-length, take-append_seam, length-take-le}
 use native.Mathlib.Omega.{arith}
 use borrow.Author.Tests.{leb-true}
-use Rattle.meaning.specs.Basics.{if◌then◌else◌, ◌=?◌, splice}
+use Rattle.meaning.specs.Basics.{◌=?◌, splice}
 use Rattle.meaning.specs.declared.Reply.{Reply}
 use Rattle.meaning.specs.Numbers.{no_room}
 use Rattle.meaning.specs.Refusals.{told_by, told_numbers}

@@ -1,9 +1,10 @@
 -- Why there is no such element, an item at a time: none is left, or the next is passed or in the way. Assumes nothing.
+use Rattle.std.specs.Prelude.{if◌then◌else◌}
 use Prim.Native.Nat.{ℕ, suc, ◌+◌}
 use mathlib.Core.Path.{◌≡◌, refl}
 use mathlib.Core.Bool.{Bool, true, false, ◌&&◌}
 use mathlib.Core.List.{List}
-use Rattle.meaning.specs.Basics.{if◌then◌else◌, ◌=?◌}
+use Rattle.meaning.specs.Basics.{◌=?◌}
 use Rattle.meaning.specs.declared.Refusal.{Refusal}
 use Rattle.meaning.specs.Causes.{encloses, is_below, is_taken, hindrance, in_the_way}
 use Rattle.meaning.specs.Description.{fields_at, is_array, is_choice}

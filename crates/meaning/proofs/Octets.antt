@@ -1,4 +1,5 @@
 -- The octets of a number: as many as asked for, and where these are enough they make the number again. Of any width and in either DATA_ORDER. Assumes nothing.
+use Rattle.std.specs.Prelude.{if◌then◌else◌}
 use Prim.Native.Nat.{ℕ, zero, suc, ◌+◌, ◌*◌, ◌/◌, ◌^◌, ◌<◌}
 use mathlib.Core.Path.{◌≡◌, refl, sym, ◌∙◌, ap}
 use mathlib.Core.Bool.{Bool, true, false}
@@ -6,7 +7,7 @@ use mathlib.Core.List.{List, [], ◌∷◌, ◌++◌, reverse, reverse-cons}
 use lib.ListN.{length, length-append, length-reverse}
 use native.Mathlib.Nat.{pow-suc, mul_assoc}
 use native.Mathlib.Omega.{arith}
-use Rattle.meaning.specs.Basics.{if◌then◌else◌, ◌=?◌, least_first, most_first, octets_least_first, number_in, octets_in}
+use Rattle.meaning.specs.Basics.{◌=?◌, least_first, most_first, octets_least_first, number_in, octets_in}
 
 -- as many as asked for, least significant octet first
 least_long : (n x : ℕ) → length (octets_least_first n x) ≡ n

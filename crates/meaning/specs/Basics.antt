@@ -1,11 +1,7 @@
 -- The few words that the definitions share: tests and choices, bits, octets as numbers, parts of a list. Nothing here knows of meters.
-use Rattle.std.specs.Prelude.{ℕ, zero, suc, ◌+◌, ◌-◌, ◌*◌, ◌/◌, ◌%◌, ◌^◌, Bool, cond, List, [], ◌∷◌, ◌++◌, reverse, eqb, leb, ltb, length, take, drop}
+use Rattle.std.specs.Prelude.{ℕ, zero, suc, ◌+◌, ◌-◌, ◌*◌, ◌/◌, ◌%◌, ◌^◌, Bool, List, [], ◌∷◌, ◌++◌, reverse, eqb, leb, ltb, length, take, drop, if◌then◌else◌}
 
-infix 10 if◌then◌else◌
 infix 40 ◌=?◌ ◌<?◌ ◌≤?◌
-abbrev pub if◌then◌else◌ {ℓ} : {A : Type ℓ} → Bool → A → A → A
-if b then x else y = cond b x y
-
 -- the tests: equal, below, at most
 abbrev pub ◌=?◌ : ℕ → ℕ → Bool
 a =? b = eqb a b

@@ -1,8 +1,8 @@
 -- THE CALENDAR: the section of that name in document 01, and E1 of document 02. Dates and weekdays; tables 51 and 54; season, special schedule, schedule and tier; the matrix.
 -- A table is here the list of its octets, however the description divides it. Assumes nothing.
-use Rattle.std.specs.Prelude.{ℕ, zero, suc, ◌+◌, ◌-◌, ◌*◌, ◌%◌, Bool, false, not, ◌&&◌, ◌||◌, List, [], ◌∷◌, length, get_or}
+use Rattle.std.specs.Prelude.{ℕ, zero, suc, ◌+◌, ◌-◌, ◌*◌, ◌%◌, Bool, false, not, ◌&&◌, ◌||◌, List, [], ◌∷◌, length, get_or, if◌then◌else◌}
 use Rattle.std.proofs.Math.Option.{Option, some, none}
-use Rattle.meaning.specs.Basics.{if◌then◌else◌, ◌=?◌, ◌<?◌, ◌≤?◌, bits, flag, part, number_in, build}
+use Rattle.meaning.specs.Basics.{◌=?◌, ◌<?◌, ◌≤?◌, bits, flag, part, number_in, build}
 use Rattle.meaning.specs.declared.Chosen.{Chosen}
 use Rattle.meaning.specs.declared.Chosen.TheVariants.{Nothing, Entry}
 use Rattle.meaning.specs.declared.Controls.{Controls}

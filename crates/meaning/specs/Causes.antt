@@ -2,8 +2,8 @@
 -- asked of a BLOCK or SET. Order 22, 26, 24, then from the outside in: 23 for a branch, 25 for a subscript."
 -- Each cause is told by the description and the numbers of its dimensions alone: no image, no elements laid out. Counts include nested items, so what stands round an item is a search over the
 -- items before it, and comes outside in. Rules out: a depth that counts choices, or counts from the inside; an inner subscript told where an outer branch isn't chosen. Assumes nothing.
-use Rattle.std.specs.Prelude.{ℕ, zero, suc, ◌+◌, Bool, not, ◌&&◌, ◌||◌, List, length, get_or, take}
-use Rattle.meaning.specs.Basics.{if◌then◌else◌, ◌=?◌, ◌<?◌, ◌≤?◌}
+use Rattle.std.specs.Prelude.{ℕ, zero, suc, ◌+◌, Bool, not, ◌&&◌, ◌||◌, List, length, get_or, take, if◌then◌else◌}
+use Rattle.meaning.specs.Basics.{◌=?◌, ◌<?◌, ◌≤?◌}
 use Rattle.meaning.specs.declared.ElementName.{ElementName}
 use Rattle.meaning.specs.declared.Fields.{Fields}
 use Rattle.meaning.specs.declared.Inner.{Inner}

@@ -1,8 +1,8 @@
 -- DESCRIPTION ITEMS: the section of that name in document 01, and its refusals 1 to 7.
 -- A description is a list of octets. The rules are said flat: item i breaks rule n, by what stands before it and what encloses it. Counts include nested
 -- items, so a body is an interval of item numbers, and whatever a rule asks of an item is a search over the items before it. Assumes nothing.
-use Rattle.std.specs.Prelude.{ℕ, zero, suc, ◌+◌, ◌*◌, ◌/◌, ◌%◌, Bool, false, not, ◌&&◌, ◌||◌, List, length}
-use Rattle.meaning.specs.Basics.{if◌then◌else◌, ◌=?◌, ◌≤?◌, ◌<?◌, bits, part, most_first}
+use Rattle.std.specs.Prelude.{ℕ, zero, suc, ◌+◌, ◌*◌, ◌/◌, ◌%◌, Bool, false, not, ◌&&◌, ◌||◌, List, length, if◌then◌else◌}
+use Rattle.meaning.specs.Basics.{◌=?◌, ◌≤?◌, ◌<?◌, bits, part, most_first}
 use Rattle.meaning.specs.declared.Fields.{Fields}
 use Rattle.meaning.specs.declared.Round.{Round}
 use Rattle.meaning.specs.declared.Verdict.{Verdict}

@@ -2,9 +2,9 @@
 -- A description is read into a tree, each item with the bodies inside it. Laying the tree over an image gives the list of the elements that the image holds,
 -- each with its name and its place. What a passed description never meets (a dimension not read yet, a bit outside its element, an array of unequal
 -- elements) is an outcome of its own here, as is the short image, so that nothing is assumed of the description.
-use Rattle.std.specs.Prelude.{ℕ, zero, suc, ◌+◌, ◌-◌, ◌*◌, ◌/◌, ◌%◌, ◌^◌, Bool, true, false, ◌&&◌, List, [], ◌∷◌, ◌++◌, length, get_or}
+use Rattle.std.specs.Prelude.{ℕ, zero, suc, ◌+◌, ◌-◌, ◌*◌, ◌/◌, ◌%◌, ◌^◌, Bool, true, false, ◌&&◌, List, [], ◌∷◌, ◌++◌, length, get_or, if◌then◌else◌}
 use Rattle.std.proofs.Math.Option.{Option, some, none}
-use Rattle.meaning.specs.Basics.{if◌then◌else◌, ◌=?◌, ◌≤?◌, ◌<?◌, bits, part, number_in}
+use Rattle.meaning.specs.Basics.{◌=?◌, ◌≤?◌, ◌<?◌, bits, part, number_in}
 use Rattle.meaning.specs.declared.Fields.{Fields}
 use Rattle.meaning.specs.declared.Inner.{Inner}
 use Rattle.meaning.specs.Description.{item_count, fields_at, is_table, is_element, is_array, is_choice, nested, refers}

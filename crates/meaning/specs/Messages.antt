@@ -2,9 +2,9 @@
 -- All numbers stand most significant octet first. What a table holds and whether it may be written is not said anew: a request asks one of the tables' questions
 -- (specs/Questions). Assumes nothing. Wrong answers that this rules out: a check octet over the count too, or not negated; an id taken modulo 2,048; a write made
 -- whose reply doesn't fit; 13 told where a full write's count is wrong.
-use Rattle.std.specs.Prelude.{ℕ, ◌+◌, ◌-◌, ◌/◌, ◌%◌, Bool, true, false, not, ◌&&◌, List, [], ◌∷◌, ◌++◌, length, get_or}
+use Rattle.std.specs.Prelude.{ℕ, ◌+◌, ◌-◌, ◌/◌, ◌%◌, Bool, true, false, not, ◌&&◌, List, [], ◌∷◌, ◌++◌, length, get_or, if◌then◌else◌}
 use Rattle.std.proofs.Math.Option.{Option, some, none}
-use Rattle.meaning.specs.Basics.{if◌then◌else◌, ◌=?◌, ◌≤?◌, part, splice, most_first, octets_in}
+use Rattle.meaning.specs.Basics.{◌=?◌, ◌≤?◌, part, splice, most_first, octets_in}
 use Rattle.meaning.specs.declared.Heard.{Heard}
 use Rattle.meaning.specs.declared.Place.{Place}
 use Rattle.meaning.specs.declared.Refusal.{Refusal}

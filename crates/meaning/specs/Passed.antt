@@ -1,11 +1,11 @@
 -- WHAT A PASSED DESCRIPTION IS: that the reply says what the rules say, and what follows of a description that is passed, in document 01's words.
 -- Statements only; proofs/Passed.antt proves each for every description. Assumes nothing.
-use Rattle.std.specs.Prelude.{ℕ, ◌+◌, ◌*◌, ◌%◌, ◌<◌, ◌≤◌, ◌≡◌, ◌⊎◌, Bool, true, false, not, List, length}
+use Rattle.std.specs.Prelude.{ℕ, ◌+◌, ◌*◌, ◌%◌, ◌<◌, ◌≤◌, ◌≡◌, ◌⊎◌, Bool, true, false, not, List, length, if◌then◌else◌}
 use Rattle.meaning.specs.declared.Fields.{Fields}
 use Rattle.meaning.specs.declared.Round.{Round}
 use Rattle.meaning.specs.declared.Refusal.{Refusal}
 use Rattle.meaning.specs.declared.Verdict.{Verdict}
-use Rattle.meaning.specs.Basics.{if◌then◌else◌, ◌=?◌}
+use Rattle.meaning.specs.Basics.{◌=?◌}
 use Rattle.meaning.specs.Description.{item_count, fields_at, is_table, nests, is_table_named, count, round, slot_octets, table_given, breaks1, breaks2, breaks3, breaks4, breaks5, breaks6, breaks7, is_table00, is_data_order, check_reply}
 use Rattle.meaning.specs.Numbers.{description_length, breaks_rule}
 

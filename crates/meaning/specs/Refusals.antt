@@ -1,8 +1,8 @@
 -- REFUSAL NUMBERS: the section of that name in document 01, and with it every question's reply and every write's later image.
 -- Each reply is a function of the description, the image and what is asked, so no second reply fits. Nothing is assumed of any of them.
-use Rattle.std.specs.Prelude.{ℕ, zero, suc, ◌+◌, ◌^◌, min, max, Bool, true, false, not, ◌&&◌, ◌||◌, List, [], ◌∷◌, ◌++◌, length, take}
+use Rattle.std.specs.Prelude.{ℕ, zero, suc, ◌+◌, ◌^◌, min, max, Bool, true, false, not, ◌&&◌, ◌||◌, List, [], ◌∷◌, ◌++◌, length, take, if◌then◌else◌}
 use Rattle.std.proofs.Math.Option.{Option, some, none}
-use Rattle.meaning.specs.Basics.{if◌then◌else◌, ◌=?◌, ◌<?◌, ◌≤?◌, part, splice, octets_in}
+use Rattle.meaning.specs.Basics.{◌=?◌, ◌<?◌, ◌≤?◌, part, splice, octets_in}
 use Rattle.offsets.specs.declared.TableOffset.{TableOffset}
 use Rattle.meaning.specs.declared.ElementName.{ElementName}
 use Rattle.meaning.specs.declared.Refusal.{Refusal}

@@ -1,9 +1,10 @@
 -- Serving: what a request came to be read as, what the tables say as a reply, and the reply, image and room that they make. Assumes nothing.
+use Rattle.std.specs.Prelude.{if◌then◌else◌}
 use Rattle.std.proofs.Common.{◌≡◌, ℕ, suc, ◌+◌, ◌-◌, ◌/◌, ◌%◌, ◌≤◌, Bool, true, false, List, length, get_or, take, drop, sym, refl, ap, ◌∙◌, subst, arith, eqb-true, le-leb}
 use mathlib.Core.Bool.{and-false}
 use borrow.Author.Tests.{lt-leb}
 use Rattle.offsets.specs.declared.TableOffset.{TableOffset}
-use Rattle.meaning.specs.Basics.{if◌then◌else◌, ◌=?◌, part}
+use Rattle.meaning.specs.Basics.{◌=?◌, part}
 use Rattle.meaning.specs.Messages.{number_from, counted, is_counted, data_from, Request, RequestRead, is_request, not_request, full_read, offset_read, full_write, offset_write, as_request, request_by, request_in, requested_by}
 use Rattle.meaning.specs.Messages.{MeterReply, holds, done, refuses, code_of, reply_fits, reply_octets, sent, sent_reply, sent_room, write_reply_reply, write_reply_room}
 use Rattle.meaning.specs.Messages.{write_table_reply, write_table_image, request_outcome, good_reply, unless_refused, answer_to, image_answered, serve_reply, serve_room, serve_image}

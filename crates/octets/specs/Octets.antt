@@ -1,6 +1,6 @@
 -- OCTETS OF AN IMAGE: what is read and written at any place, of any length. Assumes nothing.
-use Rattle.std.specs.Prelude.{ℕ, ◌+◌, ◌-◌, ◌^◌, ◌<◌, ◌≤◌, ◌≡◌, Bool, List, ◌++◌, length, take, drop}
-use Rattle.meaning.specs.Basics.{if◌then◌else◌, ◌=?◌, ◌≤?◌, part, splice, least_first, most_first, number_in, octets_least_first}
+use Rattle.std.specs.Prelude.{ℕ, ◌+◌, ◌-◌, ◌^◌, ◌<◌, ◌≤◌, ◌≡◌, Bool, List, ◌++◌, length, take, drop, if◌then◌else◌}
+use Rattle.meaning.specs.Basics.{◌=?◌, ◌≤?◌, part, splice, least_first, most_first, number_in, octets_least_first}
 use Rattle.meaning.specs.Layout.{data_order}
 
 -- n octets from p on lie inside the image

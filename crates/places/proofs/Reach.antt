@@ -1,4 +1,5 @@
 -- Where an element is, by the code's row: what is left after some ARRAYs, and that the place is the definition's where that lies in an image. Assumes nothing.
+use Rattle.std.specs.Prelude.{if◌then◌else◌}
 use Prim.Native.Nat.{ℕ, zero, suc, ◌+◌, ◌-◌, ◌*◌, ◌<◌, ◌≤◌}
 use mathlib.Core.Path.{◌≡◌, refl, ◌∙◌, ap, sym}
 use mathlib.Core.Bool.{Bool, true, false}
@@ -8,7 +9,7 @@ use lib.ListN.{length, get_or, take}
 use lib.Seq.{slice, slice-cons, slice_empty, length-take-le}
 use native.Mathlib.Numerals.{add-one}
 use native.Mathlib.Omega.{arith}
-use Rattle.meaning.specs.Basics.{if◌then◌else◌, ◌=?◌, ◌<?◌, ◌≤?◌}
+use Rattle.meaning.specs.Basics.{◌=?◌, ◌<?◌, ◌≤?◌}
 use Rattle.meaning.specs.declared.ElementName.{ElementName}
 use Rattle.laying.specs.Rows.{Array, row, no_row, Spot, spot, absent, spot_in, row_spot}
 use Rattle.laying.specs.Rows as def

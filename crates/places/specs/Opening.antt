@@ -1,7 +1,6 @@
 -- WHAT THE PUBLIC CALLS TELL of an image that is opened. Assumes nothing.
-use Rattle.std.specs.Prelude.{ℕ, ◌+◌, min, Bool, List}
+use Rattle.std.specs.Prelude.{ℕ, ◌+◌, min, Bool, List, if◌then◌else◌}
 use Rattle.std.proofs.Math.Option.{Option, some, none}
-use Rattle.meaning.specs.Basics.{if◌then◌else◌}
 use Rattle.meaning.specs.declared.ElementName.{ElementName}
 use Rattle.meaning.specs.declared.Place.{Place}
 use Rattle.meaning.specs.declared.Refusal.{Refusal}

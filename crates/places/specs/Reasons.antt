@@ -1,6 +1,5 @@
 -- ONE STEP TOWARDS WHY THERE IS NO SUCH ELEMENT: what the item at a place is to the element asked for. Assumes nothing.
-use Rattle.std.specs.Prelude.{ℕ, ◌+◌, ◌&&◌, List}
-use Rattle.meaning.specs.Basics.{if◌then◌else◌}
+use Rattle.std.specs.Prelude.{ℕ, ◌+◌, ◌&&◌, List, if◌then◌else◌}
 use Rattle.meaning.specs.declared.ElementName.{ElementName}
 use Rattle.meaning.specs.Causes.{encloses, subscripts_of, is_below, is_taken}
 use Rattle.meaning.specs.Description.{fields_at, is_array, is_choice}

@@ -1,9 +1,9 @@
 -- ROWS AS THE CODE HAS THEM: four places for the ARRAYs round an element and their number, offsets and strides cut at 65,536. Assumes nothing.
-use Rattle.std.specs.Prelude.{ℕ, zero, suc, ◌+◌, ◌*◌, ◌≤◌, min, ◌≡◌, true, false, List, [], ◌∷◌, length, get_or, replicate, take}
+use Rattle.std.specs.Prelude.{ℕ, zero, suc, ◌+◌, ◌*◌, ◌≤◌, min, ◌≡◌, true, false, List, [], ◌∷◌, length, get_or, replicate, take, if◌then◌else◌}
 use Rattle.laying.specs.Rows.{Array, row, no_row, Spot, spot, absent}
 use Rattle.laying.specs.Rows as def
 use Rattle.places.specs.declared.rows.Arrays.{Arrays}
-use Rattle.meaning.specs.Basics.{if◌then◌else◌, ◌=?◌, ◌<?◌}
+use Rattle.meaning.specs.Basics.{◌=?◌, ◌<?◌}
 use Rattle.meaning.specs.declared.ElementName.{ElementName}
 use Rattle.places.specs.declared.rows.Reach.{Reach}
 use Rattle.places.specs.declared.rows.Row.{Row}

@@ -1,6 +1,6 @@
 -- THE WALK OVER A TABLE: what its functions promise, by what laying out comes to. Assumes nothing.
-use Rattle.std.specs.Prelude.{ℕ, ◌+◌, ◌-◌, ◌<◌, ◌≤◌, min, max, ◌≡◌, Bool, true, false, ◌&&◌, ◌||◌, List, length, set}
-use Rattle.meaning.specs.Basics.{if◌then◌else◌, ◌=?◌, ◌≤?◌, ◌<?◌}
+use Rattle.std.specs.Prelude.{ℕ, ◌+◌, ◌-◌, ◌<◌, ◌≤◌, min, max, ◌≡◌, Bool, true, false, ◌&&◌, ◌||◌, List, length, set, if◌then◌else◌}
+use Rattle.meaning.specs.Basics.{◌=?◌, ◌≤?◌, ◌<?◌}
 use Rattle.meaning.specs.Description.{item_count, fields_at, nested}
 use Rattle.meaning.specs.Layout.{Slots, Placed, fault, short, Laid, laid, stopped, lay_body, lay_node, number_at, body_at, slot_numbers}
 use Rattle.meaning.specs.Refusals.{any_dimension}

@@ -1,6 +1,6 @@
 -- RECORDS OF TABLE 54: what they bring to whoever asks. Assumes nothing.
-use Rattle.std.specs.Prelude.{ℕ, ◌-◌, ◌*◌, ◌/◌, ◌≤◌, ◌≡◌, Bool, ◌&&◌, List, length}
-use Rattle.meaning.specs.Basics.{if◌then◌else◌, bits, ◌=?◌, ◌≤?◌}
+use Rattle.std.specs.Prelude.{ℕ, ◌-◌, ◌*◌, ◌/◌, ◌≤◌, ◌≡◌, Bool, ◌&&◌, List, length, if◌then◌else◌}
+use Rattle.meaning.specs.Basics.{bits, ◌=?◌, ◌≤?◌}
 use Rattle.meaning.specs.Calendar.{triples, entry_if, latest, year_of, record_real, record_day, action, season_entry, special_entry, switch_entry}
 use Rattle.meaning.specs.declared.Chosen.{Chosen}
 use Rattle.meaning.specs.declared.Triple.{Triple}

@@ -1,6 +1,6 @@
 -- WHAT IS ASKED, BY ITS NUMBER, for callers that know no enum. Assumes nothing.
-use Rattle.std.specs.Prelude.{ℕ}
-use Rattle.meaning.specs.Basics.{if◌then◌else◌, ◌=?◌}
+use Rattle.std.specs.Prelude.{ℕ, if◌then◌else◌}
+use Rattle.meaning.specs.Basics.{◌=?◌}
 use Rattle.meaning.specs.declared.Quantity.{Quantity}
 
 -- what a tier is asked for: 0 is summations, any other number demands

@@ -1,6 +1,6 @@
 -- What the recursive check carries, in terms of the rules: for the contracts of the functions below the public call. Assumes nothing.
-use Rattle.std.specs.Prelude.{ℕ, ◌+◌, ◌-◌, ◌<◌, ◌≤◌, List, ◌≡◌, length, get_or, set}
-use Rattle.meaning.specs.Basics.{if◌then◌else◌, ◌=?◌}
+use Rattle.std.specs.Prelude.{ℕ, ◌+◌, ◌-◌, ◌<◌, ◌≤◌, List, ◌≡◌, length, get_or, set, if◌then◌else◌}
+use Rattle.meaning.specs.Basics.{◌=?◌}
 use Rattle.meaning.specs.declared.Fields.{Fields}
 use Rattle.meaning.specs.declared.Round.{Round}
 use Rattle.meaning.specs.Ranges.{FieldsRange}

@@ -5,8 +5,7 @@
 // the code goes down into bodies, so that what encloses an item is at hand.
 #![tactic(auto)]
 
-ghost use Rattle.std.specs.Prelude.{◌≡◌, ◌&&◌, ◌+◌, ◌<◌, ◌≤◌, length, get_or};
-ghost use Rattle.meaning.specs.Basics.{if◌then◌else◌};
+ghost use Rattle.std.specs.Prelude.{◌≡◌, ◌&&◌, ◌+◌, ◌<◌, ◌≤◌, length, get_or, if◌then◌else◌};
 ghost use Rattle.meaning.specs.Ranges.{FieldsRange};
 ghost use Rattle.meaning.specs.Description.{item_count, is_table, nests, is_dimension, is_table_named, is_table00, is_data_order, misplaced, count, inside, table_given, breaks1, breaks2, breaks3, breaks4, breaks5, breaks6, breaks7, lowest_broken, check_reply};
 ghost use Rattle.sound.specs.Walk.{There, Known, noted, Before, JudgedAs, CheckedAs};
