@@ -1,7 +1,7 @@
 -- THE RULES ON DESCRIPTIONS, as facts in the words of document 01, "Description items" and refusals 1 to 7. What an item's fields are is read from its octets by `fields_at` (crate
 -- meaning, specs/Description); all else is said here, by which items enclose which. proofs/Rules.antt proves `CheckSays` of our check, for every description. Assumes
 -- nothing.
-use Rattle.std.specs.Prelude.{ℕ, ◌+◌, ◌<◌, ◌≤◌, ◌≡◌, true, false, List, if◌then◌else◌}
+use Rattle.std.specs.Prelude.{ℕ, ◌+◌, ◌<◌, ◌≤◌, ◌≡◌, true, false, cond, List, if◌then◌else◌}
 use Rattle.meaning.specs.Basics.{◌=?◌, ◌<?◌}
 use Rattle.meaning.specs.declared.Verdict.{Verdict}
 use Rattle.meaning.specs.Description.{item_count, fields_at, is_table, nests, is_table_named}
@@ -66,13 +66,12 @@ RefersBack d i = 0 < (fields_at d i).slot → SetEarlier d i (fields_at d i).slo
 -- item i keeps the rule of that number; there are 2 to 7
 unfoldable pub KeepsRule : (description : List ℕ) → (rule i : ℕ) → Type 0
 KeepsRule d n i =
-    if n =? 2 then WellFormed d i
-    else if n =? 3 then InPlace d i
-    else if n =? 4 then EndsInside d i
-    else if n =? 5 then Shallow d i
-    else if n =? 6 then Once d i
-    else if n =? 7 then RefersBack d i
-    else Unit {0}
+    cond (n =? 2) (WellFormed d i)
+    (cond (n =? 3) (InPlace d i)
+    (cond (n =? 4) (EndsInside d i)
+    (cond (n =? 5) (Shallow d i)
+    (cond (n =? 6) (Once d i)
+    (cond (n =? 7) (RefersBack d i) (Unit {0}))))))
 
 -- and all of them
 pub record KeepsRules (d : List ℕ) (i : ℕ) : Type 0 where
