@@ -8,7 +8,7 @@ use Rattle.offsets.proofs.TableOffset.octets as offsets-TableOffset-octets
 use Rattle.offsets.proofs.ImageOffset.octet as offsets-ImageOffset-octet
 use Rattle.offsets.proofs.TableStart.first as offsets-TableStart-first
 use Rattle.offsets.proofs.TableStart.after as offsets-TableStart-after
-use Rattle.offsets.proofs.TableStart.in_image_lem as offsets-TableStart-in-image
+use Rattle.offsets.proofs.TableStart.in_image as offsets-TableStart-in-image
 use Rattle.basics.proofs.both as basics-both
 use Rattle.basics.proofs.either as basics-either
 use Rattle.basics.proofs.wide as basics-wide

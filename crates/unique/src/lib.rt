@@ -5,6 +5,7 @@
 // The one function here is no call of the library. It has a statement of each kind, so that must-fail
 // edits can take one away: the function is still proved then, and only proofs/Calls.antt refuses it.
 #![tactic(auto)]
+
 ghost use Rattle.std.specs.Prelude.{◌≡◌};
 
 fn kept(number: u8, memory: &mut [u8]) -> u8
