@@ -1,12 +1,14 @@
 -- THE RULES ON DESCRIPTIONS, as facts in the words of document 01, "Description items" and refusals 1 to 7. What an item's fields are is read from its octets by `fields_at` (crate
 -- meaning, specs/Description); all else is said here, by which items enclose which. proofs/Rules.antt proves `CheckSays` of our check, for every description. Assumes
 -- nothing.
-use Rattle.std.specs.Prelude.{ℕ, ◌+◌, ◌<◌, ◌≤◌, ◌≡◌, true, false, cond, List, if◌then◌else◌}
+use Rattle.std.specs.Prelude.{ℕ, ◌+◌, ◌<◌, ◌≤◌, ◌≡◌, Bool, true, false, cond, List, if◌then◌else◌}
 use Rattle.meaning.specs.Basics.{◌=?◌, ◌<?◌}
 use Rattle.meaning.specs.declared.Verdict.{Verdict}
 use Rattle.meaning.specs.Description.{item_count, fields_at, is_table, nests, is_table_named}
 use Rattle.meaning.specs.Passed.{Exactly, LengthAllowed, end_of, SetEarlier}
 use Rattle.meaning.specs.Numbers.{description_length, breaks_rule}
+
+infix 10 when◌holds◌otherwise◌
 
 -- WHAT ENCLOSES WHAT. Counts include nested items: item j encloses the items that follow it, as many as it counts
 abbrev pub Encloses : (description : List ℕ) → (j i : ℕ) → Type 0
@@ -63,15 +65,20 @@ pub record Once (d : List ℕ) (i : ℕ) : Type 0 where
 abbrev pub RefersBack : (description : List ℕ) → (i : ℕ) → Type 0
 RefersBack d i = 0 < (fields_at d i).slot → SetEarlier d i (fields_at d i).slot ((fields_at d i).low + (fields_at d i).width)
 
+-- a fact chosen by a test, as the library's choice is between values
+abbrev pub when◌holds◌otherwise◌ : Bool → Type 0 → Type 0 → Type 0
+when b holds P otherwise Q = cond b P Q
+
 -- item i keeps the rule of that number; there are 2 to 7
 unfoldable pub KeepsRule : (description : List ℕ) → (rule i : ℕ) → Type 0
 KeepsRule d n i =
-    cond (n =? 2) (WellFormed d i)
-    (cond (n =? 3) (InPlace d i)
-    (cond (n =? 4) (EndsInside d i)
-    (cond (n =? 5) (Shallow d i)
-    (cond (n =? 6) (Once d i)
-    (cond (n =? 7) (RefersBack d i) (Unit {0}))))))
+    when n =? 2 holds WellFormed d i otherwise
+    when n =? 3 holds InPlace d i otherwise
+    when n =? 4 holds EndsInside d i otherwise
+    when n =? 5 holds Shallow d i otherwise
+    when n =? 6 holds Once d i otherwise
+    when n =? 7 holds RefersBack d i otherwise
+    Unit {0}
 
 -- and all of them
 pub record KeepsRules (d : List ℕ) (i : ℕ) : Type 0 where

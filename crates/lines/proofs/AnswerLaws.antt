@@ -9,7 +9,7 @@ use borrow.Author.Tests.{lt-ltb, le-ltb, lt-leb, leb-true, eqb-true, ne_eqb, not
 use lib.Dec.{leb, eqb}
 use lib.ListN.{length, get_or, take, length-take, length-drop}
 use lib.Seq.{length-take-le}
-use Rattle.meaning.specs.Basics.{◌=?◌, part}
+use Rattle.meaning.specs.Basics.{◌=?◌}
 use Rattle.words.specs.declared.types.Words.{Words}
 use Rattle.words.specs.declared.types.Octets.{Octets}
 use Rattle.words.specs.Hex.{OctetsRead}

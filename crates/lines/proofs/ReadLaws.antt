@@ -21,7 +21,7 @@ use Rattle.lines.specs.declared.rows.Form.{Form}
 use Rattle.lines.specs.declared.read.Numbers.{Numbers}
 use Rattle.lines.specs.declared.read.Part.{Part}
 use Rattle.lines.specs.declared.read.Asked.{Asked}
-use Rattle.lines.specs.Answer.{nth, are_numbers, numbers_in, seven, limits, word_if, d_word, m_word, given_word, of_form}
+use Rattle.lines.specs.Answer.{nth, are_numbers, numbers_in, limits, word_if, d_word, m_word, given_word, of_form}
 use Rattle.lines.specs.Read.{OfSeven, NumbersRead, PartRead, AskedRead}
 
 -- ONE NUMBER
@@ -115,7 +115,7 @@ module _ {words : List (List ℕ)} {from count : ℕ} {all values : List ℕ} {i
 
 pub so_far_all : {words : List (List ℕ)} {from : ℕ} {most values : List ℕ} {i : ℕ} → SoFar words from most values i → length most ≤ i
     → NumbersRead words from most (record { are = true; values = values })
-unfolding are_numbers seven
+unfolding are_numbers
 so_far_all {words} {from} {most} {values} {i} s h =
     let l : length (numbers_in words from most) ≡ i = numbers_long words from most ∙ omega arith in
     record {
@@ -149,7 +149,7 @@ module _ {f : Form} {words : List (List ℕ)} {description image given : List �
 -- FOR CALLERS: each number that was read is within its limit
 pub read_within : {f : Form} {words : List (List ℕ)} {description image given : List ℕ} {r : Asked} → AskedRead f words description image given r
     → r.is ≡ true → (i : ℕ) → get_or r.numbers i 0 ≤ get_or (limits f) i 0
-unfolding of_form seven
+unfolding of_form
 read_within {f} {words} s e i =
     let octets : Bool = are_octets (d_word f words) && (are_octets (m_word f words) && are_octets (given_word f words)) in
     let a : (octets && are_numbers words (1 + f.lent) (limits f)) ≡ true = ((and-eq-true_iff (length words =? f.words) _).0 (sym s.reply ∙ e)).1 in

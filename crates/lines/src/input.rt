@@ -1,12 +1,12 @@
 // Standard input, taken apart into lines. A line is gathered in `line`, which has room for one octet
 // more than the longest line that is taken: of a longer line so many octets are held, and the rest
 // is passed over.
-ghost use Rattle.std.specs.Prelude.{◌-◌, ◌≤◌, length, take, drop, IfOk};
+ghost use Rattle.std.specs.Prelude.{◌-◌, ◌≤◌, length, take, drop};
 ghost use Rattle.lines.specs.Answer.{Memory};
 ghost use Rattle.lines.specs.Input.{Held};
 
 use crate::reply;
-use std::io::{Read, Result, Write};
+use std::io::{Read, Write};
 
 // Where reading stands: how many octets of an unfinished line are held, and whether to go on.
 #[derive(Clone, Copy)]
@@ -31,7 +31,7 @@ fn hold(line: &mut [u8], held: usize, chunk: &[u8], from: usize, to: usize) -> u
     words::put_text(line, held, &chunk[from..end])
 }
 
-// Answers a line, and writes its reply.
+// Answers a line, and whether its reply was written.
 fn give<W: Write>(
     output: &mut W,
     line: &[u8],
@@ -39,16 +39,15 @@ fn give<W: Write>(
     description: &mut [u8],
     image: &mut [u8],
     given: &mut [u8],
-) -> Result<()>
+) -> bool
     requires { Memory out.old description.old image.old given.old }
 {
     let n = reply::answer(line, out, description, image, given);
-    output.write_all(&out[..n])
+    output.write_all(&out[..n]).is_ok()
 }
 
-// Answers each line that ends in chunk, and holds what comes after the last of them: how many octets
-// that is. It stops at a reply that is not written, since the replies after it would answer other
-// lines.
+// Answers each line that ends in chunk, and holds what comes after the last of them. It stops at a
+// reply that is not written, since the replies after it would answer other lines.
 fn take_lines<W: Write>(
     output: &mut W,
     chunk: &[u8],
@@ -58,10 +57,10 @@ fn take_lines<W: Write>(
     description: &mut [u8],
     image: &mut [u8],
     given: &mut [u8],
-) -> Result<usize>
+) -> Stand
     requires held_in_bounds { held ≤ length line.old }
     requires memory { Memory out.old description.old image.old given.old }
-    ensures { IfOk result (λ n. n ≤ length line.old) }
+    ensures { result.held ≤ length line.old }
 {
     let mut n = held;
     let mut from = 0;
@@ -72,13 +71,24 @@ fn take_lines<W: Write>(
         };
         n = hold(line, n, chunk, from, end);
         if end == chunk.len() {
-            return Ok(n);
+            return Stand {
+                held: n,
+                going: true,
+            };
         }
-        give(output, &line[..n], out, description, image, given)?;
+        if !give(output, &line[..n], out, description, image, given) {
+            return Stand {
+                held: 0,
+                going: false,
+            };
+        }
         n = 0;
         from = end + 1;
     }
-    Ok(n)
+    Stand {
+        held: n,
+        going: true,
+    }
 }
 
 // Reads once. Where the input ends, or cannot be read, a last line without line feed is answered.
@@ -92,35 +102,34 @@ fn read_some<R: Read, W: Write>(
     description: &mut [u8],
     image: &mut [u8],
     given: &mut [u8],
-) -> Result<Stand>
+) -> Stand
     requires held_in_bounds { held ≤ length line.old }
     requires memory { Memory out.old description.old image.old given.old }
-    ensures { IfOk result (λ stand. stand.held ≤ length line.old) }
+    ensures { result.held ≤ length line.old }
 {
-    let got = input.read(chunk);
-    if let Ok(n) = got {
-        if 0 < n {
-            let held = take_lines(
-                output,
-                &chunk[..n],
-                line,
-                held,
-                out,
-                description,
-                image,
-                given,
-            )?;
-            return Ok(Stand { held, going: true });
+    let n = match input.read(chunk) {
+        Ok(n) => n,
+        Err(_) => 0,
+    };
+    if n == 0 {
+        if 0 < held {
+            give(output, &line[..held], out, description, image, given);
         }
+        return Stand {
+            held: 0,
+            going: false,
+        };
     }
-    if 0 < held {
-        give(output, &line[..held], out, description, image, given)?;
-    }
-    got?;
-    Ok(Stand {
-        held: 0,
-        going: false,
-    })
+    take_lines(
+        output,
+        &chunk[..n],
+        line,
+        held,
+        out,
+        description,
+        image,
+        given,
+    )
 }
 
 // A proved loop has to end, and nothing says that the input does. So the loop counts its turns
@@ -134,7 +143,7 @@ pub fn run<R: Read, W: Write>(
     description: &mut [u8],
     image: &mut [u8],
     given: &mut [u8],
-) -> Result<()>
+)
     requires { Memory out.old description.old image.old given.old }
 {
     let mut stand = Stand {
@@ -154,11 +163,10 @@ pub fn run<R: Read, W: Write>(
             description,
             image,
             given,
-        )?;
+        );
         if !stand.going {
-            return Ok(());
+            return;
         }
         turns -= 1;
     }
-    Ok(())
 }

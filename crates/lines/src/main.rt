@@ -11,9 +11,7 @@ mod read;
 mod reply;
 mod rows;
 
-use std::io::Result;
-
-fn main(rt: HostRuntime) -> Result<()> {
+fn main(rt: HostRuntime) {
     let mut chunk = memory::chunk();
     let mut line = memory::line();
     let mut out = memory::reply();
@@ -29,5 +27,5 @@ fn main(rt: HostRuntime) -> Result<()> {
         &mut description,
         &mut image,
         &mut given,
-    )
+    );
 }

@@ -30,7 +30,9 @@ fn read_request(d: &[u8], part: &mut [u8]) -> Answered
     ensures { ReadAs (of_request d.now [] [] []) d.now result part.new }
 {
     let told = replies::request_told(messages::read_request(d));
-    let count = words::put_text(part, 0, messages::request_data(d));
+    let data = messages::request_data(d);
+    let count = data.len();
+    part[..count].copy_from_slice(data);
     Answered {
         numbers: [told.code, told.kind, told.id, told.offset, told.count, 0],
         count,
@@ -42,7 +44,9 @@ fn read_reply(d: &[u8], part: &mut [u8]) -> Answered
     ensures { ReadAs (of_reply d.now [] [] []) d.now result part.new }
 {
     let told = replies::reply_told(messages::read_reply(d));
-    let count = words::put_text(part, 0, messages::reply_data(d));
+    let data = messages::reply_data(d);
+    let count = data.len();
+    part[..count].copy_from_slice(data);
     let refusal = told.refusal;
     Answered {
         numbers: [refusal.number, told.kind, told.code, 0, 0, 0],

@@ -85,9 +85,9 @@ pub record WalkEnds (a : Aim) (before : def.Row) (held : Bool) (r : Walk) (row :
 -- from a walk that had found `before` and `held`, r stands where laying out ends, with its slots, and has found what is asked for in its elements, of which
 -- `row` is the row; or at the item and octet that are short. Of what a passed description never meets it says nothing
 abbrev pub Ends : Aim → (before : def.Row) → (held : Bool) → Walk → (row : def.Row) → Laid → Type 0
-Ends a before held r row (laid ps s q) = WalkEnds a before held r row ps s q
-Ends a before held r row (stopped ps (fault x i)) = Unit {0}
-Ends a before held r row (stopped ps (short i p)) = (r.short ≡ true) × (r.next.at ≡ i) × (place a r ≡ p)
+Ends a before held r x (laid ps s q) = WalkEnds a before held r x ps s q
+Ends a before held r x (stopped ps (fault y i)) = Unit {0}
+Ends a before held r x (stopped ps (short i p)) = (r.short ≡ true) × (r.next.at ≡ i) × (place a r ≡ p)
 
 -- before a walk: the slots have their numbers, of dimensions of κ octets, and what was found is the row `before`
 pub record From (s : Slots) (κ : Known) (w : Walk) (before : def.Row) : Type 0 where

@@ -2,9 +2,12 @@
 use borrow.Author.Rules.{rules}
 use Rattle.words.specs.Line.{longer, words_of, none_empty, line_words}
 use Rattle.lines.specs.Answer.{table_rows, message_rows, date_rows, rows, kind_of}
-use Rattle.lines.proofs.rows.kind_of.Statement.{statement}
-use Rattle.lines.proofs.rows.kind_of.Tie as tie
+use Rattle.lines.proofs.rows.kind_of.Goals as goal
 
-pub kind_of_spec : {M : Type 1} → statement M
+pub index_of-requires : goal.index_of-requires
 unfolding longer words_of none_empty line_words table_rows message_rows date_rows rows kind_of
-kind_of_spec = tie.close (tie.spec (λ c. search rules) (λ c κs. search rules) (λ c. c.index_of.ensures))
+index_of-requires c = search rules
+
+pub returns : goal.returns
+unfolding longer words_of none_empty line_words table_rows message_rows date_rows rows kind_of
+returns c = c.index_of.ensures
