@@ -9,7 +9,6 @@ use Rattle.meaning.specs.Passed.{Exactly, LengthAllowed, end_of, SetEarlier}
 use Rattle.meaning.specs.Numbers.{description_length, breaks_rule}
 
 infix 10 when◌holds◌otherwise◌
-
 -- WHAT ENCLOSES WHAT. Counts include nested items: item j encloses the items that follow it, as many as it counts
 abbrev pub Encloses : (description : List ℕ) → (j i : ℕ) → Type 0
 Encloses d j i = (j < i) × (i < end_of d j)
