@@ -6,6 +6,7 @@
 // the matrix and the room for a message: what those hold afterwards is stated too, for answers and
 // refusals.
 #![tactic(auto)]
+
 ghost use Rattle.std.specs.Prelude.{◌≡◌, [], get_or};
 ghost use Rattle.meaning.specs.Refusals.{told_by, verdict_reply, place_reply};
 ghost use Rattle.meaning.specs.Calendar.{matrix_reply, matrix_verdict, cells_after};
@@ -320,11 +321,7 @@ pub fn bilashonge_weekday_of(year: u32, month: u32, day: u32) -> Weekday
 }
 
 // The schedule matrix, into cells. A refused call leaves cells as they are.
-pub fn bilashonge_matrix(
-    description: &[u8],
-    image: &[u8],
-    cells: &mut [[u8; 22]; 15],
-) -> Refusal
+pub fn bilashonge_matrix(description: &[u8], image: &[u8], cells: &mut [[u8; 22]; 15]) -> Refusal
     ensures reply { result ≡ (told_to ask.matrix description.now image.now).refusal }
     ensures cells { cells.new ≡ cells_after (matrix_verdict description.now image.now) (matrix_reply description.now image.now) cells.old }
 {
