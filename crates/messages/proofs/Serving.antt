@@ -108,6 +108,16 @@ module _ (d img xs room : List ℕ) where
   unfolding serve_reply serve_image serve_room sent_reply sent_room
   no_room_served h = let n = reply_unsent (answer_to d img (request_in xs)) room h in (rw n, (rw n, rw n))
 
+  -- each by itself, as the check looks for them
+  pub no_room_reply : length room ≡ 0 → Reply.Refused no_room ≡ serve_reply d img xs room
+  no_room_reply h = (no_room_served h).0
+
+  pub no_room_image : length room ≡ 0 → img ≡ serve_image d img xs room
+  no_room_image h = (no_room_served h).1.0
+
+  pub no_room_after : length room ≡ 0 → room ≡ serve_room d img xs room
+  no_room_after h = (no_room_served h).1.1
+
   module _ {r : Reply} {later : List ℕ} {v : RequestRead} (read : request_in xs ≡ v) where
     -- the image is as it was, whether the reply is sent or not
     same_image : (a : MeterReply) → a ≡ answer_to d img v → image_answered d img v ≡ img → (r ≡ write_reply_reply a room) × (later ≡ write_reply_room a room) → Served r img later

@@ -162,6 +162,7 @@ pub fn write_reply(kind: u64, code: u64, new: &[u8], room: &mut [u8]) -> Reply
 }
 
 // Answers a request over the tables: its reply into the room, and a write done in the image.
+#[tactic(auto, using(crate::proofs::Serving::no_room_reply, crate::proofs::Serving::no_room_image, crate::proofs::Serving::no_room_after))]
 pub fn serve(description: &[u8], image: &mut [u8], request: &[u8], room: &mut [u8]) -> Reply
     ensures reply { result ≡ serve_reply description.now image.old request.now room.old }
     ensures image { image.new ≡ serve_image description.now image.old request.now room.old }

@@ -97,6 +97,7 @@ fn least_first(octets: &mut [u8], value: u64)
 }
 
 // Fills `octets` with a number, in a DATA_ORDER.
+#[tactic(auto, using(crate::proofs::Filled::order_least, crate::proofs::Filled::order_most))]
 pub fn fill(octets: &mut [u8], order: u32, value: u64)
     ensures { octets.new ≡ octets_in order (length octets.old) value }
 {

@@ -1,11 +1,7 @@
 -- `serve`: by what the request was read as. Assumes nothing.
 use Rattle.std.proofs.Common.{arith}
-use Rattle.messages.proofs.Serving.{came_as, no_room_served, refused_served, full_read_served, offset_read_served, full_write_served, offset_write_served}
+use Rattle.messages.proofs.Serving.{came_as, refused_served, full_read_served, offset_read_served, full_write_served, offset_write_served}
 use Rattle.messages.proofs.serve.Goals as goal
-
-pub returns-then-room-eq0 : goal.returns-then-room-eq0
-returns-then-room-eq0 c =
-    let all = no_room_served c.args.description.now c.args.image.now c.args.request.now c.args.room.now c.if-room-eq0.true in record { reply = all.0; image = all.1.0; room = all.1.1 }
 
 pub overflow_add-end : goal.overflow_add-end
 overflow_add-end c = omega (arith, (came_as _ c.read-asked.ensures c.in-FullWrite.is).0)
