@@ -126,6 +126,8 @@ def turn(text, mark, new, fields):
 
 
 def main():
+    if os.path.exists('docs/PORT.md'):
+        sys.exit('respell: the names here are turned already')
     new, fields = table()
     for path in files('.antt', '.rt', '.edit'):
         with open(path, encoding='utf-8') as f:

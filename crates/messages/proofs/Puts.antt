@@ -9,6 +9,8 @@ use Rattle.meaning.specs.declared.Reply.{Reply}
 use Rattle.meaning.proofs.Either.{clash}
 use Rattle.meaning.proofs.Octets.{octets_long}
 use Rattle.meaning.proofs.Splices.{splice_long}
+use Rattle.octets.specs.Octets.{replaced}
+use Rattle.octets.proofs.Laws.{copied}
 use Rattle.messages.specs.Messages.{IsPut}
 
 -- ONE FIELD
@@ -23,8 +25,9 @@ unfolding splice
 put_part room at e xs h i = record { fits = omega arith; reply = h; memory = rw (Post-is at e room (omega arith), h) (sym (append_assoc (take at room) xs _)) }
 
 -- octets copied into it
-pub put_copied : (room : List ℕ) (at : ℕ) (xs later : List ℕ) → at + length xs ≤ length room → later ≡ xs → IsPut room at xs (put_mid at (at + length xs - at) room later) (at + length xs)
-put_copied room at xs later h l = rw l (put_part room at (at + length xs) xs refl h)
+pub put_copied : (room : List ℕ) (at : ℕ) (xs later : List ℕ) → at + length xs ≤ length room → later ≡ replaced (mid_of at (at + length xs - at) room) xs
+    → IsPut room at xs (put_mid at (at + length xs - at) room later) (at + length xs)
+put_copied room at xs later h l = rw (copied room at (at + length xs) xs later refl h l) (put_part room at (at + length xs) xs refl h)
 
 -- a number filled into it
 pub put_filled : (room : List ℕ) (at n x : ℕ) (later : List ℕ) → at + n ≤ length room

@@ -28,7 +28,7 @@ fn put_octets(room: &mut [u8], at: usize, new: &[u8]) -> usize
     ensures { IsPut room.old at new.now room.new result }
 {
     let end = at + new.len();
-    room[at..end].copy_from_slice(new);
+    octets::copy(new, &mut room[at..end]);
     end
 }
 

@@ -2,19 +2,19 @@
 use Prim.Native.Nat.{ℕ, suc, ◌+◌, ◌-◌, ◌%◌, ◌^◌, ◌<◌, ◌≤◌, min}
 use mathlib.Core.Path.{◌≡◌, refl, ◌∙◌, ap, sym, subst}
 use mathlib.Core.Bool.{Bool, true, false}
-use mathlib.Core.List.{List, [], ◌∷◌, ◌++◌, append_assoc, append-nil}
+use mathlib.Core.List.{List, [], ◌∷◌, append_assoc}
 use lib.ListN.{length, get_or, take, drop, length-drop, drop_of_length-le}
-use lib.Seq.{take_all, take-length, take-nil, drop-length}
+use lib.Seq.{take_all, take-length, take-nil}
 use borrow.Rule.Slice.PartMut.{mid_of, put_mid, mid_len, Post-is}
 use lib.Dec.{leb}
-use borrow.Author.Tests.{le-leb, lt-leb, leb-true, leb-false}
+use borrow.Author.Tests.{le-leb, lt-leb, leb-true, leb-false, eq-eqb}
 use native.Mathlib.Omega.{arith}
 use native.Mathlib.Nat.{one-le-pow}
 use Rattle.meaning.specs.Layout.{data_order, number_at}
 use Rattle.meaning.specs.Basics.{part, splice, number_in, octets_in}
 use Rattle.meaning.proofs.Octets.{octets_long}
 use Rattle.meaning.proofs.Splices.{part_long}
-use Rattle.octets.specs.Octets.{inside, number_of, number_read, put}
+use Rattle.octets.specs.Octets.{inside, number_of, number_read, put, replaced}
 
 -- DATA_ORDER of an image of no octets, and by its first octet
 pub order_empty : (img : List ℕ) → length img ≡ 0 → 0 ≡ data_order img
@@ -69,10 +69,9 @@ put_inside img p e new h i =
     rw (le-leb (p + length new) (length img) j, Post-is p e img (omega arith), h) (sym (append_assoc (take p img) new _))
 
 -- the part is as long as what is copied into it
-pub copied : (img : List ℕ) (p e : ℕ) (new later : List ℕ) → e ≡ p + length new → e ≤ length img → later ≡ take (length new) new ++ drop (length new) (mid_of p (e - p) img) → later ≡ new
+pub copied : (img : List ℕ) (p e : ℕ) (new later : List ℕ) → e ≡ p + length new → e ≤ length img → later ≡ replaced (mid_of p (e - p) img) new → later ≡ new
 copied img p e new later h i l =
-    let k : length (mid_of p (e - p) img) ≡ length new = mid_len p e img i ∙ omega arith in
-    l ∙ rw (← k, drop-length (mid_of p (e - p) img), k, take-length new) (append-nil new)
+    let k : length (mid_of p (e - p) img) ≡ length new = mid_len p e img i ∙ omega arith in l ∙ rw (k, eq-eqb (length new) (length new) refl)
 
 -- and where they don't, nothing is put
 pub put_outside : (img : List ℕ) (p : ℕ) (new : List ℕ) → inside img p (length new) ≡ false → img ≡ put img p new

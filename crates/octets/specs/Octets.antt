@@ -19,6 +19,10 @@ number_read img p n = if inside img p n then number_of (data_order img) (part im
 unfoldable pub put : (image : List ℕ) → (p : ℕ) → (new : List ℕ) → List ℕ
 put img p new = if inside img p (length new) then splice img p new else img
 
+-- octets in place of as many others; the others where they aren't as many
+abbrev pub replaced : (old new : List ℕ) → List ℕ
+replaced old new = if length new =? length old then new else old
+
 -- READING, the most significant octet first
 -- which of n octets is the i-th most significant: DATA_ORDER 0 is least significant octet first
 unfoldable pub place_of : (order n i : ℕ) → ℕ

@@ -9,7 +9,7 @@
 ghost use Rattle.std.specs.Prelude.{◌≡◌, ◌+◌, ◌^◌, ◌<◌, ◌≤◌, min, length};
 ghost use Rattle.meaning.specs.Basics.{part, number_in, octets_in};
 ghost use Rattle.meaning.specs.Layout.{data_order};
-ghost use Rattle.octets.specs.Octets.{number_of, number_read, put, place_of};
+ghost use Rattle.octets.specs.Octets.{number_of, number_read, put, place_of, replaced};
 
 use basics::{ends_within, least, wide};
 use offsets::ImageOffset;
@@ -107,6 +107,20 @@ pub fn fill(octets: &mut [u8], order: u32, value: u64)
     }
 }
 
+// Copies octets over as many others. Where they aren't as many, the others stay.
+pub fn copy(new: &[u8], room: &mut [u8])
+    ensures { room.new ≡ replaced room.old new.now }
+{
+    if new.len() != room.len() {
+        return;
+    }
+    let mut i = 0;
+    while i < new.len() {
+        room[i] = new[i];
+        i += 1;
+    }
+}
+
 // Puts octets in place of as many from `start` on.
 pub fn put_octets(image: &mut [u8], start: ImageOffset, new: &[u8])
     ensures { image.new ≡ put image.old start.0 new.now }
@@ -114,7 +128,7 @@ pub fn put_octets(image: &mut [u8], start: ImageOffset, new: &[u8])
     let at = start.octet();
     if ends_within(at, new.len(), image.len()) {
         let end = at + new.len();
-        image[at..end].copy_from_slice(new);
+        copy(new, &mut image[at..end]);
     }
 }
 

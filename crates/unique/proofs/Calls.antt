@@ -20,6 +20,7 @@ use Rattle.octets.proofs.part as octets-part
 use Rattle.octets.proofs.number_in as octets-number-in
 use Rattle.octets.proofs.number_at as octets-number-at
 use Rattle.octets.proofs.fill as octets-fill
+use Rattle.octets.proofs.copy as octets-copy
 use Rattle.octets.proofs.put_octets as octets-put-octets
 use Rattle.octets.proofs.put_number as octets-put-number
 use Rattle.items.proofs.is_choice as items-is-choice
@@ -150,6 +151,9 @@ one_octets_number_at κs a x y later other p q = (p.0 ∙ sym q.0, refl)
 
 pub one_octets_fill : OneReply _ octets-fill.Kinds.ps octets-fill.Kinds.r octets-fill.Reads.Learnt
 one_octets_fill κs a x y later other p q = (refl, λ i. ((p ∙ sym q) i, (tt, (tt, tt))))
+
+pub one_octets_copy : OneReply _ octets-copy.Kinds.ps octets-copy.Kinds.r octets-copy.Reads.Learnt
+one_octets_copy κs a x y later other p q = (refl, λ i. (tt, ((p ∙ sym q) i, tt)))
 
 pub one_octets_put_octets : OneReply _ octets-put-octets.Kinds.ps octets-put-octets.Kinds.r octets-put-octets.Reads.Learnt
 one_octets_put_octets κs a x y later other p q = (refl, λ i. ((p ∙ sym q) i, (tt, (tt, tt))))

@@ -1,14 +1,14 @@
 // What reading answers.
 
 // A word as a number.
-#[derive(Drop)]
+#[derive(Clone, Copy)]
 pub enum Number {
     Is(u64),
     Not,
 }
 
 // A word as octets: how many were read.
-#[derive(Drop)]
+#[derive(Clone, Copy)]
 pub enum Octets {
     Are(usize),
     Not,
