@@ -4,8 +4,8 @@
  * A DESCRIPTION says how a meter's tables are built: 1 to 512 items of four octets, the first octet
  * most significant. An IMAGE holds the octets of those tables, joined in the description's order, at
  * most 65,535 of them. Every function works the layout out anew and keeps nothing: no global, no
- * allocation, no file; of the C library it calls memcpy, memmove and memset alone. Calls may run at
- * the same time on any threads, as long as nobody writes to memory that another of them is lent.
+ * allocation, no file; of the C library it calls memcpy and memset alone. Calls may run at the same
+ * time on any threads, as long as nobody writes to memory that another of them is lent.
  *
  * EVERY CALL IS ANSWERED OR REFUSED. A reply begins with a struct bilashonge_refusal. Where its
  * number is 0 the question is answered. Else it is one of enum bilashonge_refusal_number, the reply's
