@@ -36,7 +36,6 @@ def split_terms(text):
 
 class Names:
     def __init__(self, table):
-        self.t = table
         self.parent, self.step, self.arms, self.order, self.callee = {}, {}, {}, [], {}
         for entry in table['places']:
             place, parent, (old, new) = entry[0], entry[1], entry[2]
@@ -52,11 +51,6 @@ class Names:
         for row in table['args']:
             for old, new in [row] if isinstance(row[0], str) else row:
                 self.args[old.replace(' ', '')] = new.replace(' ', '')
-        self.all_steps = {}
-        for place in self.order:
-            old, new = self.step[place]
-            if old:
-                self.all_steps.setdefault(old, new)
 
     def up(self, place):
         while place is not None:
@@ -100,10 +94,10 @@ def resolve(path, names, place, said, start=None):
         if rest_of and len(rest) > 1 and rest[0] == 'ensures' and rest[1].isdigit():
             rest = ['ensures'] + clause_at(rest_of, rest[1:])
     for n in range(len(rest), -1, -1):
-        for key in ((head, tuple(rest[:n])),):
-            if key in names.arms:
-                arm, field = names.arms[key]
-                return '.'.join(['', arm, field] + rest[n:]), place
+        key = (head, tuple(rest[:n]))
+        if key in names.arms:
+            arm, field = names.arms[key]
+            return '.'.join(['', arm, field] + rest[n:]), place
     if head in ('args', 'ranges') and rest:
         new = names.args.get('.' + head + '.' + rest[0])
         if new:
@@ -125,9 +119,7 @@ def turn_body(body, names, place, said, var='c'):
             return word
         if head in aliases:
             new, at = resolve(word, names, aliases[head], said, place)
-            if new is None:
-                return 'c' if word == head or True else word
-            return 'c' + new
+            return 'c' + (new or '')
         if head in texts:
             path, at = texts[head]
             return 'c' + resolve(path + word[len(head):], names, at, said, place)[0]
