@@ -1,6 +1,6 @@
 -- What is chosen is what specs/Choices.antt says. Assumes nothing.
 use Prim.Native.Nat.{ℕ, ◌-◌}
-use mathlib.Core.Path.{◌≡◌, refl, sym, ◌∙◌, subst}
+use mathlib.Core.Path.{◌≡◌, refl, sym, ◌∙◌, subst, ap}
 use mathlib.Core.Logic.{⊎_elim}
 use mathlib.Core.Bool.{Bool, true, false, ◌||◌, false≢true, or-true}
 use mathlib.Core.List.Memᴰ
@@ -8,8 +8,6 @@ use mathlib.Core.List.{List, [], ◌∷◌}
 use native.Mathlib.Omega.{arith}
 use borrow.Author.Tests.{leb-true, eqb-true, le-leb, eq-eqb}
 use Rattle.meaning.specs.Basics.{bits, ◌≤?◌}
-use Rattle.meaning.specs.declared.Chosen.{Chosen}
-use Rattle.meaning.specs.declared.Chosen.TheVariants.{Nothing, Entry}
 use Rattle.meaning.specs.declared.Quantity.{Quantity}
 use Rattle.meaning.specs.declared.Triple.{Triple}
 use Rattle.meaning.specs.Passed.{Exactly}
@@ -19,12 +17,23 @@ use Rattle.almanac.specs.Choices.{LatestOf, SelectsSeason, SeasonStands, SeasonS
 use Rattle.almanac.proofs.Tests.{all_four}
 use Rattle.meaning.proofs.Either.{tested}
 use Rattle.almanac.proofs.Latest.{latest_says, entry_some}
+use Rattle.std.specs.Prelude.{Some, None}
+use Rattle.meaning.specs.Values.{Chosen, entry}
 
 -- RECORDS THAT BRING SOMETHING WHERE A CONDITION HOLDS: f brings `brings r` from `when r` on exactly where `Holds r`
 record Brings (f : Triple → Chosen) (Holds : Triple → Type 0) (when brings : Triple → ℕ) : Type 0 where
-  something : (r : Triple) → Holds r → f r ≡ Entry (when r) (brings r)
-  held : (r : Triple) (w x : ℕ) → f r ≡ Entry w x → Holds r × (when r ≡ w) × (brings r ≡ x)
-  nothing : (r : Triple) → (Holds r → ⊥) → f r ≡ Nothing
+  something : (r : Triple) → Holds r → f r ≡ entry (when r) (brings r)
+  held : (r : Triple) (w x : ℕ) → f r ≡ entry w x → Holds r × (when r ≡ w) × (brings r ≡ x)
+  nothing : (r : Triple) → (Holds r → ⊥) → f r ≡ None
+
+-- when what is brought holds from, and what it is
+abbrev from_of : Chosen → ℕ
+from_of None = 0
+from_of (Some e) = e.when
+
+abbrev brought_of : Chosen → ℕ
+brought_of None = 0
+brought_of (Some e) = e.brings
 
 -- where the condition is a test on the record
 by_test : {Holds : Triple → Type 0} (test : Triple → Bool) (when brings : Triple → ℕ) → ((r : Triple) → Exactly (test r ≡ true) (Holds r))
@@ -33,9 +42,9 @@ by_test {Holds} test when brings told =
     record {
       something = λ r h. rw ((told r).1 h);
       held =
-          λ r w x. tested (λ z. z ≡ Entry w x → Holds r × (when r ≡ w) × (brings r ≡ x)) (test r) _ _ (λ t e. ((told r).0 t, cc, cc))
+          λ r w x. tested (λ z. z ≡ entry w x → Holds r × (when r ≡ w) × (brings r ≡ x)) (test r) _ _ (λ t e. ((told r).0 t, ap from_of e, ap brought_of e))
           (λ t e. absurd (entry_some (sym e)));
-      nothing = λ r h. tested (λ z. z ≡ Nothing) (test r) _ _ (λ t. absurd (h ((told r).0 t))) (λ t. refl);
+      nothing = λ r h. tested (λ z. z ≡ None) (test r) _ _ (λ t. absurd (h ((told r).0 t))) (λ t. refl);
     }
 
 -- the same, put in other words
@@ -50,7 +59,7 @@ record Chooses (Holds : Triple → Type 0) (when brings : Triple → ℕ) (rs : 
   value : brings chosen ≡ x
 
 module _ {f : Triple → Chosen} {Holds : Triple → Type 0} {when brings : Triple → ℕ} (b : Brings f Holds when brings) (rs : List Triple) where
-  chosen_latest : (w x : ℕ) → Exactly (latest f rs ≡ Entry w x) (Chooses Holds when brings rs w x)
+  chosen_latest : (w x : ℕ) → Exactly (latest f rs ≡ entry w x) (Chooses Holds when brings rs w x)
   chosen_latest w x =
       put ((latest_says f rs).entry w x)
       (λ l.
@@ -81,7 +90,7 @@ module _ {f : Triple → Chosen} {Holds : Triple → Type 0} {when brings : Trip
         later = λ r m v y e. let h = b.held r v y e in omega (arith, l.later r m h.0, h.1, c.time);
       })
 
-  none_chosen : Exactly (latest f rs ≡ Nothing) ((r : Triple) → r among rs → Holds r → ⊥)
+  none_chosen : Exactly (latest f rs ≡ None) ((r : Triple) → r among rs → Holds r → ⊥)
   none_chosen =
       (λ e r m h. entry_some (sym (b.something r h) ∙ (latest_says f rs).nothing.0 e r m), λ h. (latest_says f rs).nothing.1 (λ r m. b.nothing r (h r m)))
 
@@ -102,14 +111,14 @@ season_brings day =
 
 -- one stands exactly where something is chosen
 abbrev pub is_entry : Chosen → Bool
-is_entry Nothing = false
-is_entry (Entry w x) = true
+is_entry None = false
+is_entry (Some e) = true
 
 either_entry : (a b : Chosen) → is_entry (or_later a b) ≡ is_entry a || is_entry b
 unfolding or_later
-either_entry Nothing b = refl
-either_entry (Entry w x) Nothing = refl
-either_entry (Entry w x) (Entry v y) = tested (λ c. is_entry c ≡ true) (w ≤? v) _ _ (λ e. refl) (λ e. refl)
+either_entry None b = refl
+either_entry (Some e) None = refl
+either_entry (Some z) (Some w) = tested (λ c. is_entry c ≡ true) (z.when ≤? w.when) _ _ (λ e. refl) (λ e. refl)
 
 entry_if_lem : (b : Bool) (w x : ℕ) → is_entry (entry_if b w x) ≡ b
 entry_if_lem true w x = refl

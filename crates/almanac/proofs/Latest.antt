@@ -6,73 +6,73 @@ use mathlib.Core.List.Memᴰ
 use mathlib.Core.List.{List, [], ◌∷◌, ◌++◌}
 use native.Mathlib.Omega.{arith}
 use borrow.Author.Tests.{le-leb, lt-leb}
-use Rattle.meaning.specs.declared.Chosen.{Chosen}
-use Rattle.meaning.specs.declared.Chosen.TheVariants.{Nothing, Entry}
 use Rattle.meaning.specs.declared.Triple.{Triple}
 use Rattle.meaning.specs.Calendar.{or_later, latest}
 use Rattle.almanac.specs.Latest.{◌among◌, Latest, LatestSays}
 use Rattle.almanac.proofs.Tests.{lt_or_ge}
 use Rattle.meaning.proofs.Either.{clash}
+use Rattle.std.specs.Prelude.{Some, None}
+use Rattle.meaning.specs.Values.{Chosen, entry}
 
 -- AN EARLIER RECORD'S BEFORE A LATER ONE'S
-pub none_earlier : (b : Chosen) → or_later Nothing b ≡ b
+pub none_earlier : (b : Chosen) → or_later None b ≡ b
 unfolding or_later
 none_earlier b = refl
 
-pub none_later : (a : Chosen) → or_later a Nothing ≡ a
+pub none_later : (a : Chosen) → or_later a None ≡ a
 unfolding or_later
-none_later Nothing = refl
-none_later (Entry w x) = refl
+none_later None = refl
+none_later (Some e) = refl
 
-pub later_wins : (w x v y : ℕ) → w ≤ v → or_later (Entry w x) (Entry v y) ≡ Entry v y
+pub later_wins : (w x v y : ℕ) → w ≤ v → or_later (entry w x) (entry v y) ≡ entry v y
 unfolding or_later
 later_wins w x v y h = rw (le-leb w v h)
 
-pub earlier_stays : (w x v y : ℕ) → v < w → or_later (Entry w x) (Entry v y) ≡ Entry w x
+pub earlier_stays : (w x v y : ℕ) → v < w → or_later (entry w x) (entry v y) ≡ entry w x
 unfolding or_later
 earlier_stays w x v y h = rw (lt-leb w v h)
 
 -- something isn't nothing
-pub entry_some : {w x : ℕ} → Entry w x ≡ Nothing → ⊥
+pub entry_some : {w x : ℕ} → entry w x ≡ None → ⊥
 entry_some e = clash (cc)
 
 -- BEFORE A TIME: what is brought holds from an earlier time on, or is nothing
 abbrev Below : ℕ → Chosen → Type 0
-Below w Nothing = Unit {0}
-Below w (Entry v y) = v < w
+Below w None = Unit {0}
+Below w (Some e) = e.when < w
 
-below_by : (w : ℕ) (c : Chosen) → ((v y : ℕ) → c ≡ Entry v y → v < w) → Below w c
-below_by w Nothing h = tt
-below_by w (Entry v y) h = h v y refl
+below_by : (w : ℕ) (c : Chosen) → ((v y : ℕ) → c ≡ entry v y → v < w) → Below w c
+below_by w None h = tt
+below_by w (Some e) h = h e.when e.brings refl
 
-below_none : (c : Chosen) → Below 0 c → c ≡ Nothing
-below_none Nothing h = refl
-below_none (Entry v y) h = absurd (omega arith)
+below_none : (c : Chosen) → Below 0 c → c ≡ None
+below_none None h = refl
+below_none (Some e) h = absurd (omega arith)
 
 -- of two, both
 below_both : (w : ℕ) (a b : Chosen) → Below w (or_later a b) → Below w a × Below w b
 unfolding or_later
-below_both w Nothing b h = (tt, h)
-below_both w (Entry v y) Nothing h = (h, tt)
-below_both w (Entry v y) (Entry u z) h =
-    ⊎_elim (λ l. let k : v < w = rw (lt-leb v u l) at h in (k, omega arith)) (λ l. let k : u < w = rw (le-leb v u l) at h in (omega arith, k)) (lt_or_ge u v)
+below_both w None b h = (tt, h)
+below_both w (Some e) None h = (h, tt)
+below_both w (Some e) (Some y) h =
+    ⊎_elim (λ l. let k : e.when < w = rw (lt-leb e.when y.when l) at h in (k, omega arith)) (λ l. let k : y.when < w = rw (le-leb e.when y.when l) at h in (omega arith, k)) (lt_or_ge y.when e.when)
 
 -- the earlier record's is chosen where the later's is below it, the later's where the earlier's isn't past it
-chosen_of : (a b : Chosen) (w x : ℕ) → or_later a b ≡ Entry w x → ((a ≡ Entry w x) × Below w b) ⊎ ((b ≡ Entry w x) × Below (suc w) a)
+chosen_of : (a b : Chosen) (w x : ℕ) → or_later a b ≡ entry w x → ((a ≡ entry w x) × Below w b) ⊎ ((b ≡ entry w x) × Below (suc w) a)
 unfolding or_later
-chosen_of Nothing b w x e = inr (e, tt)
-chosen_of (Entry v y) Nothing w x e = inl (e, tt)
-chosen_of (Entry v y) (Entry u z) w x e =
-    ⊎_elim (λ l. let n : Entry v y ≡ Entry w x = rw (lt-leb v u l) at e in let k : v ≡ w = cc in inl (n, omega arith))
-    (λ l. let n : Entry u z ≡ Entry w x = rw (le-leb v u l) at e in let k : u ≡ w = cc in inr (n, omega arith)) (lt_or_ge u v)
+chosen_of None b w x e = inr (e, tt)
+chosen_of (Some z) None w x e = inl (e, tt)
+chosen_of (Some there) (Some y) w x e =
+    ⊎_elim (λ l. let n : entry there.when there.brings ≡ entry w x = rw (lt-leb there.when y.when l) at e in let k : there.when ≡ w = cc in inl (n, omega arith))
+    (λ l. let n : entry y.when y.brings ≡ entry w x = rw (le-leb there.when y.when l) at e in let k : y.when ≡ w = cc in inr (n, omega arith)) (lt_or_ge y.when there.when)
 
-first_of : (w x : ℕ) (b : Chosen) → Below w b → or_later (Entry w x) b ≡ Entry w x
-first_of w x Nothing h = none_later (Entry w x)
-first_of w x (Entry v y) h = earlier_stays w x v y h
+first_of : (w x : ℕ) (b : Chosen) → Below w b → or_later (entry w x) b ≡ entry w x
+first_of w x None h = none_later (entry w x)
+first_of w x (Some e) h = earlier_stays w x e.when e.brings h
 
-last_of : (a : Chosen) (w x : ℕ) → Below (suc w) a → or_later a (Entry w x) ≡ Entry w x
-last_of Nothing w x h = none_earlier (Entry w x)
-last_of (Entry v y) w x h = later_wins v y w x (omega arith)
+last_of : (a : Chosen) (w x : ℕ) → Below (suc w) a → or_later a (entry w x) ≡ entry w x
+last_of None w x h = none_earlier (entry w x)
+last_of (Some e) w x h = later_wins e.when e.brings w x (omega arith)
 
 module _ (f : Triple → Chosen) where
   -- of all records: what is chosen is below a time exactly where each record's is
@@ -93,7 +93,7 @@ module _ (f : Triple → Chosen) where
       ⊎_elim (λ q. rw q p.0) (λ q. below_all w rs p.1 r q) (Memᴰ.cases_cons m)
 
   -- the first record is chosen, or one after it
-  latest_is : (rs : List Triple) (w x : ℕ) → latest f rs ≡ Entry w x → Latest f rs w x
+  latest_is : (rs : List Triple) (w x : ℕ) → latest f rs ≡ entry w x → Latest f rs w x
   unfolding latest
   latest_is [] w x e = absurd (entry_some (sym e))
   latest_is (r ∷ rs) w x e =
@@ -118,15 +118,15 @@ module _ (f : Triple → Chosen) where
         brings = l.brings;
         earlier =
             λ s m v y e.
-            ⊎_elim (λ q. let z : f r ≡ Entry v y = cc in let k : v < suc w = rw z at b in omega arith) (λ q. l.earlier s q v y e) (Memᴰ.cases_cons m);
+            ⊎_elim (λ q. let z : f r ≡ entry v y = cc in let k : v < suc w = rw z at b in omega arith) (λ q. l.earlier s q v y e) (Memᴰ.cases_cons m);
         later = l.later;
       })
       (chosen_of (f r) (latest f rs) w x e)
 
-  is_latest : (before : List Triple) (r : Triple) (after : List Triple) (w x : ℕ) → f r ≡ Entry w x
-      → ((s : Triple) → s among before → (v y : ℕ) → f s ≡ Entry v y → v ≤ w)
-      → ((s : Triple) → s among after → (v y : ℕ) → f s ≡ Entry v y → v < w)
-      → latest f (before ++ r ∷ after) ≡ Entry w x
+  is_latest : (before : List Triple) (r : Triple) (after : List Triple) (w x : ℕ) → f r ≡ entry w x
+      → ((s : Triple) → s among before → (v y : ℕ) → f s ≡ entry v y → v ≤ w)
+      → ((s : Triple) → s among after → (v y : ℕ) → f s ≡ entry v y → v < w)
+      → latest f (before ++ r ∷ after) ≡ entry w x
   unfolding latest
   is_latest [] r after w x e g h = rw e (first_of w x (latest f after) (all_below_lem w after (λ s m. below_by w (f s) (h s m))))
   is_latest (b ∷ bs) r after w x e g h =

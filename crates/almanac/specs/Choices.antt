@@ -1,13 +1,13 @@
 -- WHAT IS CHOSEN: the season and the special schedule on a day, the switch at a minute, each told by the records of Table 54. Assumes nothing.
 -- Wrong answers ruled out: a special schedule on the day after its date; a season whose record has no real date; a switch that isn't flagged for what is asked.
-use Rattle.std.specs.Prelude.{ℕ, ◌+◌, ◌<◌, ◌≤◌, ◌≡◌, Bool, true, List, ◌∷◌, ◌++◌}
+use Rattle.std.specs.Prelude.{ℕ, ◌+◌, ◌<◌, ◌≤◌, ◌≡◌, Bool, true, List, ◌∷◌, ◌++◌, None}
 use Rattle.meaning.specs.Basics.{bits}
-use Rattle.meaning.specs.declared.Chosen.TheVariants.{Nothing, Entry}
 use Rattle.meaning.specs.declared.Quantity.{Quantity}
 use Rattle.meaning.specs.declared.Triple.{Triple}
 use Rattle.meaning.specs.Passed.{Exactly}
 use Rattle.meaning.specs.Calendar.{latest, real_time, record_real, record_day, action, season_on, season_stands, special_on, counts, switch_minute, switch_entry}
 use Rattle.almanac.specs.Latest.{◌among◌}
+use Rattle.meaning.specs.Values.{entry}
 
 -- the latest of the records that count, by day or minute; of equals, the later record
 pub record LatestOf (Counts : Triple → Type 0) (when : Triple → ℕ) (rs : List Triple) (chosen : Triple) : Type 0 where
@@ -40,9 +40,9 @@ pub record SeasonStands (day : ℕ) (dates : List Triple) : Type 0 where
   pub selects : SelectsSeason day standing
 
 pub record SeasonSays (day : ℕ) (dates : List Triple) : Type 0 where
-  pub chosen : (w s : ℕ) → Exactly (season_on day dates ≡ Entry w s) (SeasonChosen day dates w s)
-  pub none : Exactly (season_on day dates ≡ Nothing) ((r : Triple) → r among dates → SelectsSeason day r → ⊥)
-  pub range : (w s : ℕ) → season_on day dates ≡ Entry w s → (w ≤ day) × (s ≤ 15)
+  pub chosen : (w s : ℕ) → Exactly (season_on day dates ≡ entry w s) (SeasonChosen day dates w s)
+  pub none : Exactly (season_on day dates ≡ None) ((r : Triple) → r among dates → SelectsSeason day r → ⊥)
+  pub range : (w s : ℕ) → season_on day dates ≡ entry w s → (w ≤ day) × (s ≤ 15)
   pub stands : Exactly (season_stands day dates ≡ true) (SeasonStands day dates)
 
 -- THE SPECIAL SCHEDULE
@@ -65,9 +65,9 @@ pub record SpecialChosen (day : ℕ) (dates : List Triple) (w k : ℕ) : Type 0 
   pub last : (r : Triple) → r among after → SelectsSpecial day r → ⊥
 
 pub record SpecialSays (day : ℕ) (dates : List Triple) : Type 0 where
-  pub chosen : (w k : ℕ) → Exactly (special_on day dates ≡ Entry w k) (SpecialChosen day dates w k)
-  pub none : Exactly (special_on day dates ≡ Nothing) ((r : Triple) → r among dates → SelectsSpecial day r → ⊥)
-  pub range : (w k : ℕ) → special_on day dates ≡ Entry w k → k ≤ 11
+  pub chosen : (w k : ℕ) → Exactly (special_on day dates ≡ entry w k) (SpecialChosen day dates w k)
+  pub none : Exactly (special_on day dates ≡ None) ((r : Triple) → r among dates → SelectsSpecial day r → ⊥)
+  pub range : (w k : ℕ) → special_on day dates ≡ entry w k → k ≤ 11
 
 -- THE SWITCH
 -- a switch of schedule n at or before minute m, with an hour up to 23 and a minute up to 59, that counts for what is asked
@@ -85,6 +85,6 @@ pub record SwitchChosen (separate : Bool) (q : Quantity) (n m : ℕ) (switches :
   pub tier : bits 2 0 chosen.word ≡ x
 
 pub record SwitchSays (separate : Bool) (q : Quantity) (n m : ℕ) (switches : List Triple) : Type 0 where
-  pub chosen : (w x : ℕ) → Exactly (latest (switch_entry separate q n m) switches ≡ Entry w x) (SwitchChosen separate q n m switches w x)
-  pub none : Exactly (latest (switch_entry separate q n m) switches ≡ Nothing) ((r : Triple) → r among switches → Switches separate q n m r → ⊥)
-  pub range : (w x : ℕ) → latest (switch_entry separate q n m) switches ≡ Entry w x → (w ≤ m) × (x ≤ 7)
+  pub chosen : (w x : ℕ) → Exactly (latest (switch_entry separate q n m) switches ≡ entry w x) (SwitchChosen separate q n m switches w x)
+  pub none : Exactly (latest (switch_entry separate q n m) switches ≡ None) ((r : Triple) → r among switches → Switches separate q n m r → ⊥)
+  pub range : (w x : ℕ) → latest (switch_entry separate q n m) switches ≡ entry w x → (w ≤ m) × (x ≤ 7)

@@ -1,20 +1,19 @@
 -- Of demand 2: octets may be written, by what a write looks at, exactly where the table is marked writable and no dimension is found among them. Assumes nothing.
-use Rattle.std.specs.Prelude.{if◌then◌else◌}
+use Rattle.std.specs.Prelude.{if◌then◌else◌, Err}
 use Prim.Native.Nat.{ℕ}
 use mathlib.Core.Path.{◌≡◌, refl}
 use mathlib.Core.Bool.{Bool, true, false, not}
 use mathlib.Core.List.{List}
 use Rattle.meaning.specs.declared.Refusal.{Refusal}
-use Rattle.meaning.specs.declared.Verdict.{Verdict}
-use Rattle.meaning.specs.declared.Place.{Place}
 use Rattle.meaning.specs.Layout.{Placed}
 use Rattle.meaning.specs.Refusals.{place_verdict, writable, any_dimension, allowed}
 use Rattle.meaning.specs.Numbers.{not_writable, holds_dimension}
 use Rattle.demands.specs.Replies.{octets_at}
 use Rattle.meaning.proofs.Either.{clash}
+use Rattle.meaning.specs.Values.{passed}
 
 -- a refusal isn't passed
-pub refused_not : (r : Refusal) → place_verdict (Place.Refused r) ≡ Verdict.Passed → ⊥
+pub refused_not : (r : Refusal) → place_verdict (Err r) ≡ passed → ⊥
 unfolding place_verdict
 refused_not r e = clash (cc)
 
@@ -30,12 +29,12 @@ module _ (d img : List ℕ) (es : List Placed) (t p n : ℕ) where
   allowed_is h = rw (h.marked, h.free)
 
   -- and nowhere else
-  pub allowed_only : place_verdict (allowed d img es t p n) ≡ Verdict.Passed → Open d img es t p n
+  pub allowed_only : place_verdict (allowed d img es t p n) ≡ passed → Open d img es t p n
   unfolding allowed
   allowed_only = go (writable d img t) (any_dimension es p n) refl refl
     where
       go : (a b : Bool) → writable d img t ≡ a → any_dimension es p n ≡ b
-          → place_verdict (if not a then Place.Refused not_writable else if b then Place.Refused holds_dimension else octets_at p n) ≡ Verdict.Passed
+          → place_verdict (if not a then Err not_writable else if b then Err holds_dimension else octets_at p n) ≡ passed
           → Open d img es t p n
       go true false e f h = record { marked = e; free = f }
       go true true e f h = absurd (refused_not _ h)

@@ -5,16 +5,12 @@ use mathlib.Core.Bool.{false, not, ◌&&◌, ◌||◌, true≢false}
 use mathlib.Core.List.{List}
 use borrow.Author.Tests.{leb-false, lt-leb, not-false, not-true}
 use Rattle.meaning.specs.Basics.{◌≤?◌}
-use Rattle.meaning.specs.declared.Chosen.{Chosen}
-use Rattle.meaning.specs.declared.Chosen.TheVariants.{Nothing, Entry}
 use Rattle.meaning.specs.declared.Controls.{Controls}
 use Rattle.meaning.specs.declared.Date.{Date}
 use Rattle.meaning.specs.declared.Moment.{Moment}
 use Rattle.meaning.specs.declared.Quantity.{Quantity}
 use Rattle.meaning.specs.declared.Refusal.{Refusal}
-use Rattle.meaning.specs.declared.Reply.{Reply}
 use Rattle.meaning.specs.declared.Triple.{Triple}
-use Rattle.meaning.specs.declared.Verdict.{Verdict}
 use Rattle.meaning.specs.Layout.{data_order}
 use Rattle.meaning.specs.Refusals.{table_part_reply}
 use Rattle.meaning.specs.Calendar.{real_date, real_time, day_number, dates_of, season_on, in_season, season_stands, special_on, column_on, missing_special, cell_at, latest, switch_entry, switches_of, tier_from, tier_by_schedule, Found, found, tier_on, tier_day, tier_in, tier_reply, seasoned_in, seasoned_reply, matrix_in, matrix_reply, matrix_verdict_in, matrix_verdict, cells_after}
@@ -26,6 +22,9 @@ use Rattle.almanac.proofs.Tests.{both_true}
 use Rattle.almanac.proofs.Choices.{season_says, special_says, stands_chosen, switch_says}
 use Rattle.almanac.proofs.Matrix.{FoundIn, there, absent, calendar_found, matrix_found, matrix_fifteen}
 use Rattle.demands.specs.Calendar.{ColumnOn, SeasonOn, Answerable, Scheduled, TierIs, NoneYetToday, TierAnswers, TierSays, Dated, SeasonedAnswers, SeasonedSays, MatrixSays}
+use Rattle.std.specs.Prelude.{Ok, Err, Some, None}
+use Rattle.meaning.specs.Values.{Reply, Chosen, passed, entry}
+use Rattle.meaning.specs.declared.Answer.{Answer}
 
 -- THE COLUMN of the special schedule on a day, where it isn't missing
 module _ (c : Controls) (day : ℕ) (dates : List Triple) where
@@ -34,8 +33,8 @@ module _ (c : Controls) (day : ℕ) (dates : List Triple) where
   column_only column h = go (special_on day dates) refl
     where
       go : (x : Chosen) → special_on day dates ≡ x → (missing_special c x ≡ false) × (column_on c day x ≡ column)
-      go Nothing e = (refl, sym (h.weekday ((special_says day dates).none.0 e)))
-      go (Entry w k) e = let s = h.special w k (((special_says day dates).chosen w k).0 e) in (lt-leb _ _ s.0, sym s.1)
+      go None e = (refl, sym (h.weekday ((special_says day dates).none.0 e)))
+      go (Some y) e = let s = h.special y.when y.brings (((special_says day dates).chosen y.when y.brings).0 e) in (lt-leb _ _ s.0, sym s.1)
 
   column_is : missing_special c (special_on day dates) ≡ false → ColumnOn c day dates (column_on c day (special_on day dates))
   unfolding missing_special column_on
@@ -56,8 +55,8 @@ module _ (day : ℕ) (dates : List Triple) where
   season_only season h = go (season_on day dates) refl
     where
       go : (x : Chosen) → season_on day dates ≡ x → in_season x ≡ season
-      go Nothing e = sym (h.before (none_stands (sym (stands_chosen day dates) ∙ rw e)))
-      go (Entry w s) e = sym (h.chosen w s (((season_says day dates).chosen w s).0 e))
+      go None e = sym (h.before (none_stands (sym (stands_chosen day dates) ∙ rw e)))
+      go (Some y) e = sym (h.chosen y.when y.brings (((season_says day dates).chosen y.when y.brings).0 e))
 
   season_is : SeasonOn day dates (in_season (season_on day dates))
   unfolding in_season
@@ -68,8 +67,8 @@ module _ (day : ℕ) (dates : List Triple) where
       }
     where
       go : (x : Chosen) → season_on day dates ≡ x → (SeasonStands day dates → ⊥) → in_season x ≡ 0
-      go Nothing e n = refl
-      go (Entry w s) e n = absurd (n ((season_says day dates).stands.0 (sym (stands_chosen day dates) ∙ rw e)))
+      go None e n = refl
+      go (Some y) e n = absurd (n ((season_says day dates).stands.0 (sym (stands_chosen day dates) ∙ rw e)))
 
 -- THE TIER of a calendar that is found
 module _ (o : ℕ) (c : Controls) (t : List ℕ) (w : Moment) (q : Quantity) where
@@ -86,7 +85,7 @@ module _ (o : ℕ) (c : Controls) (t : List ℕ) (w : Moment) (q : Quantity) whe
   reply = tier_in w q (found o c t)
 
   abbrev Holds : Type 0
-  Holds = Scheduled o c t Verdict.Passed w q
+  Holds = Scheduled o c t passed w q
 
   abbrev switch_of : Holds → Chosen
   switch_of s = latest (switch_entry c.separate q s.schedule minute) (switches_of o c t)
@@ -97,13 +96,13 @@ module _ (o : ℕ) (c : Controls) (t : List ℕ) (w : Moment) (q : Quantity) whe
   -- a schedule holds, or the reply is a refusal
   data Decided (x : Reply) : Type 0 where
     holds : Holds → Decided x
-    refuses : (r : Refusal) → x ≡ Reply.Refused r → Decided x
+    refuses : (r : Refusal) → x ≡ Err r → Decided x
 
   abbrev season : ℕ
   season = in_season (season_on day dates)
 
   -- by the test of 19
-  by_season : Answerable c Verdict.Passed w → Decided (tier_on o c t day minute q (special_on day dates) season)
+  by_season : Answerable c passed w → Decided (tier_on o c t day minute q (special_on day dates) season)
   unfolding tier_on cell_at
   by_season a =
       tested Decided (c.seasons ≤? season || missing_special c (special_on day dates)) _ _ (λ f. refuses _ refl)
@@ -146,9 +145,9 @@ module _ (o : ℕ) (c : Controls) (t : List ℕ) (w : Moment) (q : Quantity) whe
 
   -- so the reply is one of these
   pub data OneOf : Type 0 where
-    refusal : (r : Refusal) → reply ≡ Reply.Refused r → OneOf
-    none : (s : Holds) → switch_of s ≡ Nothing → reply ≡ Reply.NoneYet → OneOf
-    tier : (s : Holds) (v x : ℕ) → switch_of s ≡ Entry v x → reply ≡ Reply.Tier x → OneOf
+    refusal : (r : Refusal) → reply ≡ Err r → OneOf
+    none : (s : Holds) → switch_of s ≡ None → reply ≡ Ok Answer.NoneYet → OneOf
+    tier : (s : Holds) (v x : ℕ) → switch_of s ≡ entry v x → reply ≡ Ok (Answer.Tier x) → OneOf
 
   one_of : Decided reply → OneOf
   unfolding tier_from
@@ -156,24 +155,24 @@ module _ (o : ℕ) (c : Controls) (t : List ℕ) (w : Moment) (q : Quantity) whe
   one_of (holds s) = go (switch_of s) refl
     where
       go : (y : Chosen) → switch_of s ≡ y → OneOf
-      go Nothing e = none s e (by_switch s ∙ rw e)
-      go (Entry v x) e = tier s v x e (by_switch s ∙ rw e)
+      go None e = none s e (by_switch s ∙ rw e)
+      go (Some w) e = tier s w.when w.brings e (by_switch s ∙ rw e)
 
   -- whichever
   pub answer : OneOf
   answer = one_of decided
 
-  tier_only : (x : ℕ) → reply ≡ Reply.Tier x → OneOf → TierIs o c t Verdict.Passed w q x
+  tier_only : (x : ℕ) → reply ≡ Ok (Answer.Tier x) → OneOf → TierIs o c t passed w q x
   tier_only x e (refusal r f) = clash (cc)
   tier_only x e (none s g f) = clash (cc)
   tier_only x e (tier s v y g f) = record { scheduled = s; time = v; switch = ((says s).chosen v x).0 (cc) }
 
-  none_only : reply ≡ Reply.NoneYet → OneOf → NoneYetToday o c t Verdict.Passed w q
+  none_only : reply ≡ Ok Answer.NoneYet → OneOf → NoneYetToday o c t passed w q
   none_only e (refusal r f) = clash (cc)
   none_only e (none s g f) = record { scheduled = s; none = (says s).none.0 g }
   none_only e (tier s v y g f) = clash (cc)
 
-  tier_told : TierAnswers o c t Verdict.Passed w q reply
+  tier_told : TierAnswers o c t passed w q reply
   unfolding tier_from
   tier_told =
       record {
@@ -188,9 +187,9 @@ module _ (o : ℕ) (c : Controls) (b : List ℕ) (t : Date) where
 
   -- the reply is one of these
   pub data Stood (x : Reply) : Type 0 where
-    unreal : (r : Refusal) → x ≡ Reply.Refused r → (Dated Verdict.Passed t → ⊥) → Stood x
-    stands : x ≡ Reply.Yes → Dated Verdict.Passed t → Stands → Stood x
-    stands_none : x ≡ Reply.No → Dated Verdict.Passed t → (Stands → ⊥) → Stood x
+    unreal : (r : Refusal) → x ≡ Err r → (Dated passed t → ⊥) → Stood x
+    stands : x ≡ Ok Answer.Yes → Dated passed t → Stands → Stood x
+    stands_none : x ≡ Ok Answer.No → Dated passed t → (Stands → ⊥) → Stood x
 
   -- whichever
   pub stood : Stood (seasoned_in t (found o c b))
@@ -199,12 +198,12 @@ module _ (o : ℕ) (c : Controls) (b : List ℕ) (t : Date) where
       tested Stood (not (real_date t.year t.month t.day)) _ _
       (λ e. unreal _ refl (λ d. true≢false (sym d.date ∙ not-true _ e)))
       (λ e.
-      let dated : Dated Verdict.Passed t = record { calendar = refl; date = not-false _ e } in
+      let dated : Dated passed t = record { calendar = refl; date = not-false _ e } in
       tested Stood (season_stands (number_of t) (dates_of o c b)) _ _
       (λ f. stands refl dated ((season_says (number_of t) (dates_of o c b)).stands.0 f))
       (λ f. stands_none refl dated (none_stands (number_of t) (dates_of o c b) f)))
 
-  stood_told : (x : Reply) → Stood x → SeasonedAnswers o c b Verdict.Passed t x
+  stood_told : (x : Reply) → Stood x → SeasonedAnswers o c b passed t x
   stood_told x (unreal r e n) = record { yes = (λ f. clash (cc), λ h. absurd (n h.0)); no = (λ f. clash (cc), λ h. absurd (n h.0)) }
   stood_told x (stands e d s) = record { yes = (λ f. (d, s), λ h. e); no = (λ f. clash (cc), λ h. absurd (h.1 s)) }
   stood_told x (stands_none e d s) = record { yes = (λ f. clash (cc), λ h. absurd (s h.1)); no = (λ f. (d, s), λ h. e) }

@@ -6,10 +6,7 @@ use mathlib.Core.List.{List, []}
 use mathlib.Core.Option.{some}
 use lib.ListN.{replicate}
 use Rattle.meaning.specs.Basics.{build}
-use Rattle.meaning.specs.declared.Reply.{Reply}
-use Rattle.meaning.specs.declared.Place.{Place}
 use Rattle.meaning.specs.declared.Refusal.{Refusal}
-use Rattle.meaning.specs.declared.Verdict.{Verdict}
 use Rattle.meaning.specs.Refusals.{told_by, place_part, table_part_reply, element_part_reply, read_range_part}
 use Rattle.meaning.specs.Calendar.{Found, found, missing, matrix_in, matrix_reply, matrix_verdict_in, matrix_verdict, cells_after}
 use Rattle.meaning.specs.Questions as ask
@@ -25,20 +22,23 @@ use Rattle.demands.proofs.OnlyFirst.{verdict_refused}
 use Rattle.demands.proofs.FirstGiven.{first_given}
 use Rattle.demands.proofs.Rules.{check_in_words}
 use Rattle.meaning.proofs.Either.{clash}
+use Rattle.std.specs.Prelude.{Ok, Err}
+use Rattle.meaning.specs.Values.{Verdict, Place, Reply}
+use Rattle.meaning.specs.declared.Answer.{Answer}
 
 -- BY ITS NUMBERS: each kind of reply
 reply_numbered : (r : Reply) → KnownIn (refusal_in r) → Numbered (refusal_in r) (told_by r)
 unfolding refusal_in told_by KnownIn
-reply_numbered (Reply.Refused r) h = record { are = refl; on_paper = h }
-reply_numbered Reply.Passed h = refl
-reply_numbered (Reply.Total n) h = refl
-reply_numbered (Reply.At p n) h = refl
-reply_numbered (Reply.Number x) h = refl
-reply_numbered (Reply.Tier t) h = refl
-reply_numbered Reply.NoneYet h = refl
-reply_numbered Reply.Yes h = refl
-reply_numbered Reply.No h = refl
-reply_numbered (Reply.Weekday w) h = refl
+reply_numbered (Err r) h = record { are = refl; on_paper = h }
+reply_numbered (Ok Answer.Passed) h = refl
+reply_numbered (Ok (Answer.Total n)) h = refl
+reply_numbered (Ok (Answer.At e)) h = refl
+reply_numbered (Ok (Answer.Number x)) h = refl
+reply_numbered (Ok (Answer.Tier t)) h = refl
+reply_numbered (Ok Answer.NoneYet) h = refl
+reply_numbered (Ok Answer.Yes) h = refl
+reply_numbered (Ok Answer.No) h = refl
+reply_numbered (Ok (Answer.Weekday w)) h = refl
 
 -- EACH QUESTION: its refusals are document 01's, and where it is refused no octet changes
 record Kept (d img : List ℕ) (q : Question) : Type 0 where
@@ -87,17 +87,17 @@ kept d img (ask.read_range m k o n) = record { known = after d img _ (two_known 
 kept d img (ask.weekday t) = record { known = one_known _ _ refl; unchanged = λ r e. refl }
 
 -- THE REPLIES THAT ARE OCTETS
-part_none : (img : List ℕ) (x : Place) (r : Refusal) → x ≡ Place.Refused r → place_part img x ≡ []
+part_none : (img : List ℕ) (x : Place) (r : Refusal) → x ≡ Err r → place_part img x ≡ []
 unfolding place_part
 part_none img x r e = rw e
 
-no_matrix : (f : Found) (r : Refusal) → matrix_verdict_in f ≡ Verdict.Refused r → matrix_in f ≡ replicate 15 (replicate 22 0)
+no_matrix : (f : Found) (r : Refusal) → matrix_verdict_in f ≡ Err r → matrix_in f ≡ replicate 15 (replicate 22 0)
 unfolding matrix_verdict_in matrix_in build
 no_matrix (found o c t) r e = clash (cc)
 no_matrix (missing x) r e = refl
 
 -- cells lent stay as they were
-cells_stay : (v : Verdict) (r : Refusal) (matrix lent : List (List ℕ)) → v ≡ Verdict.Refused r → cells_after v matrix lent ≡ lent
+cells_stay : (v : Verdict) (r : Refusal) (matrix lent : List (List ℕ)) → v ≡ Err r → cells_after v matrix lent ≡ lent
 unfolding cells_after
 cells_stay v r matrix lent e = rw e
 

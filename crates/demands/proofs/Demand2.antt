@@ -7,8 +7,6 @@ use borrow.Author.Tests.{le-ltb}
 use Rattle.offsets.specs.declared.TableOffset.{TableOffset}
 use Rattle.meaning.specs.Basics.{part}
 use Rattle.meaning.specs.declared.ElementName.{ElementName}
-use Rattle.meaning.specs.declared.Reply.{Reply}
-use Rattle.meaning.specs.declared.Place.{Place}
 use Rattle.meaning.specs.Description.{fields_at, is_uint}
 use Rattle.meaning.specs.Layout.{number_at}
 use Rattle.meaning.specs.Refusals.{element_place_reply, place_part, table_part_reply, element_part_reply, range_at, read_range_reply, read_range_part, integer_place_reply, place_number, element_number_reply}
@@ -21,13 +19,16 @@ use Rattle.demands.proofs.Calendar.{tier_says, seasoned_says, matrix_says}
 use Rattle.demands.proofs.Weekdays.{weekdays_say}
 use Rattle.demands.proofs.RangeWrites.{range_writes}
 use Rattle.demands.proofs.ElementWrites.{octets_writes, number_writes}
+use Rattle.std.specs.Prelude.{Ok}
+use Rattle.meaning.specs.Values.{Place}
+use Rattle.meaning.specs.declared.Answer.{Answer}
 
 part_told : (img : List ℕ) (x : Place) (p n : ℕ) → x ≡ octets_at p n → place_part img x ≡ part img p n
 unfolding place_part
 part_told img x p n e = rw e
 
 number_told : (d img : List ℕ) (q : ElementName) (p n : ℕ) → element_place_reply d img q ≡ octets_at p n → is_uint (fields_at d q.item) ≡ true
-    → element_number_reply d img q ≡ Reply.Number (number_at img p n)
+    → element_number_reply d img q ≡ Ok (Answer.Number (number_at img p n))
 unfolding element_number_reply integer_place_reply place_number
 number_told d img q p n e u = rw ((for_exactly d img q true p n).1 ((λ g. u), e))
 

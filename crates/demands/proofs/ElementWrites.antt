@@ -1,5 +1,5 @@
 -- Of demands 2 and 3: the writes of an element's octets and of its number, which differ in what fits the element and in which elements there are. Assumes nothing.
-use Rattle.std.specs.Prelude.{if◌then◌else◌}
+use Rattle.std.specs.Prelude.{if◌then◌else◌, Ok, Err}
 use Prim.Native.Nat.{ℕ, ◌+◌, ◌-◌, ◌^◌, ◌<◌, ◌≤◌}
 use mathlib.Core.Path.{◌≡◌, refl, sym, ◌∙◌, ap}
 use mathlib.Core.Bool.{Bool, true, false, true≢false}
@@ -10,9 +10,6 @@ use native.Mathlib.Omega.{arith}
 use Rattle.meaning.specs.Basics.{◌=?◌, ◌<?◌, octets_in}
 use Rattle.meaning.specs.declared.ElementName.{ElementName}
 use Rattle.meaning.specs.declared.Refusal.{Refusal}
-use Rattle.meaning.specs.declared.Verdict.{Verdict}
-use Rattle.meaning.specs.declared.Place.{Place}
-use Rattle.meaning.specs.declared.Reply.{Reply}
 use Rattle.meaning.specs.Description.{fields_at, is_uint}
 use Rattle.meaning.specs.Layout.{Placed, Seat, Slots, data_order, number_at}
 use Rattle.meaning.specs.Passed.{Exactly}
@@ -34,6 +31,8 @@ use Rattle.demands.proofs.Writable.{round_writable, writable_round}
 use Rattle.demands.proofs.Allowed.{refused_not, Open, allowed_is, allowed_only}
 use Rattle.demands.proofs.Writes.{Taken, written_with, with_data, with_number, after, taken_passed, taken_after, taken_others, taken_there, taken_order, taken_stays}
 use Rattle.demands.proofs.Writes.{stays_put, refused_unchanged}
+use Rattle.meaning.specs.Values.{Place, passed, at}
+use Rattle.meaning.specs.declared.Answer.{Answer}
 
 -- what it comes to, of an image that is opened, and of one that isn't
 written_opened : {d img : List ℕ} {ts : List Seat} {es : List Placed} {s : Slots} {total : ℕ} → Opens d img ts es s total → (number : Bool) (fits : ℕ → Bool) (q : ElementName)
@@ -41,7 +40,7 @@ written_opened : {d img : List ℕ} {ts : List Seat} {es : List Placed} {s : Slo
 unfolding written_in
 written_opened o number fits q = rw (opened_image o)
 
-written_refused : (d img : List ℕ) (r : Refusal) → open_image d img ≡ refused r → (number : Bool) (fits : ℕ → Bool) (q : ElementName) → written_in number fits d img q (open_image d img) ≡ Place.Refused r
+written_refused : (d img : List ℕ) (r : Refusal) → open_image d img ≡ refused r → (number : Bool) (fits : ℕ → Bool) (q : ElementName) → written_in number fits d img q (open_image d img) ≡ Err r
 unfolding written_in
 written_refused d img r e number fits q = rw e
 
@@ -56,17 +55,17 @@ record Write (d img : List ℕ) (q : ElementName) (w : Place) (data' : ℕ → L
   is : w ≡ written_in number fits d img q (open_image d img)
 
 -- what fits a place is accepted only where the place is
-fitting_only : (fits : ℕ → Bool) (v : Place) → place_verdict (fitting fits v) ≡ Verdict.Passed → place_verdict v ≡ Verdict.Passed
+fitting_only : (fits : ℕ → Bool) (v : Place) → place_verdict (fitting fits v) ≡ passed → place_verdict v ≡ passed
 unfolding fitting place_verdict
-fitting_only fits (Place.At p n) h = refl
-fitting_only fits (Place.Refused r) h = h
+fitting_only fits (Ok e) h = refl
+fitting_only fits (Err r) h = h
 
 -- and where it fits
-fits_only : (fits : ℕ → Bool) (p n : ℕ) → place_verdict (fitting fits (octets_at p n)) ≡ Verdict.Passed → fits n ≡ true
+fits_only : (fits : ℕ → Bool) (p n : ℕ) → place_verdict (fitting fits (octets_at p n)) ≡ passed → fits n ≡ true
 unfolding fitting
 fits_only fits p n = go (fits n) refl
   where
-    go : (b : Bool) → fits n ≡ b → place_verdict (if b then octets_at p n else Place.Refused wrong_size) ≡ Verdict.Passed → fits n ≡ true
+    go : (b : Bool) → fits n ≡ b → place_verdict (if b then octets_at p n else Err wrong_size) ≡ passed → fits n ≡ true
     go true e h = e
     go false e h = absurd (refused_not _ h)
 
@@ -80,13 +79,13 @@ record Admits (d img : List ℕ) (q : ElementName) (es : List Placed) (fits : �
 
 -- an accepted write has one
 admits_only : (d img : List ℕ) (q : ElementName) (es : List Placed) (fits : ℕ → Bool) (v : Place)
-    → place_verdict (fitting fits (allowed_at d img q es v)) ≡ Verdict.Passed → Admits d img q es fits v
+    → place_verdict (fitting fits (allowed_at d img q es v)) ≡ passed → Admits d img q es fits v
 unfolding allowed_at fitting
-admits_only d img q es fits (Place.At p n) h =
+admits_only d img q es fits (Ok e) h =
     let t = table_around d q.item in
-    let a = allowed_only d img es t p.0 n (fitting_only fits _ h) in
-    record { start = p.0; size = n; is = refl; fit = fits_only fits p.0 n (rw (allowed_is d img es t p.0 n a) at h); allowed = a }
-admits_only d img q es fits (Place.Refused r) h = absurd (refused_not r h)
+    let a = allowed_only d img es t e.start.0 e.length (fitting_only fits _ h) in
+    record { start = e.start.0; size = e.length; is = refl; fit = fits_only fits e.start.0 e.length (rw (allowed_is d img es t e.start.0 e.length a) at h); allowed = a }
+admits_only d img q es fits (Err r) h = absurd (refused_not r h)
 
 -- and with one the write is accepted there
 admits_is : (d img : List ℕ) (q : ElementName) (es : List Placed) (fits : ℕ → Bool) (p n : ℕ) → fits n ≡ true → Open d img es (table_around d q.item) p n
@@ -118,7 +117,7 @@ module _ {d img : List ℕ} {q : ElementName} {w : Place} {data' : ℕ → List 
       }
 
   -- accepted: the element is good
-  element_good : place_verdict w ≡ Verdict.Passed → Sort × ElementGood ours d img q Fits
+  element_good : place_verdict w ≡ passed → Sort × ElementGood ours d img q Fits
   element_good v = go (came d img)
     where
       go : Came d img → Sort × ElementGood ours d img q Fits
@@ -143,7 +142,7 @@ module _ {d img : List ℕ} {q : ElementName} {w : Place} {data' : ℕ → List 
   element_stays = stays_put w data' (λ v. let g = element_good v in (g.1.start, g.1.size, element_taken g.0 g.1))
 
   -- and every other octet is the same
-  element_others : (p n : ℕ) → place_verdict w ≡ Verdict.Passed → element_place_reply d img q ≡ octets_at p n → OthersSame img (written_with img data' w) p n
+  element_others : (p n : ℕ) → place_verdict w ≡ passed → element_place_reply d img q ≡ octets_at p n → OthersSame img (written_with img data' w) p n
   element_others p n v e =
       let g = element_good v in
       let t = element_taken g.0 g.1 in
@@ -224,13 +223,13 @@ module _ (d img : List ℕ) (q : ElementName) (x : ℕ) where
   number_stays = rw with_number (element_stays number_write)
 
   -- its octets make the number again
-  number_back : (g : NumberGood ours d img q x) → element_number_reply d (after (number_taken g)) q ≡ Reply.Number x
+  number_back : (g : NumberGood ours d img q x) → element_number_reply d (after (number_taken g)) q ≡ Ok (Answer.Number x)
   unfolding element_number_reply integer_place_reply place_number number_at
   number_back g =
       let t = number_taken g in
       let there = (for_exactly d (after t) q true g.1.start g.1.size).1 ((λ e. g.0), (taken_stays t).elements q ∙ g.1.exists) in
       rw (there, taken_order t, taken_there t)
-      (ap Reply.Number (octets_back (data_order img) g.1.size x g.1.fits))
+      (ap (λ n. Ok (Answer.Number n)) (octets_back (data_order img) g.1.size x g.1.fits))
 
   -- each octet written is one
   number_octet : (g : NumberGood ours d img q x) (y : ℕ) → g.1.start ≤ y → y < g.1.start + g.1.size → get_or (after (number_taken g)) y 0 < 256
@@ -240,7 +239,7 @@ module _ (d img : List ℕ) (q : ElementName) (x : ℕ) where
       let e : g.1.start + i ≡ y = omega arith in
       rw (← e, ← part_at (after t) g.1.start g.1.size i (omega arith), taken_there t) (octets_below (data_order img) g.1.size x i)
 
-  number_octets_lem : (p n : ℕ) → place_verdict number_place ≡ Verdict.Passed → element_place_reply d img q ≡ octets_at p n
+  number_octets_lem : (p n : ℕ) → place_verdict number_place ≡ passed → element_place_reply d img q ≡ octets_at p n
       → (y : ℕ) → p ≤ y → y < p + n → get_or (written_with img number_octets number_place) y 0 < 256
   number_octets_lem p n v e y a b =
       let g = element_good number_write v in

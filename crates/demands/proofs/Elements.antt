@@ -10,8 +10,6 @@ use borrow.Author.Tests.{le-leb}
 use native.Mathlib.Omega.{arith}
 use Rattle.meaning.specs.declared.ElementName.{ElementName}
 use Rattle.meaning.specs.Causes.{subscripts_of}
-use Rattle.meaning.specs.declared.Reply.{Reply}
-use Rattle.meaning.specs.declared.Place.{Place}
 use Rattle.meaning.specs.Description.{item_count, fields_at}
 use Rattle.meaning.specs.Layout.{Placed, Seat, Slots}
 use Rattle.meaning.specs.Questions.{refusal_in}
@@ -30,6 +28,9 @@ use Rattle.demands.proofs.Laid.{laid_facts}
 use Rattle.demands.proofs.Names.{dimension_exists, Found, name_found}
 use Rattle.demands.proofs.Causes.{causes_say}
 use Rattle.demands.proofs.Refused.{number_refusal, refused_by_lem}
+use Rattle.std.specs.Prelude.{Ok}
+use Rattle.meaning.specs.Values.{at}
+use Rattle.meaning.specs.declared.Answer.{Answer}
 
 -- an element's name: its item, and its subscripts filled up to four places
 abbrev pub name_of : Placed → ElementName
@@ -69,7 +70,7 @@ module _ {d img : List ℕ} {ts : List Seat} {es : List Placed} {s : Slots} {tot
       record { element = f.element; of = f.of; has = (omega (arith, f.start, h.from), omega (arith, f.start, f.size, h.to)) }
 
   -- an element is found by its name
-  pub told : (e : Placed) → Among e es → element_place_reply d img (name_of e) ≡ Place.At (record { 0 = e.start }) e.size
+  pub told : (e : Placed) → Among e es → element_place_reply d img (name_of e) ≡ at (record { 0 = e.start }) e.size
   unfolding element_in placed_place
   told e m =
       let few = every_among _ e es (subscripts_few d img ts es s total o.laid) m in
@@ -137,7 +138,7 @@ module _ {d img : List ℕ} {ts : List Seat} {es : List Placed} {s : Slots} {tot
       omega (arith, early, f.start, f.size, g.start)
 
   -- THE DIMENSIONS: the number question answers a slot's number
-  dimension_number : (i : ℕ) → i < item_count d → 0 < (fields_at d i).sets → element_number_reply d img (alone i) ≡ Reply.Number (numbers_in d img (fields_at d i).sets)
+  dimension_number : (i : ℕ) → i < item_count d → 0 < (fields_at d i).sets → element_number_reply d img (alone i) ≡ Ok (Answer.Number (numbers_in d img (fields_at d i).sets))
   unfolding element_number_reply integer_place_reply place_number
   dimension_number i l sets =
       let r = name_told (alone i) (dimension_exists d o.passes (numbers_in d img) i l sets) in
@@ -149,7 +150,7 @@ module _ {d img : List ℕ} {ts : List Seat} {es : List Placed} {s : Slots} {tot
       rw ((for_exactly d img (alone i) true e.start e.size).1 ((λ z. rw kind), r.1), number, slot)
 
 -- laid out, elements stand so
-pub elements_stand_lem : (d img : List ℕ) (total : ℕ) → layout_reply d img ≡ Reply.Total total → ElementsStand ours d img total
+pub elements_stand_lem : (d img : List ℕ) (total : ℕ) → layout_reply d img ≡ Ok (Answer.Total total) → ElementsStand ours d img total
 elements_stand_lem d img total e =
     let o = (total_opens d img total e).opens in
     record {

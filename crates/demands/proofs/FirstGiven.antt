@@ -1,6 +1,6 @@
 -- Of demand 1: each reply's refusal is the first of the question's list that is given. An image is opened, and then none of 1 to 9 is given and the other tests come to what the replies
 -- look at (proofs/Tests); or one of 1 to 9 is given, and every question gets it. Assumes nothing.
-use Rattle.std.specs.Prelude.{if◌then◌else◌}
+use Rattle.std.specs.Prelude.{if◌then◌else◌, Ok, Err, Some, None}
 use Prim.Native.Nat.{ℕ, zero, suc, ◌+◌, ◌^◌, ◌<◌, ◌≤◌}
 use mathlib.Core.Path.{◌≡◌, refl, sym, ◌∙◌}
 use mathlib.Core.Bool.{Bool, true, false, not, ◌&&◌, ◌||◌}
@@ -12,16 +12,12 @@ use native.Mathlib.Decide.{dec_lt}
 use native.Mathlib.Omega.{arith}
 use Rattle.offsets.specs.declared.TableOffset.{TableOffset}
 use Rattle.meaning.specs.Basics.{◌=?◌, ◌<?◌, ◌≤?◌}
-use Rattle.meaning.specs.declared.Chosen.{Chosen}
 use Rattle.meaning.specs.declared.Controls.{Controls}
 use Rattle.meaning.specs.declared.Date.{Date}
 use Rattle.meaning.specs.declared.ElementName.{ElementName}
-use Rattle.meaning.specs.declared.Reply.{Reply}
 use Rattle.meaning.specs.declared.Moment.{Moment}
 use Rattle.meaning.specs.declared.Quantity.{Quantity}
-use Rattle.meaning.specs.declared.Place.{Place}
 use Rattle.meaning.specs.declared.Refusal.{Refusal}
-use Rattle.meaning.specs.declared.Verdict.{Verdict}
 use Rattle.meaning.specs.Description.{item_count, check_reply}
 use Rattle.meaning.specs.Layout.{Placed, Seat, Slots, table_named, data_order}
 use Rattle.meaning.specs.Refusals.{verdict_reply, place_reply, refused, open_image, layout_in, layout_reply, seat_place, table_place_in, table_place_reply, place_part, table_part_reply, range_at, read_range_reply, place_start, place_length}
@@ -47,6 +43,8 @@ use Rattle.demands.proofs.Laid.{laid_facts, short_first}
 use Rattle.demands.proofs.Tests.{no_seat, table_test, table_item_lem, dimension_test}
 use Rattle.demands.proofs.Causes.{or_else, first_append}
 use Rattle.demands.proofs.Refused.{number_refusal, refused_by_lem}
+use Rattle.meaning.specs.Values.{Verdict, Place, Reply, Chosen, at, entry}
+use Rattle.meaning.specs.declared.Answer.{Answer}
 
 -- the refusal of a verdict and of a place
 abbrev verdict_refusal : Verdict → Option Refusal
@@ -130,11 +128,11 @@ module _ (d img : List ℕ) (es : List Placed) where
     behind_element x = behind (table_around d q.item) (place_start x) (place_length x) (given (not (fits (place_length x))) wrong_size ∷ [])
 
     -- where the element is, x; and y where its number isn't asked
-    element_first : (x y : Place) → ((p n : ℕ) → x ≡ Place.At (record { 0 = p }) n → y ≡ x)
+    element_first : (x y : Place) → ((p n : ℕ) → x ≡ at (record { 0 = p }) n → y ≡ x)
         → write_refusal (fitting fits (allowed_at d img q es x)) ≡ or_else (place_refusal x) (first_of (behind_element y))
     unfolding allowed_at fitting refusal_in verdict_reply place_reply place_verdict or_else
-    element_first (Place.At p n) y h = rw (h p.0 n refl) (fitting_first fits (table_around d q.item) p.0 n)
-    element_first (Place.Refused r) y h = refl
+    element_first (Ok e) y h = rw (h e.start.0 e.length refl) (fitting_first fits (table_around d q.item) e.start.0 e.length)
+    element_first (Err r) y h = refl
 
 -- THE CALENDAR
 -- found, and none of 10 and 20 given; or one of them is
@@ -167,8 +165,8 @@ matrix_found (missing r) = refl
 -- a tier that is told, or that none has come yet, is no refusal
 tier_told : (x : Chosen) → refusal_in (tier_from x) ≡ none
 unfolding refusal_in tier_from
-tier_told Chosen.Nothing = refl
-tier_told (Chosen.Entry w b) = refl
+tier_told None = refl
+tier_told (Some e) = refl
 
 -- 19
 season_first : (o : ℕ) (c : Controls) (t : List ℕ) (day m : ℕ) (q : Quantity) (x : Chosen) (s : ℕ) → refusal_in (tier_on o c t day m q x s) ≡ first_of (nineteen c x s ∷ [])
@@ -187,7 +185,7 @@ date_first : (o : ℕ) (c : Controls) (b : List ℕ) (t : Date) → refusal_in (
 unfolding refusal_in seasoned_in sixteen
 date_first o c b t = test_first refusal_in (not (real_date t.year t.month t.day)) not_a_date _ _ [] refl (unrefused (season_stands _ (dates_of o c b)))
   where
-    unrefused : (x : Bool) → refusal_in (if x then Reply.Yes else Reply.No) ≡ first_of []
+    unrefused : (x : Bool) → refusal_in (if x then Ok Answer.Yes else Ok Answer.No) ≡ first_of []
     unrefused x = tested (λ r. refusal_in r ≡ first_of []) x _ _ (λ e. none_given) (λ e. none_given)
 
 -- of a date alone

@@ -9,7 +9,6 @@ use borrow.Author.Tests.{le-leb, ne_eqb}
 use native.Mathlib.Omega.{arith}
 use Rattle.meaning.specs.declared.ElementName.{ElementName}
 use Rattle.meaning.specs.declared.Refusal.{Refusal}
-use Rattle.meaning.specs.declared.Verdict.{Verdict}
 use Rattle.meaning.specs.Description.{item_count, fields_at, is_array, check_reply}
 use Rattle.meaning.specs.Passed.{OfRules}
 use Rattle.meaning.proofs.Passed.{check_says}
@@ -25,6 +24,8 @@ use Rattle.demands.specs.Demand1.{eight, nine_from, refusals_of, OnPaper}
 use Rattle.demands.specs.Replies.{ours, outcome_by}
 use Rattle.demands.specs.Walk.{octet_before, runs_past, nests_round}
 use Rattle.demands.proofs.FirstGiven.{first_given}
+use Rattle.std.specs.Prelude.{Err}
+use Rattle.meaning.specs.Values.{Verdict, passed}
 
 -- BY ITS NUMBER ON THE PAPER
 -- a number that reports nothing
@@ -73,8 +74,8 @@ unfolding refusal_in verdict_reply KnownIn
 sound_known d = go (check_reply d) refl
   where
     go : (v : Verdict) → check_reply d ≡ v → KnownIn (refusal_in (verdict_reply v))
-    go Verdict.Passed e = tt
-    go (Verdict.Refused r) e = rules_known r ((check_says d).nothing_else r e)
+    go passed e = tt
+    go (Err r) e = rules_known r ((check_says d).nothing_else r e)
 
 short_known : (i p : ℕ) → OnPaper (image_short i p)
 short_known i p = record { listed = refl; at_item = λ e. absurd (true≢false e); at_octet = λ e. absurd (true≢false e); at_depth = λ e. refl }

@@ -11,7 +11,6 @@ use Rattle.meaning.specs.declared.Controls.{Controls}
 use Rattle.meaning.specs.declared.Date.{Date}
 use Rattle.meaning.specs.declared.Moment.{Moment}
 use Rattle.meaning.specs.declared.Quantity.{Quantity}
-use Rattle.meaning.specs.declared.Reply.{Reply}
 use Rattle.meaning.specs.Refusals.{Opened, opened, refused, open_image, element_in, element_for, element_place_in, element_place_reply}
 use Rattle.meaning.specs.Causes.{why_none}
 use Rattle.meaning.specs.Calendar.{Found, found, missing, calendar, tier_in, tier_reply, seasoned_in, seasoned_reply}
@@ -25,6 +24,7 @@ use Rattle.demands.proofs.OnlyImages.{range_image_only, octets_image_only, numbe
 use Rattle.demands.proofs.OnlyReads.{Counted, check_only, layout_only, table_only, table_part_only, read_only, read_part_only, element_only, element_part_only, number_only}
 use Rattle.demands.proofs.OnlyWeekdays.{weekday_only}
 use Rattle.demands.proofs.OnlyWrites.{range_only, octets_only, number_write_only}
+use Rattle.meaning.specs.Values.{Reply}
 
 -- OURS
 counted : Counted ours

@@ -12,9 +12,6 @@ use Rattle.meaning.specs.declared.Date.{Date}
 use Rattle.meaning.specs.declared.Moment.{Moment}
 use Rattle.meaning.specs.declared.Quantity.{Quantity}
 use Rattle.meaning.specs.declared.Refusal.{Refusal}
-use Rattle.meaning.specs.declared.Reply.{Reply}
-use Rattle.meaning.specs.declared.Verdict.{Verdict}
-use Rattle.meaning.specs.declared.Verdict.TheVariants as verdict
 use Rattle.meaning.specs.Calendar.{row_width}
 use Rattle.meaning.specs.Layout.{data_order}
 use Rattle.meaning.specs.Questions as ask
@@ -26,6 +23,10 @@ use Rattle.demands.specs.Demand1.{of_calendar, of_moment, refusals_of}
 use Rattle.demands.specs.Demands.{Demands}
 use Rattle.demands.specs.Replies.{Replies, outcome_by}
 use Rattle.demands.proofs.OnlyFirst.{reply_refused, verdict_same, refusal_same}
+use Rattle.std.specs.Prelude.{Ok, Err}
+use Rattle.meaning.specs.Values.{Verdict, Reply}
+use Rattle.meaning.specs.declared.Answer.{Answer}
+use Rattle.meaning.specs.Values.{passed}
 
 -- THE MATRIX
 -- fifteen rows of twenty-two with the same cells
@@ -46,9 +47,9 @@ shown_same c t a b h k row column = go (lt_or_ge row c.seasons) (lt_or_ge column
 
 -- THE TIER: one of these
 pub data TierKind (x : Reply) : Type 0 where
-  refused : (r : Refusal) → x ≡ Reply.Refused r → TierKind x
-  told : (t : ℕ) → x ≡ Reply.Tier t → TierKind x
-  none : x ≡ Reply.NoneYet → TierKind x
+  refused : (r : Refusal) → x ≡ Err r → TierKind x
+  told : (t : ℕ) → x ≡ Ok (Answer.Tier t) → TierKind x
+  none : x ≡ Ok Answer.NoneYet → TierKind x
 
 tier_same : (o : ℕ) (t u : List ℕ) (had : Verdict) (w : Moment) (q : Quantity) (x y : Reply) → TierSays o t u had w q x → TierSays o t u had w q y
     → refusal_in x ≡ refusal_in y → TierKind y → x ≡ y
@@ -59,9 +60,9 @@ tier_same o t u had w q x y h k e (none f) = h.none.1 (k.none.0 f) ∙ sym f
 
 -- WHETHER A SEASON RECORD STANDS: one of these
 pub data SeasonedKind (x : Reply) : Type 0 where
-  barred : (r : Refusal) → x ≡ Reply.Refused r → SeasonedKind x
-  stands : x ≡ Reply.Yes → SeasonedKind x
-  before : x ≡ Reply.No → SeasonedKind x
+  barred : (r : Refusal) → x ≡ Err r → SeasonedKind x
+  stands : x ≡ Ok Answer.Yes → SeasonedKind x
+  before : x ≡ Ok Answer.No → SeasonedKind x
 
 seasoned_same : (o : ℕ) (t u : List ℕ) (had : Verdict) (w : Date) (x y : Reply) → SeasonedSays o t u had w x → SeasonedSays o t u had w y
     → refusal_in x ≡ refusal_in y → SeasonedKind y → x ≡ y
@@ -84,18 +85,18 @@ module _ (R S : Replies) (r : Demands R) (s : Demands S) (d img : List ℕ) (lay
   matrix_only = go (S.matrix_verdict d img) refl
     where
       go : (v : Verdict) → S.matrix_verdict d img ≡ v → R.matrix d img ≡ S.matrix d img
-      go verdict.Passed e =
+      go passed e =
           let k = (s.second d img).calendar.matrix in
           fifteen_same _ _ matrix_says.fifteen k.fifteen (shown_same _ _ _ _ (matrix_says.shown e) (k.shown e))
-      go (verdict.Refused x) e = (r.first d img).octets.matrix x (had_only ∙ e) ∙ sym ((s.first d img).octets.matrix x e)
+      go (Err x) e = (r.first d img).octets.matrix x (had_only ∙ e) ∙ sym ((s.first d img).octets.matrix x e)
 
   -- and cells lent hold it, or stay
   pub cells_only : (lent : List (List ℕ)) → R.matrix_cells d img lent ≡ S.matrix_cells d img lent
   cells_only lent = go (S.matrix_verdict d img) refl
     where
       go : (v : Verdict) → S.matrix_verdict d img ≡ v → R.matrix_cells d img lent ≡ S.matrix_cells d img lent
-      go verdict.Passed e = matrix_says.written e lent ∙ matrix_only ∙ sym ((s.second d img).calendar.matrix.written e lent)
-      go (verdict.Refused x) e = (r.first d img).octets.matrix_cells x (had_only ∙ e) lent ∙ sym ((s.first d img).octets.matrix_cells x e lent)
+      go passed e = matrix_says.written e lent ∙ matrix_only ∙ sym ((s.second d img).calendar.matrix.written e lent)
+      go (Err x) e = (r.first d img).octets.matrix_cells x (had_only ∙ e) lent ∙ sym ((s.first d img).octets.matrix_cells x e lent)
 
   pub tier_only : (w : Moment) (q : Quantity) → TierKind (S.tier d img w q) → R.tier d img w q ≡ S.tier d img w q
   unfolding outcome_by refusals_of of_calendar of_moment

@@ -6,13 +6,7 @@ use mathlib.Core.Bool.{Bool, true, false}
 use mathlib.Core.List.{List, ◌∷◌}
 use mathlib.Core.Option.{Option, some, none}
 use Prim.Native.Nat.{ℕ}
-use Rattle.meaning.specs.declared.Place.{Place}
-use Rattle.meaning.specs.declared.Place.TheVariants as place
 use Rattle.meaning.specs.declared.Refusal.{Refusal}
-use Rattle.meaning.specs.declared.Reply.{Reply}
-use Rattle.meaning.specs.declared.Reply.TheVariants as reply
-use Rattle.meaning.specs.declared.Verdict.{Verdict}
-use Rattle.meaning.specs.declared.Verdict.TheVariants as verdict
 use Rattle.meaning.specs.Description.{check_reply}
 use Rattle.meaning.specs.Passed.{OfRules}
 use Rattle.meaning.specs.Questions.{Question, refusal_in}
@@ -25,35 +19,30 @@ use Rattle.demands.specs.Replies.{Replies, outcome_by}
 use Rattle.demands.specs.Rules.{CheckSays}
 use Rattle.demands.proofs.Rules.{check_in_words}
 use Rattle.meaning.proofs.Either.{clash}
+use Rattle.std.specs.Prelude.{Err, Ok}
+use Rattle.meaning.specs.Values.{Verdict, Place, Reply, passed}
+use Rattle.meaning.specs.Values.{passed}
 
 -- THE REFUSAL IN A REPLY, whichever kind of reply it is
-pub reply_refused : (x : Reply) (r : Refusal) → refusal_in x ≡ some r → x ≡ Reply.Refused r
+pub reply_refused : (x : Reply) (r : Refusal) → refusal_in x ≡ some r → x ≡ Err r
 unfolding refusal_in
-reply_refused (reply.Refused s) r e = cc
-reply_refused reply.Passed r e = clash (cc)
-reply_refused (reply.Total n) r e = clash (cc)
-reply_refused (reply.At p n) r e = clash (cc)
-reply_refused (reply.Number x) r e = clash (cc)
-reply_refused (reply.Tier t) r e = clash (cc)
-reply_refused reply.NoneYet r e = clash (cc)
-reply_refused reply.Yes r e = clash (cc)
-reply_refused reply.No r e = clash (cc)
-reply_refused (reply.Weekday w) r e = clash (cc)
+reply_refused (Err s) r e = cc
+reply_refused (Ok a) r e = clash (cc)
 
-place_refused : (x : Place) (r : Refusal) → refusal_in (place_reply x) ≡ some r → x ≡ Place.Refused r
+place_refused : (x : Place) (r : Refusal) → refusal_in (place_reply x) ≡ some r → x ≡ Err r
 unfolding refusal_in place_reply
-place_refused (place.Refused s) r e = cc
-place_refused (place.At p n) r e = clash (cc)
+place_refused (Err s) r e = cc
+place_refused (Ok w) r e = clash (cc)
 
-pub verdict_refused : (x : Verdict) (r : Refusal) → refusal_in (verdict_reply x) ≡ some r → x ≡ Verdict.Refused r
+pub verdict_refused : (x : Verdict) (r : Refusal) → refusal_in (verdict_reply x) ≡ some r → x ≡ Err r
 unfolding refusal_in verdict_reply
-verdict_refused (verdict.Refused s) r e = cc
-verdict_refused verdict.Passed r e = clash (cc)
+verdict_refused (Err s) r e = cc
+verdict_refused passed r e = clash (cc)
 
-pub verdict_passed : (x : Verdict) → refusal_in (verdict_reply x) ≡ none → x ≡ Verdict.Passed
+pub verdict_passed : (x : Verdict) → refusal_in (verdict_reply x) ≡ none → x ≡ passed
 unfolding refusal_in verdict_reply
-verdict_passed (verdict.Refused s) e = clash (cc)
-verdict_passed verdict.Passed e = refl
+verdict_passed (Err s) e = clash (cc)
+verdict_passed passed e = refl
 
 -- two with the same refusal
 by_refusal : {A : Type 0} (refusal : A → Option Refusal) (refused : Refusal → A) → ((x : A) (r : Refusal) → refusal x ≡ some r → x ≡ refused r)
@@ -65,14 +54,14 @@ by_refusal refusal refused are x y e h = go (refusal x) refl
     go (some r) f = are x r f ∙ sym (are y r (sym e ∙ f))
 
 pub reply_same : (x y : Reply) → refusal_in x ≡ refusal_in y → (refusal_in x ≡ none → x ≡ y) → x ≡ y
-reply_same = by_refusal refusal_in (λ r. Reply.Refused r) reply_refused
+reply_same = by_refusal refusal_in (λ r. Err r) reply_refused
 
 pub place_same : (x y : Place) → refusal_in (place_reply x) ≡ refusal_in (place_reply y) → (refusal_in (place_reply x) ≡ none → x ≡ y) → x ≡ y
-place_same = by_refusal (λ x. refusal_in (place_reply x)) (λ r. Place.Refused r) place_refused
+place_same = by_refusal (λ x. refusal_in (place_reply x)) (λ r. Err r) place_refused
 
 pub verdict_same : (x y : Verdict) → refusal_in (verdict_reply x) ≡ refusal_in (verdict_reply y) → x ≡ y
 verdict_same x y e =
-    by_refusal (λ x. refusal_in (verdict_reply x)) (λ r. Verdict.Refused r) verdict_refused x y e (λ f. verdict_passed x f ∙ sym (verdict_passed y (sym e ∙ f)))
+    by_refusal (λ x. refusal_in (verdict_reply x)) (λ r. Err r) verdict_refused x y e (λ f. verdict_passed x f ∙ sym (verdict_passed y (sym e ∙ f)))
 
 -- LISTS OF REFUSALS
 -- none is given where none of them is
@@ -96,10 +85,10 @@ refusal_same R S r s d img q e = ((r.first d img).asked q).first ∙ ap first_of
 pub check_decided : (d : List ℕ) (v : Verdict) → CheckSays d v → v ≡ check_reply d
 check_decided d v says = go (check_reply d) refl
   where
-    rules : (r : Refusal) → check_reply d ≡ Verdict.Refused r → OfRules r → v ≡ check_reply d
+    rules : (r : Refusal) → check_reply d ≡ Err r → OfRules r → v ≡ check_reply d
     rules r e (inl f) = says.length.1 ((check_in_words d).length.0 (cc)) ∙ (cc)
     rules r e (inr f) = (says.broken r.number r.item f.0).1 (((check_in_words d).broken r.number r.item f.0).0 (cc)) ∙ (cc)
 
     go : (u : Verdict) → check_reply d ≡ u → v ≡ check_reply d
-    go verdict.Passed e = says.passed.1 ((check_in_words d).passed.0 e) ∙ sym e
-    go (verdict.Refused r) e = rules r e ((check_says d).nothing_else r e)
+    go passed e = says.passed.1 ((check_in_words d).passed.0 e) ∙ sym e
+    go (Err r) e = rules r e ((check_says d).nothing_else r e)

@@ -7,8 +7,6 @@ use native.Mathlib.Omega.{arith}
 use Rattle.offsets.specs.declared.TableOffset.{TableOffset}
 use Rattle.meaning.specs.Basics.{bits, part, number_in}
 use Rattle.meaning.specs.declared.ElementName.{ElementName}
-use Rattle.meaning.specs.declared.Verdict.{Verdict}
-use Rattle.meaning.specs.declared.Verdict.TheVariants as verdict
 use Rattle.meaning.specs.Layout.{data_order, number_at}
 use Rattle.meaning.proofs.Splices.{part_at, part_long}
 use Rattle.demands.specs.Demand2.{OthersSame, Unchanged}
@@ -18,7 +16,10 @@ use Rattle.demands.specs.Replies.{Replies, octets_at}
 use Rattle.demands.proofs.OnlyOctets.{octets_at_lem, writing_only}
 use Rattle.demands.proofs.OnlyOrder.{order_kept}
 use Rattle.demands.proofs.OnlyWrites.{later_same, range_only, octets_only, number_write_only, range_written, octets_written}
-use Rattle.meaning.specs.Refusals.{place_start}
+use Rattle.meaning.specs.Refusals.{place_start, place_length}
+use Rattle.meaning.specs.Values.{Verdict, passed}
+use Rattle.std.specs.Prelude.{Err}
+use Rattle.meaning.specs.Values.{passed}
 
 -- A NUMBER WRITTEN, by one family: its octets, in the DATA_ORDER of before
 record NumberPut (img : List ℕ) (x p n : ℕ) (later : List ℕ) : Type 0 where
@@ -26,7 +27,7 @@ record NumberPut (img : List ℕ) (x p n : ℕ) (later : List ℕ) : Type 0 wher
   pub octets : Octets (part later p n)
   pub makes : number_in (data_order img) (part later p n) ≡ x
 
-number_put : (R : Replies) → Demands R → (d img : List ℕ) (q : ElementName) (x p n : ℕ) → R.write_number d img q x ≡ Verdict.Passed → R.element_place d img q ≡ octets_at p n
+number_put : (R : Replies) → Demands R → (d img : List ℕ) (q : ElementName) (x p n : ℕ) → R.write_number d img q x ≡ passed → R.element_place d img q ≡ octets_at p n
     → NumberPut img x p n (R.number_image d img q x)
 unfolding number_at data_order
 number_put R r d img q x p n w at =
@@ -34,7 +35,7 @@ number_put R r d img q x p n w at =
     let law = (r.second d img).number q x in
     let good = law.accepted.0 w in
     let start : good.1.start ≡ p = ap place_start (sym good.1.exists ∙ at) in
-    let size : good.1.size ≡ n = cc good.1.exists in
+    let size : good.1.size ≡ n = ap place_length (sym good.1.exists ∙ at) in
     let others = law.others p n w at in
     let first = others.same 0 (order_kept R r d img q p n at (λ y a b. good.1.free y (omega arith) (omega arith))) in
     let read = (r.second d later).reads.number q p n (((r.third d img).writes_stay_put.number q x).elements q ∙ at) good.0 in
@@ -51,12 +52,12 @@ number_same img x p n a b h k =
     later_same img a b p n h.others k.others (writing_only (data_order img) (part a p n) (part b p n) long h.octets k.octets (h.makes ∙ sym k.makes))
 
 -- WHATEVER IS WRITTEN: refused, nothing changes
-image_same : (img a b : List ℕ) (u v : Verdict) → u ≡ v → Unchanged u img a → Unchanged v img b → (u ≡ Verdict.Passed → v ≡ Verdict.Passed → a ≡ b) → a ≡ b
+image_same : (img a b : List ℕ) (u v : Verdict) → u ≡ v → Unchanged u img a → Unchanged v img b → (u ≡ passed → v ≡ passed → a ≡ b) → a ≡ b
 image_same img a b u v e h k same = go u refl
   where
     go : (w : Verdict) → u ≡ w → a ≡ b
-    go verdict.Passed f = same f (sym e ∙ f)
-    go (verdict.Refused r) f = h r f ∙ sym (k r (sym e ∙ f))
+    go passed f = same f (sym e ∙ f)
+    go (Err r) f = h r f ∙ sym (k r (sym e ∙ f))
 
 module _ (R S : Replies) (r : Demands R) (s : Demands S) (d img : List ℕ)
     (layout : R.layout d img ≡ S.layout d img)

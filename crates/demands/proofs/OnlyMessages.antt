@@ -4,8 +4,6 @@ use mathlib.Core.Path.{◌≡◌, refl, sym, ◌∙◌, ap, subst}
 use mathlib.Core.List.{List, map}
 use mathlib.Core.Option.{Option, some, none}
 use native.Mathlib.Omega.{arith}
-use Rattle.meaning.specs.declared.Place.{Place}
-use Rattle.meaning.specs.declared.Place.TheVariants as place
 use Rattle.meaning.specs.Messages.{Request, full_read, offset_read, full_write, offset_write, RequestRead, is_request, not_request, MeterReply, holds}
 use Rattle.meaning.specs.Refusals.{place_part, table_part_reply, read_range_part}
 use Rattle.meaning.proofs.Either.{clash}
@@ -20,6 +18,8 @@ use Rattle.demands.proofs.Forms.{no_octets, request_kind, reply_kind}
 use Rattle.demands.proofs.OnlyOctets.{octet_at, octets_at_lem}
 use Rattle.demands.proofs.Serving.{first_before}
 use Rattle.demands.proofs.Undoing.{written_same}
+use Rattle.meaning.specs.Values.{Place}
+use Rattle.std.specs.Prelude.{Ok, Err}
 
 -- A REQUEST READ, and a reply
 read_same : (M N : Messages) (xs : List ℕ) → ReadsRequest M xs → ReadsRequest N xs → M.read_request xs ≡ N.read_request xs
@@ -109,8 +109,8 @@ module _ (R S : Replies) (same : Same R S) (d img : List ℕ) where
 -- OCTETS ANSWERED from an image of octets
 part_octets : (img : List ℕ) → Octets img → (x : Place) → Octets (place_part img x)
 unfolding place_part
-part_octets img h (place.At p n) = octets_at_lem _ (λ i l. rw (part_at img p.0 n i (omega (arith, part_long img p.0 n))) (octet_at img h (p.0 + i)))
-part_octets img h (place.Refused r) = no_octets
+part_octets img h (Ok e) = octets_at_lem _ (λ i l. rw (part_at img e.start.0 e.length i (omega (arith, part_long img e.start.0 e.length))) (octet_at img h (e.start.0 + i)))
+part_octets img h (Err r) = no_octets
 
 good_octets : (d img : List ℕ) → Octets img → (q : Request) (a : MeterReply) (x : List ℕ) → Good ours d img q a x → Octets (reply_data a)
 unfolding table_part_reply read_range_part

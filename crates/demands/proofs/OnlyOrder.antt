@@ -11,7 +11,6 @@ use native.Mathlib.Omega.{arith}
 use Rattle.meaning.specs.Basics.{◌≤?◌, ◌=?◌}
 use Rattle.meaning.specs.declared.ElementName.{ElementName}
 use Rattle.meaning.specs.Causes.{subscripts_of}
-use Rattle.meaning.specs.declared.Reply.{Reply}
 use Rattle.meaning.specs.Description.{item_count, fields_at, is_table, is_table_named, is_table00, is_dimension, is_data_order}
 use Rattle.meaning.specs.Layout.{leaf_octets, value}
 use Rattle.meaning.specs.Passed.{PassedLaws}
@@ -30,6 +29,8 @@ use Rattle.demands.proofs.OnlyNames.{Element, Array, existing, arrays_are, names
 use Rattle.demands.proofs.OnlyPlaces.{told_none, passed_is, element_told, number_told, Is, start, set_out}
 use Rattle.demands.proofs.OnlyTiles.{Compared, earlier, same, later}
 use Rattle.meaning.specs.Refusals.{place_start}
+use Rattle.std.specs.Prelude.{Ok}
+use Rattle.meaning.specs.declared.Answer.{Answer}
 
 -- THE LEAST WAY
 way_alone : (ks : List ℕ) (i : ℕ) → way ks [] i ≡ i ∷ []
@@ -80,7 +81,7 @@ begins d p =
 -- THE IMAGE'S FIRST OCTET
 module _ (R : Replies) (r : Demands R) (d img : List ℕ) where
   -- an element that there is stands after it, or is item 1's, a dimension
-  first_octet : (laid : R.layout d img ≡ Reply.Total (octets_in d img)) (q : ElementName) → Is d img q → (0 < start R r d img q) ⊎ (is_dimension (fields_at d q.item) ≡ true)
+  first_octet : (laid : R.layout d img ≡ Ok (Answer.Total (octets_in d img))) (q : ElementName) → Is d img q → (0 < start R r d img q) ⊎ (is_dimension (fields_at d q.item) ≡ true)
   unfolding refusal_in
   first_octet laid q is =
       let b = begins d (passed_laws d (sym (check_decided d (R.check d) (r.first d img).rules) ∙ (passed_is R r d img (rw laid)).passes)) in

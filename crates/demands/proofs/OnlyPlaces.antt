@@ -11,10 +11,7 @@ use borrow.Author.Tests.{ltb-false, not-false}
 use native.Mathlib.Omega.{arith}
 use Rattle.meaning.specs.Basics.{◌<?◌}
 use Rattle.meaning.specs.declared.ElementName.{ElementName}
-use Rattle.meaning.specs.declared.Place.{Place}
-use Rattle.meaning.specs.declared.Place.TheVariants as place
 use Rattle.meaning.specs.declared.Refusal.{Refusal}
-use Rattle.meaning.specs.declared.Reply.{Reply}
 use Rattle.meaning.specs.Description.{item_count, fields_at, is_uint}
 use Rattle.meaning.specs.Numbers.{image_too_long}
 use Rattle.meaning.specs.Questions as ask
@@ -30,12 +27,16 @@ use Rattle.demands.proofs.OnlyFirst.{verdict_passed, first_none, given_none}
 use Rattle.demands.proofs.OnlyNames.{existing}
 use Rattle.demands.proofs.OnlyTiles.{SetOut, Tiled}
 use Rattle.meaning.proofs.Either.{clash}
+use Rattle.std.specs.Prelude.{Ok, Err}
+use Rattle.meaning.specs.Values.{Place}
+use Rattle.meaning.specs.declared.Answer.{Answer}
+use Rattle.meaning.specs.Values.{at}
 
 -- a place that isn't refused
 pub told : (x : Place) → refusal_in (place_reply x) ≡ none → x ≡ octets_at (place_start x) (place_length x)
 unfolding refusal_in place_reply
-told (place.At p n) e = refl
-told (place.Refused r) e = clash (cc)
+told (Ok w) e = refl
+told (Err r) e = clash (cc)
 
 pub told_none : (x : Place) (p n : ℕ) → x ≡ octets_at p n → refusal_in (place_reply x) ≡ none
 unfolding refusal_in place_reply
@@ -64,26 +65,26 @@ module _ (R : Replies) (r : Demands R) (d img : List ℕ) where
       record { passes = verdict_passed (R.check d) f.0; allowed = ltb-false 65535 (length img) (given_none (65535 <? length img) image_too_long g.0) }
 
   -- and it lays out, up to the end of the last piece
-  pub total_is : refusal_in (R.layout d img) ≡ none → R.layout d img ≡ Reply.Total (octets_in d img)
+  pub total_is : refusal_in (R.layout d img) ≡ none → R.layout d img ≡ Ok (Answer.Total (octets_in d img))
   unfolding refusal_in
   total_is e = go ((r.third d img).lays_or_short (passed_is e))
     where
-      go : LaysOrShort R d img → R.layout d img ≡ Reply.Total (octets_in d img)
-      go (inl h) = h.reply ∙ ap (λ n. Reply.Total n) (sym (((r.third d img).total_exactly (passed_is e) h.total).0 h.reply).ends)
+      go : LaysOrShort R d img → R.layout d img ≡ Ok (Answer.Total (octets_in d img))
+      go (inl h) = h.reply ∙ ap (λ n. Ok (Answer.Total n)) (sym (((r.third d img).total_exactly (passed_is e) h.total).0 h.reply).ends)
       go (inr h) = clash (cc)
 
   -- of what may be refused where the image doesn't lay out: where it isn't, the image lays out
   not_refused : (q : Question) (rest : List (Option Refusal)) → refusals_of R q d img ≡ refusal_in (R.layout d img) ∷ rest → refusal_in (outcome_by R q d img).reply ≡ none
-      → R.layout d img ≡ Reply.Total (octets_in d img)
+      → R.layout d img ≡ Ok (Answer.Total (octets_in d img))
   not_refused q rest are e = total_is (first_none _ rest (ap first_of (sym are) ∙ sym ((r.first d img).asked q).first ∙ e)).0
 
   -- so what is told is of an image that lays out, and of a name that there is
-  pub table_told : (m k : ℕ) → refusal_in (place_reply (R.table_place d img m k)) ≡ none → R.layout d img ≡ Reply.Total (octets_in d img)
+  pub table_told : (m k : ℕ) → refusal_in (place_reply (R.table_place d img m k)) ≡ none → R.layout d img ≡ Ok (Answer.Total (octets_in d img))
   unfolding outcome_by refusals_of ten
   table_told m k e = not_refused (ask.table_place m k) _ refl e
 
   pub record Told (Named : Type 0) : Type 0 where
-    pub layout : R.layout d img ≡ Reply.Total (octets_in d img)
+    pub layout : R.layout d img ≡ Ok (Answer.Total (octets_in d img))
     pub named : Named
 
   pub element_told : (q : ElementName) → refusal_in (place_reply (R.element_place d img q)) ≡ none → Told (Is d img q)
@@ -103,7 +104,7 @@ module _ (R : Replies) (r : Demands R) (d img : List ℕ) where
   abbrev pub start : ElementName → ℕ
   start q = place_start (R.element_place d img q)
 
-  module _ (laid : R.layout d img ≡ Reply.Total (octets_in d img)) where
+  module _ (laid : R.layout d img ≡ Ok (Answer.Total (octets_in d img))) where
     pub stands_at : (q : ElementName) → Is d img q → R.element_place d img q ≡ octets_at (start q) (size d img q)
     stands_at q h = let p = ((r.third d img).elements_stand _ laid).there q h in rw p.1
 
@@ -123,7 +124,7 @@ module _ (R : Replies) (r : Demands R) (d img : List ℕ) where
               let is = (element_told q (told_none _ _ _ h.reply)).named in
               let at = stands_at q is in
               let first : h.start ≡ start q = cc (ap place_start h.reply) in
-              let long : h.size ≡ size d img q = cc h.reply in
+              let long : h.size ≡ size d img q = ap place_length (sym h.reply ∙ at) in
               record { name = q; is = is; from = omega (arith, h.from); to = omega (arith, h.to) };
           once = λ q s h k e. ap place_start (counted q s e (existing d _ q h).few (existing d _ s k).few);
           long = λ q s h k e. ap (length_in d (numbers_in d img)) e.item;

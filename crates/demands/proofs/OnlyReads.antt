@@ -7,8 +7,6 @@ use borrow.Author.Tests.{ltb-false}
 use Rattle.offsets.specs.declared.TableOffset.{TableOffset}
 use Rattle.meaning.specs.Basics.{◌<?◌}
 use Rattle.meaning.specs.declared.ElementName.{ElementName}
-use Rattle.meaning.specs.declared.Place.{Place}
-use Rattle.meaning.specs.declared.Place.TheVariants as place
 use Rattle.meaning.specs.Numbers.{outside_table}
 use Rattle.meaning.specs.Questions as ask
 use Rattle.meaning.specs.Questions.{refusal_in}
@@ -22,6 +20,9 @@ use Rattle.demands.proofs.OnlyFirst.{reply_same, place_same, first_none, given_n
 use Rattle.demands.proofs.OnlyNames.{existing, names_compared}
 use Rattle.demands.proofs.OnlyPlaces.{told, total_is, table_told, element_told, number_told, Is, start, size, Before, stands_at, set_out, tiled}
 use Rattle.demands.proofs.OnlyTiles.{stands_there}
+use Rattle.meaning.specs.Values.{Place}
+use Rattle.std.specs.Prelude.{Ok, Err}
+use Rattle.meaning.specs.Values.{at}
 
 -- names are read up to their counts
 abbrev pub Counted : Replies → Type 0
@@ -51,9 +52,9 @@ module _ (R S : Replies) (r : Demands R) (s : Demands S) where
     table_part_only m k = go (R.table_place d img m k) refl
       where
         go : (x : Place) → R.table_place d img m k ≡ x → R.table_part d img m k ≡ S.table_part d img m k
-        go (place.At p n) e =
-            (r.second d img).reads.table m k _ n e ∙ sym ((s.second d img).reads.table m k _ n (sym (table_only m k) ∙ e))
-        go (place.Refused x) e =
+        go (Ok w) e =
+            (r.second d img).reads.table m k _ w.length e ∙ sym ((s.second d img).reads.table m k _ w.length (sym (table_only m k) ∙ e))
+        go (Err x) e =
             (r.first d img).octets.table_part m k x e ∙ sym ((s.first d img).octets.table_part m k x (sym (table_only m k) ∙ e))
 
     -- a range of a table: the table is told, and the range lies in it
@@ -74,9 +75,9 @@ module _ (R S : Replies) (r : Demands R) (s : Demands S) where
     read_part_only m k o n = go (R.read_range d img m k o n) refl
       where
         go : (x : Place) → R.read_range d img m k o n ≡ x → R.range_part d img m k o n ≡ S.range_part d img m k o n
-        go (place.At p l) e =
-            (r.second d img).reads.range_part m k o n _ l e ∙ sym ((s.second d img).reads.range_part m k o n _ l (sym (read_only m k o n) ∙ e))
-        go (place.Refused x) e =
+        go (Ok w) e =
+            (r.second d img).reads.range_part m k o n _ w.length e ∙ sym ((s.second d img).reads.range_part m k o n _ w.length (sym (read_only m k o n) ∙ e))
+        go (Err x) e =
             (r.first d img).octets.range_part m k o n x e ∙ sym ((s.first d img).octets.range_part m k o n x (sym (read_only m k o n) ∙ e))
 
     module _ (counted : Counted S) where
@@ -97,9 +98,9 @@ module _ (R S : Replies) (r : Demands R) (s : Demands S) where
       element_part_only q = go (R.element_place d img q) refl
         where
           go : (x : Place) → R.element_place d img q ≡ x → R.element_part d img q ≡ S.element_part d img q
-          go (place.At p n) e =
-              (r.second d img).reads.element q _ n e ∙ sym ((s.second d img).reads.element q _ n (sym (element_only q) ∙ e))
-          go (place.Refused x) e =
+          go (Ok w) e =
+              (r.second d img).reads.element q _ w.length e ∙ sym ((s.second d img).reads.element q _ w.length (sym (element_only q) ∙ e))
+          go (Err x) e =
               (r.first d img).octets.element_part q x e ∙ sym ((s.first d img).octets.element_part q x (sym (element_only q) ∙ e))
 
       pub number_only : (q : ElementName) → R.element_number d img q ≡ S.element_number d img q

@@ -7,7 +7,6 @@ use mathlib.Core.Option.{none}
 use native.Mathlib.Omega.{arith}
 use borrow.Author.Tests.{not-false}
 use Rattle.meaning.specs.declared.Date.{Date}
-use Rattle.meaning.specs.declared.Reply.{Reply}
 use Rattle.meaning.specs.Calendar.{weekday_of}
 use Rattle.meaning.specs.Examples.{date}
 use Rattle.meaning.specs.Questions as ask
@@ -20,6 +19,9 @@ use Rattle.demands.specs.Demands.{Demands}
 use Rattle.demands.specs.Replies.{Replies, outcome_by}
 use Rattle.demands.proofs.OnlyFirst.{reply_same, refusal_same, first_none, given_none}
 use Rattle.demands.proofs.Weekdays.{dated}
+use Rattle.std.specs.Prelude.{Ok}
+use Rattle.meaning.specs.Values.{Reply}
+use Rattle.meaning.specs.declared.Answer.{Answer}
 
 -- A REAL DATE
 module _ (weekday : Date → Reply) (says : WeekdaysSay weekday) where
@@ -29,16 +31,16 @@ module _ (weekday : Date → Reply) (says : WeekdaysSay weekday) where
   first_day = says.each (date 1990 1 1) refl
 
   -- from day to day, by its number
-  by_number : (n : ℕ) → n < 36525 → (t : Date) → IsReal t → number_of t ≡ n → weekday t ≡ Reply.Weekday ((first_day.day + n) % 7)
+  by_number : (n : ℕ) → n < 36525 → (t : Date) → IsReal t → number_of t ≡ n → weekday t ≡ Ok (Answer.Weekday ((first_day.day + n) % 7))
   unfolding dated
   by_number zero l t r e =
       let same : t ≡ date 1990 1 1 = days.one t (date 1990 1 1) r refl e in
-      rw same (first_day.is ∙ ap Reply.Weekday (omega (arith, first_day.below)))
+      rw same (first_day.is ∙ ap (λ k. Ok (Answer.Weekday k)) (omega (arith, first_day.below)))
   by_number (suc n) l t r e =
       let p = days.each n (omega arith) in
       let after = days.next p.date p.real (λ f. omega (arith, p.number, ap number_of f)) in
       let same : t ≡ next p.date = days.one t (next p.date) r after.real (omega (arith, e, after.number, p.number)) in
-      rw same (says.next p.date p.real after.real _ (by_number n (omega arith) p.date p.real p.number) ∙ ap Reply.Weekday (omega arith))
+      rw same (says.next p.date p.real after.real _ (by_number n (omega arith) p.date p.real p.number) ∙ ap (λ k. Ok (Answer.Weekday k)) (omega arith))
 
   -- 1 January 2000 is number 3,652, so 1 January 1990 was a Monday
   first_monday : first_day.day ≡ 1
@@ -47,9 +49,9 @@ module _ (weekday : Date → Reply) (says : WeekdaysSay weekday) where
       let told = by_number 3652 (omega arith) (date 2000 1 1) refl refl in
       let same : (first_day.day + 3652) % 7 ≡ 6 = cc (told, says.saturday) in omega (arith, first_day.below)
 
-  weekday_is : (t : Date) → IsReal t → weekday t ≡ Reply.Weekday (weekday_of (number_of t))
+  weekday_is : (t : Date) → IsReal t → weekday t ≡ Ok (Answer.Weekday (weekday_of (number_of t)))
   unfolding weekday_of
-  weekday_is t r = by_number (number_of t) (days.below t r) t r refl ∙ ap Reply.Weekday (omega (arith, first_monday))
+  weekday_is t r = by_number (number_of t) (days.below t r) t r refl ∙ ap (λ k. Ok (Answer.Weekday k)) (omega (arith, first_monday))
 
 -- ANY DATE
 pub weekday_only : (R S : Replies) → Demands R → Demands S → (t : Date) → R.weekday t ≡ S.weekday t

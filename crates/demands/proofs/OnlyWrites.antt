@@ -12,7 +12,6 @@ use native.Mathlib.Omega.{arith}
 use Rattle.offsets.specs.declared.TableOffset.{TableOffset}
 use Rattle.meaning.specs.Basics.{part}
 use Rattle.meaning.specs.declared.ElementName.{ElementName}
-use Rattle.meaning.specs.declared.Verdict.{Verdict}
 use Rattle.meaning.specs.Description.{item_count, fields_at, is_dimension}
 use Rattle.meaning.specs.Questions as ask
 use Rattle.meaning.proofs.Splices.{part_at, part_part}
@@ -21,6 +20,8 @@ use Rattle.demands.specs.Demand2.{OthersSame}
 use Rattle.demands.specs.Demands.{Demands}
 use Rattle.demands.specs.Replies.{Replies, outcome_by, octets_at, alone}
 use Rattle.demands.proofs.OnlyFirst.{verdict_same, refusal_same}
+use Rattle.meaning.specs.Values.{passed}
+use Rattle.meaning.specs.Refusals.{place_length}
 
 -- the same tests, the same answer
 some_same : (n : ℕ) (f g : ℕ → Bool) → ((i : ℕ) → f i ≡ g i) → some_before n f ≡ some_before n g
@@ -69,18 +70,18 @@ module _ (R S : Replies) (r : Demands R) (s : Demands S) (d img : List ℕ)
 -- THE OCTETS WRITTEN, of one family
 module _ (R : Replies) (r : Demands R) (d img : List ℕ) where
   -- in a range
-  pub range_written : (m k : ℕ) (o : TableOffset) (new : List ℕ) (p n : ℕ) → R.write_range d img m k o new ≡ Verdict.Passed → R.table_place d img m k ≡ octets_at p n
+  pub range_written : (m k : ℕ) (o : TableOffset) (new : List ℕ) (p n : ℕ) → R.write_range d img m k o new ≡ passed → R.table_place d img m k ≡ octets_at p n
       → part (R.range_image d img m k o new) (p + o.0) (length new) ≡ new
   range_written m k o new p n w at =
       let later = R.range_image d img m k o new in
       let told = (r.second d later).reads.table m k p n (((r.third d img).writes_stay_put.range m k o new).tables m k ∙ at) in
       let good = ((r.second d img).range m k o new).accepted.0 w in
-      let long : good.size ≡ n = cc good.exists in
+      let long : good.size ≡ n = ap place_length (sym good.exists ∙ at) in
       sym (part_part later p n o.0 (length new) (omega (arith, good.fits))) ∙ ap (λ c. part c o.0 (length new)) (sym told)
       ∙ ((r.second d img).range m k o new).read_back w
 
   -- as an element's octets
-  pub octets_written : (q : ElementName) (new : List ℕ) (p n : ℕ) → R.write_octets d img q new ≡ Verdict.Passed → R.element_place d img q ≡ octets_at p n
+  pub octets_written : (q : ElementName) (new : List ℕ) (p n : ℕ) → R.write_octets d img q new ≡ passed → R.element_place d img q ≡ octets_at p n
       → part (R.octets_image d img q new) p n ≡ new
   octets_written q new p n w at =
       let later = R.octets_image d img q new in

@@ -9,7 +9,6 @@ use lib.ListN.{length}
 use borrow.Author.Tests.{ltb-true}
 use native.Mathlib.Decide.{dec_lt}
 use native.Mathlib.Omega.{arith}
-use Rattle.meaning.specs.declared.Reply.{Reply}
 use Rattle.meaning.specs.Layout.{Placed, short, stopped_at, lay_out}
 use Rattle.meaning.specs.Refusals.{told_by, stop_refusal, open_laid, layout_in, layout_reply}
 use Rattle.meaning.specs.Numbers.{image_short}
@@ -22,6 +21,10 @@ use Rattle.demands.specs.Walk.{FirstPast}
 use Rattle.demands.proofs.Laid.{laid_facts, short_first}
 use Rattle.demands.proofs.Rules.{check_in_words}
 use Rattle.meaning.proofs.Either.{clash}
+use Rattle.std.specs.Prelude.{Ok, Err}
+use Rattle.meaning.specs.Values.{Reply}
+use Rattle.meaning.specs.declared.Answer.{Answer}
+use Rattle.meaning.specs.declared.Refusal.{Refusal}
 
 -- a description is passed exactly when it meets the rules
 pub passed_exactly_lem : (d : List ℕ) → PassedExactly ours d
@@ -39,6 +42,9 @@ none_met_lem d img p =
     }
 
 -- THE FIRST PIECE PAST THE END
+abbrev refusing : Refusal → Reply
+refusing r = Err r
+
 module _ {d img : List ℕ} where
   -- none stands before it, so there is one
   not_later : {i j p q : ℕ} → FirstPast d img i p → FirstPast d img j q → i < j → ⊥
@@ -61,13 +67,13 @@ module _ {d img : List ℕ} where
 
 module _ {d img : List ℕ} (p : Passed ours d img) where
   -- a short image's reply
-  short_told : (es : List Placed) (i q : ℕ) → lay_out d img ≡ stopped_at es (short i q) → layout_reply d img ≡ Reply.Refused (image_short i q)
+  short_told : (es : List Placed) (i q : ℕ) → lay_out d img ≡ stopped_at es (short i q) → layout_reply d img ≡ Err (image_short i q)
   unfolding layout_reply layout_in open_laid stop_refusal
   short_told es i q e = rw (open_laid_lem d img p.passes p.allowed, e)
 
   -- it is short, where the first piece is past the end; or opens, where all end inside
-  ends : {A : Type 0} → ((i q : ℕ) → layout_reply d img ≡ Reply.Refused (image_short i q) → FirstPast d img i q → A)
-      → ((n : ℕ) → layout_reply d img ≡ Reply.Total n → AllInside d img n → A) → A
+  ends : {A : Type 0} → ((i q : ℕ) → layout_reply d img ≡ Err (image_short i q) → FirstPast d img i q → A)
+      → ((n : ℕ) → layout_reply d img ≡ Ok (Answer.Total n) → AllInside d img n → A) → A
   ends cut whole =
       opening d img (λ r e h. clash (cc p.passes))
       (λ q l h. absurd (omega (arith, ltb-true 65535 (length img) l, p.allowed)))
@@ -85,12 +91,12 @@ module _ {d img : List ℕ} (p : Passed ours d img) where
     λ f. ends (λ j r h g. let a = one_item f g in let b = one_octet f g in rw (a, b) h) (λ n h a. absurd (none_past f a)),
   )
     where
-      moved : (j r : ℕ) → FirstPast d img j r → Reply.Refused (image_short j r) ≡ Reply.Refused (image_short i q) → FirstPast d img i q
+      moved : (j r : ℕ) → FirstPast d img j r → refusing (image_short j r) ≡ refusing (image_short i q) → FirstPast d img i q
       moved j r f h = subst (λ k. FirstPast d img k q) (ap (λ x. (told_by x).refusal.item) h) (subst (FirstPast d img j) (ap (λ x. (told_by x).refusal.octet) h) f)
 
   -- laid out exactly where every piece ends inside the image
   pub total_exactly_lem : TotalExactly ours d img
   total_exactly_lem n = (
     (λ e. (laid_facts (total_opens d img n e).opens).inside),
-    λ a. ends (λ i q h f. absurd (none_past f a)) (λ m h b. h ∙ ap Reply.Total (sym b.ends ∙ a.ends)),
+    λ a. ends (λ i q h f. absurd (none_past f a)) (λ m h b. h ∙ ap (λ n. Ok (Answer.Total n)) (sym b.ends ∙ a.ends)),
   )

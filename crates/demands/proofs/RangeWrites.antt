@@ -1,5 +1,5 @@
 -- Of demands 2 and 3: the write of a range of a table. Assumes nothing.
-use Rattle.std.specs.Prelude.{if◌then◌else◌}
+use Rattle.std.specs.Prelude.{if◌then◌else◌, Err}
 use Prim.Native.Nat.{ℕ, ◌+◌}
 use mathlib.Core.Path.{◌≡◌, refl, sym, ◌∙◌, ap}
 use mathlib.Core.Bool.{Bool, true, false}
@@ -10,8 +10,6 @@ use borrow.Author.Tests.{ltb-false, le-ltb}
 use native.Mathlib.Omega.{arith}
 use Rattle.offsets.specs.declared.TableOffset.{TableOffset}
 use Rattle.meaning.specs.Basics.{◌<?◌}
-use Rattle.meaning.specs.declared.Verdict.{Verdict}
-use Rattle.meaning.specs.declared.Place.{Place}
 use Rattle.meaning.specs.Layout.{Placed, Seat, Slots, table_named}
 use Rattle.meaning.specs.Refusals.{seat_place, place_part, table_part_reply, place_verdict, allowed, range_of, range_in, range_place, write_range_reply, write_range_image, place_start}
 use Rattle.meaning.proofs.Passed.{passed_laws}
@@ -27,6 +25,7 @@ use Rattle.demands.proofs.Dimensions.{found_none, none_found}
 use Rattle.demands.proofs.Writable.{named_writable, writable_named}
 use Rattle.demands.proofs.Allowed.{refused_not, allowed_is, allowed_only}
 use Rattle.demands.proofs.Writes.{Taken, with_data, taken_passed, taken_after, taken_others, taken_there, taken_stays, stays_put, refused_unchanged}
+use Rattle.meaning.specs.Values.{passed}
 
 module _ (d img : List ℕ) (m k : ℕ) (o : TableOffset) (n : ℕ) where
   -- what the write comes to, of an opened image
@@ -37,12 +36,12 @@ module _ (d img : List ℕ) (m k : ℕ) (o : TableOffset) (n : ℕ) where
 
   module _ {ts : List Seat} {es : List Placed} {s : Slots} {total : ℕ} (h : Opens d img ts es s total) where
     -- accepted, of a table found: the range is good
-    seat_good : (t : Seat) → table_named m k ts ≡ some t → place_verdict (range_of d img es o n (some t)) ≡ Verdict.Passed → RangeGood ours d img m k o.0 n
+    seat_good : (t : Seat) → table_named m k ts ≡ some t → place_verdict (range_of d img es o n (some t)) ≡ passed → RangeGood ours d img m k o.0 n
     unfolding range_of seat_place
     seat_good t e = go (t.size <? o.0 + n) refl
       where
         go : (b : Bool) → (t.size <? o.0 + n) ≡ b
-            → place_verdict (if b then Place.Refused outside_table else allowed d img es t.item (t.start + o.0) n) ≡ Verdict.Passed
+            → place_verdict (if b then Err outside_table else allowed d img es t.item (t.start + o.0) n) ≡ passed
             → RangeGood ours d img m k o.0 n
         go true g v = absurd (refused_not _ v)
         go false g v =
@@ -57,13 +56,13 @@ module _ (d img : List ℕ) (m k : ℕ) (o : TableOffset) (n : ℕ) where
             }
 
     -- accepted, whatever was found
-    named_good : (x : Option Seat) → table_named m k ts ≡ x → place_verdict (range_of d img es o n x) ≡ Verdict.Passed → RangeGood ours d img m k o.0 n
+    named_good : (x : Option Seat) → table_named m k ts ≡ x → place_verdict (range_of d img es o n x) ≡ passed → RangeGood ours d img m k o.0 n
     unfolding range_of
     named_good none e v = absurd (refused_not _ v)
     named_good (some t) e v = seat_good t e v
 
   -- accepted: the range is good
-  range_good : place_verdict (range_place d img m k o n) ≡ Verdict.Passed → RangeGood ours d img m k o.0 n
+  range_good : place_verdict (range_place d img m k o n) ≡ passed → RangeGood ours d img m k o.0 n
   unfolding range_place range_in
   range_good v = go (came d img)
     where

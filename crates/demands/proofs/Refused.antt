@@ -1,5 +1,5 @@
 -- Of an opened image: an element's place is refused by the first of its causes, and by nothing where there is such an element. Assumes nothing.
-use Rattle.std.specs.Prelude.{if◌then◌else◌}
+use Rattle.std.specs.Prelude.{if◌then◌else◌, Ok, Err}
 use Prim.Native.Nat.{ℕ}
 use mathlib.Core.Path.{◌≡◌, refl, sym, ◌∙◌, ap}
 use mathlib.Core.Bool.{Bool, true, false, not, ◌&&◌, ◌||◌, and-false, true≢false}
@@ -7,7 +7,6 @@ use mathlib.Core.List.{List}
 use mathlib.Core.Option.{Option, some, none}
 use Rattle.meaning.specs.Basics.{◌<?◌}
 use Rattle.meaning.specs.declared.ElementName.{ElementName}
-use Rattle.meaning.specs.declared.Place.{Place}
 use Rattle.meaning.specs.declared.Refusal.{Refusal}
 use Rattle.meaning.specs.Causes.{why_none}
 use Rattle.meaning.specs.Description.{item_count, fields_at, is_uint}
@@ -21,12 +20,13 @@ use Rattle.demands.specs.Walk.{numbers_in, exists}
 use Rattle.demands.proofs.Causes.{is_nothing, given_none, why_given}
 use Rattle.demands.proofs.Laid.{laid_numbers}
 use Rattle.demands.proofs.Names.{name_found, none_found, name_there}
+use Rattle.meaning.specs.Values.{Place}
 
 -- a number is refused as its place is
 pub number_refusal : (img : List ℕ) (x : Place) → refusal_in (place_number img x) ≡ refusal_in (place_reply x)
 unfolding refusal_in place_number place_reply
-number_refusal img (Place.At p n) = refl
-number_refusal img (Place.Refused r) = refl
+number_refusal img (Ok e) = refl
+number_refusal img (Err r) = refl
 
 and_true : (b : Bool) → (b && true) ≡ b
 and_true true = refl

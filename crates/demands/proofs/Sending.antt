@@ -1,5 +1,5 @@
 -- OUR MESSAGES AS THEY ARE WRITTEN: the octets of a request or a reply have its form, and stand in the room, or are refused as 21. One law for both. Assumes nothing.
-use Rattle.std.specs.Prelude.{if◌then◌else◌}
+use Rattle.std.specs.Prelude.{if◌then◌else◌, Ok, Err}
 use Prim.Native.Nat.{ℕ, ◌+◌, ◌*◌, ◌/◌, ◌%◌, ◌<◌, ◌≤◌}
 use mathlib.Core.Path.{◌≡◌, refl, ◌∙◌, ap}
 use mathlib.Core.Logic.{inl, inr}
@@ -10,7 +10,6 @@ use lib.ListN.{length, get_or, take, drop, length-append, get_or-append}
 use lib.Seq.{take-append_seam, get_or-append-add, get_or-append_seam}
 use native.Mathlib.Omega.{arith}
 use Rattle.meaning.specs.Basics.{◌≤?◌, splice, octets_least_first, octets_in}
-use Rattle.meaning.specs.declared.Reply.{Reply}
 use Rattle.meaning.specs.Messages.{check_octet, in_octets, counted, Request, full_read, offset_read, full_write, offset_write, request_octets, request_fits, MeterReply, holds, done, refuses, reply_octets, reply_fits, sent, sent_reply, sent_room}
 use Rattle.meaning.specs.Numbers.{no_room}
 use Rattle.meaning.proofs.Either.{clash}
@@ -21,6 +20,7 @@ use Rattle.demands.specs.Bench.{our_messages}
 use Rattle.demands.specs.Messages.{Octets, Data, RequestForm, RequestFits, request_long, request_data, ReplyForm, ReplyFits, reply_long, reply_data, Written, fits, does_not, WritesRequest, WritesReply}
 use Rattle.demands.proofs.Forms.{Kind, request_kind, reply_kind}
 use Rattle.demands.proofs.Told.{Holds, onward, upto, both}
+use Rattle.meaning.specs.declared.Answer.{Answer}
 
 -- INTO THE ROOM
 -- what is put first comes first
@@ -36,7 +36,7 @@ module _ {A : Type 0} (Form : List ℕ → A → Type 0) (Fits : A → Type 0) (
   sends a room = go (test a) (length (octets a) ≤? length room) refl refl
     where
       go : (b c : Bool) → test a ≡ b → (length (octets a) ≤? length room) ≡ c
-          → Written (Fits a) (λ xs. Form xs a) (long a) (new a) room (if b && c then Reply.Total (length (octets a)) else Reply.Refused no_room)
+          → Written (Fits a) (λ xs. Form xs a) (long a) (new a) room (if b && c then Ok (Answer.Total (length (octets a))) else Err no_room)
           (if b && c then splice room 0 (octets a) else room)
       go true true e f =
           let ok = (tests a).0 e in
@@ -45,7 +45,7 @@ module _ {A : Type 0} (Form : List ℕ → A → Type 0) (Fits : A → Type 0) (
           let enough : 0 + length (octets a) ≤ length room = omega (arith, leb-true (length (octets a)) (length room) f) in
           fits ok (omega arith)
           (record {
-            total = ap (λ n. Reply.Total n) l;
+            total = ap (λ n. Ok (Answer.Total n)) l;
             form = rw (← l, put_first room (octets a)) form;
             octets = λ h. rw (← l, put_first room (octets a)) (are a ok h);
             others = rw (← l) (record { long = splice_long room 0 (octets a) enough; same = splice_others room 0 (octets a) enough });

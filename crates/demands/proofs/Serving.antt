@@ -1,6 +1,6 @@
 -- OUR ANSWERS TO REQUESTS: refused by the first fault, else what the tables hold or 00, with the image that belongs to it. Over our tables' replies, whose refusals demand 1 tells. Assumes
 -- nothing.
-use Rattle.std.specs.Prelude.{if◌then◌else◌}
+use Rattle.std.specs.Prelude.{if◌then◌else◌, Ok, Err}
 use Prim.Native.Nat.{ℕ, zero, suc, ◌/◌, ◌%◌, ◌<◌, ◌≤◌}
 use mathlib.Core.Path.{◌≡◌, refl, sym, ◌∙◌, ap, subst}
 use mathlib.Core.Logic.{inl, inr}
@@ -14,11 +14,7 @@ use native.Mathlib.Omega.{arith}
 use Rattle.offsets.specs.declared.TableOffset.{TableOffset}
 use Rattle.meaning.specs.Basics.{◌=?◌, ◌<?◌, bits}
 use Rattle.meaning.specs.declared.Fields.{Fields}
-use Rattle.meaning.specs.declared.Place.{Place}
-use Rattle.meaning.specs.declared.Place.TheVariants as place
 use Rattle.meaning.specs.declared.Refusal.{Refusal}
-use Rattle.meaning.specs.declared.Reply.{Reply}
-use Rattle.meaning.specs.declared.Verdict.{Verdict}
 use Rattle.meaning.specs.Description.{word_at, fields_at, fields_of, table_of, uint_of, block_of, set_of, array_of, if_of, malformed, names_slot, is_table, is_table_named, table_given, item_count}
 use Rattle.meaning.specs.Messages.{Request, full_read, offset_read, full_write, offset_write, RequestRead, is_request, not_request, request_in, MeterReply, refuses, reply_octets, reply_fits, sent, sent_reply}
 use Rattle.meaning.specs.Messages.{other_size, write_table_reply, write_table_image, request_outcome, good_reply, code_of, unless_refused, answer_to, image_answered, serve_reply, serve_room, serve_image}
@@ -41,6 +37,8 @@ use Rattle.demands.proofs.Demand1.{demand_1}
 use Rattle.demands.proofs.FirstGiven.{sound_given, test_first}
 use Rattle.demands.proofs.Reading.{request_reads}
 use Rattle.demands.proofs.Sending.{reply_written}
+use Rattle.meaning.specs.Values.{Verdict, Place, Reply}
+use Rattle.meaning.specs.declared.Answer.{Answer}
 
 -- LISTS OF FAULTS: the first of two lists together
 pub first_before : {A : Type 0} (xs ys : List (Option A)) (a : A) → first_of xs ≡ some a → first_of (xs ++ ys) ≡ some a
@@ -129,7 +127,7 @@ module _ (d img : List ℕ) where
       of_rules r (inr h) = ne_eqb r.number 13 (λ e. omega (arith, h.1))
 
   -- what is refused of a table is refused of a range written
-  range_refused : (m k : ℕ) (o : TableOffset) (new : List ℕ) (r : Refusal) → table_place_reply d img m k ≡ Place.Refused r
+  range_refused : (m k : ℕ) (o : TableOffset) (new : List ℕ) (r : Refusal) → table_place_reply d img m k ≡ Err r
       → refusal_in (verdict_reply (write_range_reply d img m k o new)) ≡ some r
   unfolding outcome_by refusals_of refusal_in place_reply
   range_refused m k o new r e =
@@ -152,18 +150,18 @@ module _ (d img : List ℕ) where
     unfolding write_table_reply other_size other_count refusal_in place_reply verdict_reply first_of
     whole_first = go (table_place_reply d img m k) refl
       where
-        go : (x : Place) → table_place_reply d img m k ≡ x → refusal_in (verdict_reply (if other_size (length new) x then Verdict.Refused outside_table else range)) ≡ first_of (refusals x)
-        go (place.At p n) e =
-            test_first (λ v. refusal_in (verdict_reply v)) (not (length new =? n)) outside_table (Verdict.Refused outside_table) range (refusal_in (verdict_reply range) ∷ []) refl
+        go : (x : Place) → table_place_reply d img m k ≡ x → refusal_in (verdict_reply (if other_size (length new) x then Err outside_table else range)) ≡ first_of (refusals x)
+        go (Ok w) e =
+            test_first (λ v. refusal_in (verdict_reply v)) (not (length new =? w.length)) outside_table (Err outside_table) range (refusal_in (verdict_reply range) ∷ []) refl
             (sound_given (refusal_in (verdict_reply range)))
-        go (place.Refused r) e = range_refused m k (offset 0) new r e
+        go (Err r) e = range_refused m k (offset 0) new r e
 
     -- where it isn't refused, the range is written; where it is, nothing
     whole_image : refusal_in (verdict_reply (write_table_reply d img m k new)) ≡ none → write_table_image d img m k new ≡ write_range_image d img m k (offset 0) new
     unfolding write_table_reply write_table_image refusal_in verdict_reply
     whole_image e = go (other_size (length new) (table_place_reply d img m k)) e
       where
-        go : (b : Bool) → refusal_in (verdict_reply (if b then Verdict.Refused outside_table else range)) ≡ none
+        go : (b : Bool) → refusal_in (verdict_reply (if b then Err outside_table else range)) ≡ none
             → (if b then img else write_range_image d img m k (offset 0) new) ≡ write_range_image d img m k (offset 0) new
         go true e = clash (cc)
         go false e = refl
@@ -172,7 +170,7 @@ module _ (d img : List ℕ) where
     unfolding write_table_reply write_table_image refusal_in verdict_reply outcome_by
     whole_kept r e = go (other_size (length new) (table_place_reply d img m k)) e
       where
-        go : (b : Bool) → refusal_in (verdict_reply (if b then Verdict.Refused outside_table else range)) ≡ some r → (if b then img else write_range_image d img m k (offset 0) new) ≡ img
+        go : (b : Bool) → refusal_in (verdict_reply (if b then Err outside_table else range)) ≡ some r → (if b then img else write_range_image d img m k (offset 0) new) ≡ img
         go true e = refl
         go false e = ((demand_1 d img).asked (ask.write_range m k (offset 0) new)).unchanged r e
 
@@ -251,10 +249,10 @@ module _ (d img : List ℕ) where
   -- a part of the image, which is of at most 65,535 octets if it isn't refused
   part_short : (x : Place) → length (place_part img x) ≤ length img
   unfolding place_part
-  part_short (place.At p n) = omega (arith, part_long img p.0 n)
-  part_short (place.Refused r) = omega arith
+  part_short (Ok e) = omega (arith, part_long img e.start.0 e.length)
+  part_short (Err r) = omega arith
 
-  module _ (of : Place → Place) (still : (r : Refusal) → of (Place.Refused r) ≡ Place.Refused r) (m k : ℕ) where
+  module _ (of : Place → Place) (still : (r : Refusal) → of (Err r) ≡ Err r) (m k : ℕ) where
     part_fits : length (place_part img (of (table_place_reply d img m k))) ≤ 65535
     unfolding table_place_reply table_place_in place_part
     part_fits =
@@ -349,12 +347,12 @@ module _ (d img : List ℕ) where
         freed a ok (does_not (inl f) s) = absurd (f ok)
         freed a ok (does_not (inr l) s) = does_not (inr l) s
 
-        after : (n : ℕ) (b : Bool) → (if b then Reply.Total (length (reply_octets answer)) else Reply.Refused no_room) ≡ Reply.Total n
+        after : (n : ℕ) (b : Bool) → (if b then Ok (Answer.Total (length (reply_octets answer))) else Err no_room) ≡ Ok (Answer.Total n)
             → (if b then image_answered d img (request_in xs) else img) ≡ image_answered d img (request_in xs)
         after n true e = refl
         after n false e = clash (cc)
 
-        unchanged : (b : Bool) → (if b then Reply.Total (length (reply_octets answer)) else Reply.Refused no_room) ≡ Reply.Refused no_room
+        unchanged : (b : Bool) → (if b then Ok (Answer.Total (length (reply_octets answer))) else Err no_room) ≡ Err no_room
             → (if b then image_answered d img (request_in xs) else img) ≡ img
         unchanged true e = clash (cc)
         unchanged false e = refl

@@ -1,5 +1,5 @@
 -- Of demand 3: laid out, the tables are the TABLEs of the description, in its order, each where the reply says and where the walk has it, and they follow one another. Assumes nothing.
-use Rattle.std.specs.Prelude.{if◌then◌else◌}
+use Rattle.std.specs.Prelude.{if◌then◌else◌, Ok}
 use Prim.Native.Nat.{ℕ, zero, suc, ◌+◌, ◌-◌, ◌<◌, ◌≤◌}
 use mathlib.Core.Path.{◌≡◌, refl, ◌∙◌, ap, sym, subst}
 use mathlib.Core.Logic.{inl, inr}
@@ -10,7 +10,6 @@ use borrow.Author.Tests.{eqb-true, eq-eqb}
 use native.Mathlib.Decide.{dec_lt}
 use native.Mathlib.Omega.{arith}
 use Rattle.meaning.specs.Basics.{◌=?◌}
-use Rattle.meaning.specs.declared.Reply.{Reply}
 use Rattle.meaning.specs.Description.{item_count, fields_at, is_table, is_table_named, nested, inside, round}
 use Rattle.meaning.specs.Layout.{body_at, tables_of, tree_of, Placed, Slots, Laid, laid, stopped}
 use Rattle.meaning.specs.Layout.{Seat, Layout, laid_out, stopped_at, before, seated, lay_tables, lay_out, lay_body, table_named}
@@ -31,6 +30,7 @@ use Rattle.demands.specs.Replies.{ours, octets_at}
 use Rattle.laying.proofs.Opened.{Opens, table_laid, table_opens, total_opens}
 use Rattle.laying.proofs.Found.{seat_of_lem}
 use Rattle.demands.proofs.Laid.{laid_facts}
+use Rattle.meaning.specs.declared.Answer.{Answer}
 
 -- THE TABLES OF THE DESCRIPTION
 module _ {d : List ℕ} (p : PassedLaws d) where
@@ -234,7 +234,7 @@ module _ {d img : List ℕ} {ts : List Seat} {es : List Placed} {s : Slots} {tot
       (λ t h e. record { reply = rw (h.named.manufacturer, h.named.number) (table_laid o _ _ ∙ ap seat_place e) }) ts seats.1 all_found
 
 -- laid out, the tables follow one another up to the total
-pub tables_follow_lem : (d img : List ℕ) (total : ℕ) → layout_reply d img ≡ Reply.Total total → TablesFollow ours d img total
+pub tables_follow_lem : (d img : List ℕ) (total : ℕ) → layout_reply d img ≡ Ok (Answer.Total total) → TablesFollow ours d img total
 tables_follow_lem d img total e =
     let t = total_opens d img total e in
     let o = t.opens in
@@ -246,7 +246,7 @@ tables_follow_lem d img total e =
     }
 
 -- each stands from the end of the pieces before it to the end of its own
-pub tables_stand_lem : (d img : List ℕ) (total : ℕ) → layout_reply d img ≡ Reply.Total total → TablesStand ours d img
+pub tables_stand_lem : (d img : List ℕ) (total : ℕ) → layout_reply d img ≡ Ok (Answer.Total total) → TablesStand ours d img
 unfolding seat_place
 tables_stand_lem d img total e m k p n = (told, stands)
   where

@@ -6,12 +6,14 @@ use mathlib.Core.List.{List}
 use lib.ListN.{length, take}
 use native.Mathlib.Omega.{arith}
 use Rattle.meaning.specs.Basics.{part}
-use Rattle.meaning.specs.declared.Reply.{Reply}
 use Rattle.meaning.specs.Passed.{Exactly}
 use Rattle.meaning.proofs.Either.{clash}
 use Rattle.demands.specs.Messages.{Octets, Written, fits, does_not, EachUndoes}
 use Rattle.demands.proofs.Forms.{Kind}
 use Rattle.demands.proofs.OnlyWrites.{later_same}
+use Rattle.std.specs.Prelude.{Ok}
+use Rattle.meaning.specs.Values.{Reply}
+use Rattle.meaning.specs.declared.Answer.{Answer}
 
 module _ {A : Type 0} (Form : List ℕ → A → Type 0) (Fits : A → Type 0) (long : A → ℕ) (new : A → List ℕ) (kind : Kind Form Fits long new) where
   abbrev Writes : A → (room : List ℕ) → Reply → (later : List ℕ) → Type 0
@@ -22,12 +24,12 @@ module _ {A : Type 0} (Form : List ℕ → A → Type 0) (Fits : A → Type 0) (
     pub undoes : EachUndoes Form Reads write after
     undoes = record { back = λ a room n e. back a room n e (writes a room); again = λ xs a room are r l. again xs a room are ((reads xs a).0 r) l (writes a room); one = kind.one }
       where
-        back : (a : A) (room : List ℕ) (n : ℕ) → write a room ≡ Reply.Total n → Writes a room (write a room) (after a room) → Reads (take n (after a room)) a
+        back : (a : A) (room : List ℕ) (n : ℕ) → write a room ≡ Ok (Answer.Total n) → Writes a room (write a room) (after a room) → Reads (take n (after a room)) a
         back a room n e (fits ok l s) = let same : long a ≡ n = cc s.total in (reads _ a).1 (rw (← same) s.form)
         back a room n e (does_not f s) = clash (cc s.refused)
 
         again : (xs : List ℕ) (a : A) (room : List ℕ) → Octets xs → Form xs a → length xs ≤ length room → Writes a room (write a room) (after a room)
-            → (write a room ≡ Reply.Total (length xs)) × (take (length xs) (after a room) ≡ xs)
+            → (write a room ≡ Ok (Answer.Total (length xs))) × (take (length xs) (after a room) ≡ xs)
         again xs a room are form l (fits ok m s) =
             let e = kind.as_long_lem xs a form in
             (rw e s.total, rw e (kind.same _ xs (s.octets (kind.octets xs are a form)) are a s.form form))

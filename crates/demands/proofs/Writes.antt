@@ -9,8 +9,6 @@ use lib.ListN.{length, get_or}
 use native.Mathlib.Decide.{dec_lt, dec_le}
 use native.Mathlib.Omega.{arith}
 use Rattle.meaning.specs.Basics.{part, splice, bits, octets_in}
-use Rattle.meaning.specs.declared.Verdict.{Verdict}
-use Rattle.meaning.specs.declared.Place.{Place}
 use Rattle.meaning.specs.Layout.{Placed, Seat, Slots, lay_out, data_order, number_at}
 use Rattle.meaning.specs.Refusals.{any_dimension, place_verdict, image_with, image_with_number}
 use Rattle.meaning.proofs.Splices.{part_same, splice_long, splice_there, splice_others}
@@ -26,6 +24,8 @@ use Rattle.demands.specs.Replies.{octets_at, ours}
 use Rattle.demands.specs.Demand3.{StaysPut}
 use Rattle.laying.proofs.Opened.{Opens, total_laid, table_laid, where_laid}
 use Rattle.meaning.proofs.Either.{clash}
+use Rattle.std.specs.Prelude.{Ok, Err}
+use Rattle.meaning.specs.Values.{Place, passed}
 
 -- OCTETS OUTSIDE DIMENSIONS
 -- an image whose octets are the same but for n from p on, none of them a dimension's
@@ -68,24 +68,24 @@ pub record Taken (d img : List ℕ) (w : Place) (data' : ℕ → List ℕ) (p n 
 
 -- the image afterwards: data that the place's length decides, in that place
 unfoldable pub written_with : (image : List ℕ) → (ℕ → List ℕ) → Place → List ℕ
-written_with img data' (Place.At p n) = splice img p.0 (data' n)
-written_with img data' (Place.Refused r) = img
+written_with img data' (Ok e) = splice img e.start.0 (data' e.length)
+written_with img data' (Err r) = img
 
 -- octets or a range: the data as they are
 pub with_data : (img new : List ℕ) (w : Place) → image_with img new w ≡ written_with img (λ n. new) w
 unfolding image_with written_with
-with_data img new (Place.At p n) = refl
-with_data img new (Place.Refused r) = refl
+with_data img new (Ok e) = refl
+with_data img new (Err r) = refl
 
 -- a number: its octets, as many as the place has
 pub with_number : (img : List ℕ) (x : ℕ) (w : Place) → image_with_number img x w ≡ written_with img (λ n. octets_in (data_order img) n x) w
 unfolding image_with_number written_with
-with_number img x (Place.At p n) = refl
-with_number img x (Place.Refused r) = refl
+with_number img x (Ok e) = refl
+with_number img x (Err r) = refl
 
 module _ {d img : List ℕ} {w : Place} {data' : ℕ → List ℕ} {p n : ℕ} (t : Taken d img w data' p n) where
   -- such a write is accepted
-  pub taken_passed : place_verdict w ≡ Verdict.Passed
+  pub taken_passed : place_verdict w ≡ passed
   unfolding place_verdict
   taken_passed = ap place_verdict t.is
 
@@ -145,16 +145,16 @@ module _ {d img : List ℕ} {w : Place} {data' : ℕ → List ℕ} {p n : ℕ} (
 -- ACCEPTED OR NOT
 -- an accepted write has its place
 abbrev pub Takes : (d img : List ℕ) → Place → (ℕ → List ℕ) → Type 0
-Takes d img w data' = place_verdict w ≡ Verdict.Passed → (p : ℕ) × (n : ℕ) × Taken d img w data' p n
+Takes d img w data' = place_verdict w ≡ passed → (p : ℕ) × (n : ℕ) × Taken d img w data' p n
 
 -- every table and element stands where it stood
 pub stays_put : {d img : List ℕ} (w : Place) (data' : ℕ → List ℕ) → Takes d img w data' → StaysPut ours d img (written_with img data' w)
 unfolding place_verdict written_with
-stays_put {d} {img} (Place.At p n) data' h = let t = (h refl).2 in subst (StaysPut ours d img) (sym (taken_after t)) (taken_stays t)
-stays_put (Place.Refused r) data' h = record { total = refl; tables = λ m k. refl; elements = λ q. refl }
+stays_put {d} {img} (Ok e) data' h = let t = (h refl).2 in subst (StaysPut ours d img) (sym (taken_after t)) (taken_stays t)
+stays_put (Err r) data' h = record { total = refl; tables = λ m k. refl; elements = λ q. refl }
 
 -- a refused write changes nothing
 pub refused_unchanged : (img : List ℕ) (w : Place) (data' : ℕ → List ℕ) → Unchanged (place_verdict w) img (written_with img data' w)
 unfolding place_verdict written_with
-refused_unchanged img (Place.At p n) data' r e = clash (cc)
-refused_unchanged img (Place.Refused s) data' r e = refl
+refused_unchanged img (Ok w) data' r e = clash (cc)
+refused_unchanged img (Err s) data' r e = refl

@@ -10,8 +10,6 @@ use Rattle.meaning.specs.declared.ElementName.{ElementName}
 use Rattle.meaning.specs.declared.Date.{Date}
 use Rattle.meaning.specs.declared.Moment.{Moment}
 use Rattle.meaning.specs.declared.Quantity.{Quantity}
-use Rattle.meaning.specs.declared.Reply.{Reply}
-use Rattle.meaning.specs.declared.Verdict.{Verdict}
 use Rattle.meaning.specs.Description.{check_reply, fields_at, is_uint, is_dimension}
 use Rattle.meaning.specs.Examples.{D, D_writable, first, second, at, offset, clock, clock_image, moment, date}
 use Rattle.meaning.specs.Layout.{number_at}
@@ -26,17 +24,20 @@ use Rattle.demands.specs.Wrong.{TotalsOfD, CalendarRead, two_seasons, WrongProgr
 use Rattle.demands.proofs.Calendar.{tier_says, seasoned_says}
 use Rattle.demands.proofs.Demand3.{demand_3}
 use Rattle.meaning.proofs.Either.{clash}
+use Rattle.std.specs.Prelude.{Ok}
+use Rattle.meaning.specs.Values.{passed}
+use Rattle.meaning.specs.declared.Answer.{Answer}
 
 -- OUR REPLIES, COMPUTED
-D_passed : check_reply D ≡ Verdict.Passed
+D_passed : check_reply D ≡ passed
 unfolding computing
 D_passed = refl
 
-first_total : layout_reply D first ≡ Reply.Total 8
+first_total : layout_reply D first ≡ Ok (Answer.Total 8)
 unfolding computing
 first_total = refl
 
-second_total : layout_reply D second ≡ Reply.Total 6
+second_total : layout_reply D second ≡ Ok (Answer.Total 6)
 unfolding computing
 second_total = refl
 
@@ -44,7 +45,7 @@ second_total = refl
 abbrev zeros : List ℕ
 zeros = 0 ∷ 0 ∷ 0 ∷ 0 ∷ 0 ∷ 0 ∷ []
 
-zeros_total : layout_reply D zeros ≡ Reply.Total 2
+zeros_total : layout_reply D zeros ≡ Ok (Answer.Total 2)
 unfolding computing
 zeros_total = refl
 
@@ -56,31 +57,31 @@ number_there : element_place_reply D first (at 7 0) ≡ octets_at 4 2
 unfolding computing
 number_there = refl
 
-half_past : tier_reply (clock 12) clock_image (moment 2024 3 5 7 30) Quantity.Summations ≡ Reply.Tier 2
+half_past : tier_reply (clock 12) clock_image (moment 2024 3 5 7 30) Quantity.Summations ≡ Ok (Answer.Tier 2)
 unfolding computing
 half_past = refl
 
-clock_had : matrix_verdict (clock 12) clock_image ≡ Verdict.Passed
+clock_had : matrix_verdict (clock 12) clock_image ≡ passed
 unfolding computing
 clock_had = refl
 
-stands_not : seasoned_reply (clock 12) clock_image (date 2023 12 31) ≡ Reply.No
+stands_not : seasoned_reply (clock 12) clock_image (date 2023 12 31) ≡ Ok Answer.No
 unfolding computing
 stands_not = refl
 
-stands_that_day : seasoned_reply (clock 12) clock_image (date 2024 1 1) ≡ Reply.Yes
+stands_that_day : seasoned_reply (clock 12) clock_image (date 2024 1 1) ≡ Ok Answer.Yes
 unfolding computing
 stands_that_day = refl
 
-two_had : matrix_verdict (clock 15) two_seasons ≡ Verdict.Passed
+two_had : matrix_verdict (clock 15) two_seasons ≡ passed
 unfolding computing
 two_had = refl
 
-day_before : tier_reply (clock 15) two_seasons (moment 2023 12 31 0 0) Quantity.Summations ≡ Reply.Tier 0
+day_before : tier_reply (clock 15) two_seasons (moment 2023 12 31 0 0) Quantity.Summations ≡ Ok (Answer.Tier 0)
 unfolding computing
 day_before = refl
 
-that_day : tier_reply (clock 15) two_seasons (moment 2024 1 1 0 0) Quantity.Summations ≡ Reply.Tier 2
+that_day : tier_reply (clock 15) two_seasons (moment 2024 1 1 0 0) Quantity.Summations ≡ Ok (Answer.Tier 2)
 unfolding computing
 that_day = refl
 
@@ -110,7 +111,7 @@ place_start_lem : (p q n m : ℕ) → octets_at p n ≡ octets_at q m → p ≡ 
 place_start_lem p q n m e = ap place_start e
 
 -- D's images lay out, up to where our totals say
-laid : (img : List ℕ) (n : ℕ) → length img ≤ 65535 → layout_reply D img ≡ Reply.Total n → AllInside D img n
+laid : (img : List ℕ) (n : ℕ) → length img ≤ 65535 → layout_reply D img ≡ Ok (Answer.Total n) → AllInside D img n
 laid img n l e = ((demand_3 D img).total_exactly (record { passes = D_passed; allowed = l }) n).0 e
 
 -- AN ELEMENT THAT STANDS SOMEWHERE is one that there is, and as long as its item says
@@ -130,24 +131,24 @@ number_is : exists D (numbers_in D first) (at 7 0) ≡ true
 number_is = is_there ours D first 8 D_stands (at 7 0) 4 2 number_there
 
 -- A CALENDAR READ ALIKE, which can be had, is answered as by us
-module _ (R : Replies) (d img : List ℕ) (had : matrix_verdict d img ≡ Verdict.Passed) (c : CalendarRead R d img) where
-  tier_alike : (w : Moment) (q : Quantity) (x : ℕ) → tier_reply d img w q ≡ Reply.Tier x → R.tier d img w q ≡ Reply.Tier x
+module _ (R : Replies) (d img : List ℕ) (had : matrix_verdict d img ≡ passed) (c : CalendarRead R d img) where
+  tier_alike : (w : Moment) (q : Quantity) (x : ℕ) → tier_reply d img w q ≡ Ok (Answer.Tier x) → R.tier d img w q ≡ Ok (Answer.Tier x)
   tier_alike w q x e =
       let told = rw (c.table51, c.table54, c.had, ← had) at (c.tier w q) in
       (told.tier x).1 (((tier_says d img w q).tier x).0 e)
 
-  yes_alike : (t : Date) → seasoned_reply d img t ≡ Reply.Yes → R.seasoned d img t ≡ Reply.Yes
+  yes_alike : (t : Date) → seasoned_reply d img t ≡ Ok Answer.Yes → R.seasoned d img t ≡ Ok Answer.Yes
   yes_alike t e =
       let told = rw (c.table51, c.table54, c.had, ← had) at (c.seasoned t) in
       told.yes.1 ((seasoned_says d img t).yes.0 e)
 
-  no_alike : (t : Date) → seasoned_reply d img t ≡ Reply.No → R.seasoned d img t ≡ Reply.No
+  no_alike : (t : Date) → seasoned_reply d img t ≡ Ok Answer.No → R.seasoned d img t ≡ Ok Answer.No
   no_alike t e =
       let told = rw (c.table51, c.table54, c.had, ← had) at (c.seasoned t) in
       told.no.1 ((seasoned_says d img t).no.0 e)
 
 module _ (R : Replies) where
-  totals : TotalsOfD R → (img : List ℕ) (n : ℕ) → length img ≤ 65535 → layout_reply D img ≡ Reply.Total n → R.layout D img ≡ Reply.Total n
+  totals : TotalsOfD R → (img : List ℕ) (n : ℕ) → length img ≤ 65535 → layout_reply D img ≡ Ok (Answer.Total n) → R.layout D img ≡ Ok (Answer.Total n)
   totals t img n l e = (t.exactly img (record { passes = t.passes; allowed = l }) n).1 (laid img n l e)
 
   pub wrong_programs : WrongPrograms R
@@ -172,7 +173,7 @@ module _ (R : Replies) where
             unwritten_octets (subst (λ (xs : List ℕ). xs ≡ 1 ∷ 2 ∷ []) (reads.element (alone 5) 2 2 place)
             (subst (λ (img : List ℕ). R.element_part D img (alone 5) ≡ 1 ∷ 2 ∷ []) (w.octets D first (alone 5) (1 ∷ 2 ∷ [])) (writes.read_back yes-said)));
         writes_no_number = λ w yes-said place reads writes.
-            let back = subst (λ (img : List ℕ). R.element_number D img (at 7 0) ≡ Reply.Number 1) (w.number D first (at 7 0) 1) (writes.read_back yes-said) in
+            let back = subst (λ (img : List ℕ). R.element_number D img (at 7 0) ≡ Ok (Answer.Number 1)) (w.number D first (at 7 0) 1) (writes.read_back yes-said) in
             let told = reads.number (at 7 0) 4 2 place integer in
             let z : ◌≡◌ {A = ℕ} 0x1234 1 = cc (back, told, unwritten_number) in omega arith;
         padded = λ w stand. let t = stand.there (at 7 0) number_is in w.rest (at 7 0) (omega arith) _ _ t.1;

@@ -3,9 +3,7 @@ use Prim.Native.Nat.{ℕ}
 use mathlib.Core.Path.{◌≡◌, refl, sym, ◌∙◌, ap}
 use mathlib.Core.Option.{Option, some, none}
 use native.Mathlib.Omega.{arith}
-use Rattle.meaning.specs.declared.Place.{Place}
 use Rattle.meaning.specs.declared.Refusal.{Refusal}
-use Rattle.meaning.specs.declared.Reply.{Reply}
 use Rattle.meaning.specs.Careful.{with_subscripts, maze, two_by_two, none_outside}
 use Rattle.meaning.specs.Examples.{plain}
 use Rattle.meaning.specs.Numbers.{branch_not_chosen, subscript_too_large, not_a_number}
@@ -16,13 +14,16 @@ use Rattle.demands.specs.Demand3.{ElementsStand}
 use Rattle.demands.specs.Replies.{Replies, ours}
 use Rattle.demands.specs.Wrong.{WrongCauses}
 use Rattle.demands.proofs.Demand3.{demand_3}
+use Rattle.std.specs.Prelude.{Ok}
+use Rattle.meaning.specs.Values.{Place}
+use Rattle.meaning.specs.declared.Answer.{Answer}
 
 -- OUR REPLIES, COMPUTED
-two_total : layout_reply maze two_by_two ≡ Reply.Total 10
+two_total : layout_reply maze two_by_two ≡ Ok (Answer.Total 10)
 unfolding computing
 two_total = refl
 
-none_total : layout_reply maze none_outside ≡ Reply.Total 2
+none_total : layout_reply maze none_outside ≡ Ok (Answer.Total 2)
 unfolding computing
 none_total = refl
 

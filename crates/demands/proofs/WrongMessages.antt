@@ -7,7 +7,6 @@ use mathlib.Core.Option.{Option, some, none}
 use lib.ListN.{length, get_or, take}
 use lib.Seq.{get_or-take}
 use native.Mathlib.Omega.{arith}
-use Rattle.meaning.specs.declared.Reply.{Reply}
 use Rattle.meaning.specs.Examples.{D, first}
 use Rattle.meaning.specs.Messages.{Request, full_read, full_write, offset_write, is_request, MeterReply, done, refuses, sum_of}
 use Rattle.meaning.specs.Numbers.{no_room}
@@ -21,6 +20,9 @@ use Rattle.demands.specs.Messages.{over_last, other_count, offset, tables_refuse
 use Rattle.demands.specs.Replies.{ours}
 use Rattle.demands.proofs.Reading.{faulting}
 use Rattle.demands.specs.Wrong.{read_5, read_2053, write_5, write_0, ten_zeros, OverD, WrongMessages}
+use Rattle.std.specs.Prelude.{Ok, Err}
+use Rattle.meaning.specs.Values.{Reply}
+use Rattle.meaning.specs.declared.Answer.{Answer}
 
 -- WHAT FITS STANDS IN THE ROOM
 stands : {F : Type 0} {Form : List ℕ → Type 0} {long : ℕ} {new room : List ℕ} {reply : Reply} {later : List ℕ} → Written F Form long new room reply later → F → long ≤ length room
@@ -82,7 +84,7 @@ module _ (M : Messages) where
     check : get_or later 6 0 ≡ 0xF9
 
   written_behind : WritesRequest M (full_write 5 (7 ∷ [])) ten_zeros
-      → (M.write_request (full_write 5 (7 ∷ [])) ten_zeros ≡ Reply.Total 7) × Behind (M.request_room (full_write 5 (7 ∷ [])) ten_zeros)
+      → (M.write_request (full_write 5 (7 ∷ [])) ten_zeros ≡ Ok (Answer.Total 7)) × Behind (M.request_room (full_write 5 (7 ∷ [])) ten_zeros)
   unfolding sum_of
   written_behind w =
       let s = stands w (omega arith, omega arith) (omega arith) in
@@ -119,10 +121,10 @@ module _ (M : Messages) where
       stands (subst (λ a. WrittenReply (Unit {0}) a room (M.serve D first xs room) (M.served_room D first xs room)) e o.served.written) tt enough
 
   -- or are refused where it isn't
-  no_room_lem : {xs : List ℕ} (o : OverD M xs []) → o.served.answer ≡ done → M.serve D first xs [] ≡ Reply.Refused no_room
+  no_room_lem : {xs : List ℕ} (o : OverD M xs []) → o.served.answer ≡ done → M.serve D first xs [] ≡ Err no_room
   no_room_lem {xs} o e = go (subst (λ a. WrittenReply (Unit {0}) a [] (M.serve D first xs []) (M.served_room D first xs [])) e o.served.written)
     where
-      go : WrittenReply (Unit {0}) done [] (M.serve D first xs []) (M.served_room D first xs []) → M.serve D first xs [] ≡ Reply.Refused no_room
+      go : WrittenReply (Unit {0}) done [] (M.serve D first xs []) (M.served_room D first xs []) → M.serve D first xs [] ≡ Err no_room
       go (fits f l s) = absurd (omega arith)
       go (does_not f s) = s.refused
 

@@ -2,8 +2,8 @@
 -- `our_messages` is the one that the public calls are proved to give (crate meaning, specs/Messages). Assumes nothing.
 use Rattle.std.specs.Prelude.{ℕ, List}
 use Rattle.std.proofs.Math.Option.{Option}
-use Rattle.meaning.specs.declared.Reply.{Reply}
 use Rattle.meaning.specs.Messages.{Request, RequestRead, request_in, write_request_reply, write_request_room, MeterReply, reply_in, write_reply_reply, write_reply_room, serve_reply, serve_room, serve_image}
+use Rattle.meaning.specs.Values.{Reply}
 
 -- a request and a reply read; either written into the room lent, and the room afterwards; a request served, and image and room afterwards
 pub record Messages : Type 0 where

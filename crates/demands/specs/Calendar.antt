@@ -2,20 +2,20 @@
 -- record stands, and the matrix cell by cell. And the weekday of a date, document 02's E3, which needs no table.
 -- What a table's octets say is read by `controls_of`, `dates_of` and `switches_of` (crate meaning, specs/Calendar), which record is chosen is said by crate almanac. proofs/Calendar.antt proves
 -- the statements of our replies, for every description and image. Assumes nothing.
-use Rattle.std.specs.Prelude.{ℕ, ◌+◌, ◌*◌, ◌%◌, ◌<◌, ◌≡◌, true, false, List, get_or}
+use Rattle.std.specs.Prelude.{ℕ, ◌+◌, ◌*◌, ◌%◌, ◌<◌, ◌≡◌, true, false, List, get_or, Ok}
 use Rattle.meaning.specs.declared.Controls.{Controls}
 use Rattle.meaning.specs.declared.Date.{Date}
 use Rattle.meaning.specs.declared.Moment.{Moment}
 use Rattle.meaning.specs.declared.Quantity.{Quantity}
-use Rattle.meaning.specs.declared.Reply.{Reply}
 use Rattle.meaning.specs.declared.Triple.{Triple}
-use Rattle.meaning.specs.declared.Verdict.{Verdict}
 use Rattle.meaning.specs.Calendar.{real_date, real_time, day_number, weekday_of, controls_of, matrix_at, day_columns, row_width, dates_of, switches_of, day_column}
 use Rattle.meaning.specs.Passed.{Exactly}
 use Rattle.almanac.specs.Days.{IsReal, number_of, next}
 use Rattle.almanac.specs.Latest.{◌among◌}
 use Rattle.almanac.specs.Choices.{SeasonChosen, SeasonStands, SelectsSpecial, SpecialChosen, Switches, SwitchChosen}
 use Rattle.almanac.specs.Matrix.{Fifteen, Shown}
+use Rattle.meaning.specs.Values.{Verdict, Reply, passed}
+use Rattle.meaning.specs.declared.Answer.{Answer}
 
 -- THE SCHEDULE ON A DAY, by what Table 51 says (c), the octets of Table 54 (t) and its dates
 -- the column: that of the special schedule of the day, which has one; else that of the weekday
@@ -39,7 +39,7 @@ pub record ScheduleOn (c : Controls) (t : List ℕ) (day : ℕ) (dates : List Tr
 
 -- THE TIER, where a calendar can be had: a real date and time, and SEASON_CHNG_ARMED_FLAG isn't set
 pub record Answerable (c : Controls) (had : Verdict) (w : Moment) : Type 0 where
-  pub calendar : had ≡ Verdict.Passed
+  pub calendar : had ≡ passed
   pub date : real_date w.year w.month w.day ≡ true
   pub time : real_time w.hour w.minute ≡ true
   pub unarmed : c.armed ≡ false
@@ -63,8 +63,8 @@ module _ (o : ℕ) (c : Controls) (t : List ℕ) (had : Verdict) (w : Moment) (q
     pub none : (r : Triple) → r among switches_of o c t → Switches c.separate q scheduled.schedule (60 * w.hour + w.minute) r → ⊥
 
   pub record TierAnswers (reply : Reply) : Type 0 where
-    pub tier : (x : ℕ) → Exactly (reply ≡ Reply.Tier x) (TierIs x)
-    pub none : Exactly (reply ≡ Reply.NoneYet) NoneYetToday
+    pub tier : (x : ℕ) → Exactly (reply ≡ Ok (Answer.Tier x)) (TierIs x)
+    pub none : Exactly (reply ≡ Ok Answer.NoneYet) NoneYetToday
 
 -- by the octets of the two tables, in that DATA_ORDER; `had` is the reply to whether the matrix can be had
 abbrev pub TierSays : (order : ℕ) → (table51 table54 : List ℕ) → (had : Verdict) → Moment → Quantity → Reply → Type 0
@@ -73,7 +73,7 @@ TierSays o a b had w q reply = TierAnswers o (controls_of o a) b had w q reply
 -- DOES A SEASON RECORD STAND at or before a date, where a calendar can be had and the date is real: yes exactly where one does, no exactly where none does. A season change that is armed
 -- has no part in it, nor whether the season has a row
 pub record Dated (had : Verdict) (t : Date) : Type 0 where
-  pub calendar : had ≡ Verdict.Passed
+  pub calendar : had ≡ passed
   pub date : IsReal t
 
 module _ (o : ℕ) (c : Controls) (b : List ℕ) (had : Verdict) (t : Date) where
@@ -81,8 +81,8 @@ module _ (o : ℕ) (c : Controls) (b : List ℕ) (had : Verdict) (t : Date) wher
   Stands = SeasonStands (number_of t) (dates_of o c b)
 
   pub record SeasonedAnswers (reply : Reply) : Type 0 where
-    pub yes : Exactly (reply ≡ Reply.Yes) (Dated had t × Stands)
-    pub no : Exactly (reply ≡ Reply.No) (Dated had t × (Stands → ⊥))
+    pub yes : Exactly (reply ≡ Ok Answer.Yes) (Dated had t × Stands)
+    pub no : Exactly (reply ≡ Ok Answer.No) (Dated had t × (Stands → ⊥))
 
 abbrev pub SeasonedSays : (order : ℕ) → (table51 table54 : List ℕ) → (had : Verdict) → Date → Reply → Type 0
 SeasonedSays o a b had t reply = SeasonedAnswers o (controls_of o a) b had t reply
@@ -91,8 +91,8 @@ SeasonedSays o a b had t reply = SeasonedAnswers o (controls_of o a) b had t rep
 -- specs/Demand1
 pub record MatrixSays (o : ℕ) (table51 table54 : List ℕ) (had : Verdict) (matrix : List (List ℕ)) (lentAfter : List (List ℕ) → List (List ℕ)) : Type 0 where
   pub fifteen : Fifteen matrix
-  pub shown : had ≡ Verdict.Passed → Shown (controls_of o table51) table54 matrix
-  pub written : had ≡ Verdict.Passed → (lent : List (List ℕ)) → lentAfter lent ≡ matrix
+  pub shown : had ≡ passed → Shown (controls_of o table51) table54 matrix
+  pub written : had ≡ passed → (lent : List (List ℕ)) → lentAfter lent ≡ matrix
 
 -- THE WEEKDAY OF A DATE, 0 for Sunday to 6 for Saturday, said from each day to the next and not by a count: one day's weekday is known, and every other real date is reached from it. Which
 -- dates are real and which comes after which is said by crate almanac, that any other date gets 16 by specs/Demand1
@@ -100,11 +100,11 @@ pub record MatrixSays (o : ℕ) (table51 table54 : List ℕ) (had : Verdict) (ma
 pub record OneOfSeven (reply : Reply) : Type 0 where
   pub day : ℕ
   pub below : day < 7
-  pub is : reply ≡ Reply.Weekday day
+  pub is : reply ≡ Ok (Answer.Weekday day)
 
 pub record WeekdaysSay (weekday : Date → Reply) : Type 0 where
   pub each : (t : Date) → IsReal t → OneOfSeven (weekday t)
   -- 1 January 2000 was a Saturday
-  pub saturday : weekday (record { year = 2000; month = 1; day = 1 }) ≡ Reply.Weekday 6
+  pub saturday : weekday (record { year = 2000; month = 1; day = 1 }) ≡ Ok (Answer.Weekday 6)
   -- the day after has the weekday after, and after Saturday comes Sunday
-  pub next : (t : Date) → IsReal t → IsReal (next t) → (w : ℕ) → weekday t ≡ Reply.Weekday w → weekday (next t) ≡ Reply.Weekday ((w + 1) % 7)
+  pub next : (t : Date) → IsReal t → IsReal (next t) → (w : ℕ) → weekday t ≡ Ok (Answer.Weekday w) → weekday (next t) ≡ Ok (Answer.Weekday ((w + 1) % 7))

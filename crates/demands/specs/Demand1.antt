@@ -3,19 +3,16 @@
 -- A question's refusals are a list here, in the order that documents 01 and 02 state, each with the test by which it is given. The tests are made apart from one another, so the
 -- list alone says which is given first. They look at the description (specs/Rules, specs/Walk), and at what the same family of replies R answers to simpler questions: every
 -- question about an image gets 1 to 9 where the layout does. proofs/Demand1.antt proves `Demand1` of our replies, for every description and image.
-use Rattle.std.specs.Prelude.{ℕ, zero, suc, ◌+◌, ◌^◌, min, max, ◌≡◌, Bool, true, false, not, ◌&&◌, ◌||◌, List, [], ◌∷◌, ◌++◌, length, replicate, if◌then◌else◌}
+use Rattle.std.specs.Prelude.{ℕ, zero, suc, ◌+◌, ◌^◌, min, max, ◌≡◌, Bool, true, false, not, ◌&&◌, ◌||◌, List, [], ◌∷◌, ◌++◌, length, replicate, if◌then◌else◌, Ok, Err}
 use Rattle.std.proofs.Math.Option.{Option, some, none}
 use Rattle.offsets.specs.declared.TableOffset.{TableOffset}
 use Rattle.meaning.specs.Basics.{◌=?◌, ◌<?◌, ◌≤?◌}
-use Rattle.meaning.specs.declared.Chosen.{Chosen}
 use Rattle.meaning.specs.declared.Controls.{Controls}
 use Rattle.meaning.specs.declared.Date.{Date}
 use Rattle.meaning.specs.declared.ElementName.{ElementName}
 use Rattle.meaning.specs.declared.Moment.{Moment}
-use Rattle.meaning.specs.declared.Place.{Place}
 use Rattle.meaning.specs.declared.Refusal.{Refusal}
 use Rattle.meaning.specs.declared.Told.{Told}
-use Rattle.meaning.specs.declared.Verdict.{Verdict}
 use Rattle.meaning.specs.Description.{item_count, fields_at, is_dimension, is_table_named, table_given}
 use Rattle.meaning.specs.Layout.{data_order}
 use Rattle.meaning.specs.Refusals.{refused_with, told_by, verdict_reply, table_around, writable, place_start, place_length}
@@ -29,6 +26,7 @@ use Rattle.demands.specs.Given.{given, first_of}
 use Rattle.demands.specs.Replies.{Replies, outcome_by, alone}
 use Rattle.demands.specs.Rules.{CheckSays}
 use Rattle.demands.specs.Walk.{octet_before, runs_past, numbers_in}
+use Rattle.meaning.specs.Values.{Place, Chosen}
 
 -- 1 TO 9
 -- 8: image over 65,535 octets
@@ -64,8 +62,8 @@ table_item d (suc j) m k = if is_table_named (fields_at d j) m k then j else tab
 
 -- 14: the n octets at p hold one of a dimension: the later start lies before the earlier end
 unfoldable pub meets : (p n : ℕ) → Place → Bool
-meets p n (Place.At s l) = max p s.0 <? min (p + n) (s.0 + l)
-meets p n (Place.Refused r) = false
+meets p n (Ok e) = max p e.start.0 <? min (p + n) (e.start.0 + e.length)
+meets p n (Err r) = false
 
 unfoldable pub some_before : (n : ℕ) → (ℕ → Bool) → Bool
 some_before zero test = false
@@ -169,11 +167,11 @@ pub record Asked (R : Replies) (d img : List ℕ) (q : Question) : Type 0 where
 
 -- THE REPLIES THAT ARE OCTETS, where they are refused: a part of the image is empty, all cells of the matrix are 0, and of cells lent to be written none changes
 pub record NoOctets (R : Replies) (d img : List ℕ) : Type 0 where
-  pub table_part : (m k : ℕ) (r : Refusal) → R.table_place d img m k ≡ Place.Refused r → R.table_part d img m k ≡ []
-  pub element_part : (q : ElementName) (r : Refusal) → R.element_place d img q ≡ Place.Refused r → R.element_part d img q ≡ []
-  pub range_part : (m k : ℕ) (o : TableOffset) (n : ℕ) (r : Refusal) → R.read_range d img m k o n ≡ Place.Refused r → R.range_part d img m k o n ≡ []
-  pub matrix : (r : Refusal) → R.matrix_verdict d img ≡ Verdict.Refused r → R.matrix d img ≡ replicate 15 (replicate 22 0)
-  pub matrix_cells : (r : Refusal) → R.matrix_verdict d img ≡ Verdict.Refused r → (lent : List (List ℕ)) → R.matrix_cells d img lent ≡ lent
+  pub table_part : (m k : ℕ) (r : Refusal) → R.table_place d img m k ≡ Err r → R.table_part d img m k ≡ []
+  pub element_part : (q : ElementName) (r : Refusal) → R.element_place d img q ≡ Err r → R.element_part d img q ≡ []
+  pub range_part : (m k : ℕ) (o : TableOffset) (n : ℕ) (r : Refusal) → R.read_range d img m k o n ≡ Err r → R.range_part d img m k o n ≡ []
+  pub matrix : (r : Refusal) → R.matrix_verdict d img ≡ Err r → R.matrix d img ≡ replicate 15 (replicate 22 0)
+  pub matrix_cells : (r : Refusal) → R.matrix_verdict d img ≡ Err r → (lent : List (List ℕ)) → R.matrix_cells d img lent ≡ lent
 
 -- ALL OF IT
 pub record Demand1 (R : Replies) (d img : List ℕ) : Type 0 where

@@ -3,7 +3,7 @@
 -- place gives what was written, and every other octet is the same."
 -- Each clause is one named statement over any family of replies R. A table or an element exists only over a passed description and an image that lays out, so the statements
 -- need not assume them. proofs/Demand2.antt proves every statement here of our replies, for every description and image.
-use Rattle.std.specs.Prelude.{ℕ, ◌+◌, ◌^◌, ◌<◌, ◌≤◌, ◌≡◌, ◌⊎◌, true, false, List, length, get_or}
+use Rattle.std.specs.Prelude.{ℕ, ◌+◌, ◌^◌, ◌<◌, ◌≤◌, ◌≡◌, ◌⊎◌, true, false, List, length, get_or, Ok, Err}
 use Rattle.offsets.specs.declared.TableOffset.{TableOffset}
 use Rattle.meaning.specs.Basics.{part}
 use Rattle.meaning.specs.declared.Date.{Date}
@@ -12,8 +12,6 @@ use Rattle.meaning.specs.declared.Moment.{Moment}
 use Rattle.meaning.specs.declared.Quantity.{Quantity}
 use Rattle.meaning.specs.declared.Refusal.{Refusal}
 use Rattle.meaning.specs.declared.Triple.{Triple}
-use Rattle.meaning.specs.declared.Verdict.{Verdict}
-use Rattle.meaning.specs.declared.Reply.{Reply}
 use Rattle.meaning.specs.Description.{item_count, fields_at, is_table, is_uint, is_dimension, is_table_named}
 use Rattle.meaning.specs.Passed.{Exactly}
 use Rattle.meaning.specs.Layout.{data_order, number_at}
@@ -23,6 +21,8 @@ use Rattle.almanac.specs.Days.{Days}
 use Rattle.demands.specs.Calendar.{TierSays, SeasonedSays, MatrixSays, WeekdaysSay}
 use Rattle.demands.specs.Demand3.{Holds, InBody}
 use Rattle.demands.specs.Replies.{Replies, octets_at}
+use Rattle.meaning.specs.Values.{Verdict, passed}
+use Rattle.meaning.specs.declared.Answer.{Answer}
 
 -- NO DIMENSION OCTET IS TOUCHED by the n octets from p on: an element that holds one of them sets no slot
 abbrev pub NoDimension : Replies → (description image : List ℕ) → (p n : ℕ) → Type 0
@@ -76,30 +76,30 @@ pub record OthersSame (img later : List ℕ) (p n : ℕ) : Type 0 where
 
 -- A REFUSED CALL CHANGES NO OCTET
 abbrev pub Unchanged : Verdict → (image later : List ℕ) → Type 0
-Unchanged v img later = (r : Refusal) → v ≡ Verdict.Refused r → later ≡ img
+Unchanged v img later = (r : Refusal) → v ≡ Err r → later ≡ img
 
 -- WRITE A RANGE OF A TABLE
 pub record RangeWrites (R : Replies) (d img : List ℕ) (m k : ℕ) (o : TableOffset) (new : List ℕ) : Type 0 where
-  pub accepted : Exactly (R.write_range d img m k o new ≡ Verdict.Passed) (RangeGood R d img m k o.0 (length new))
-  pub read_back : R.write_range d img m k o new ≡ Verdict.Passed → part (R.table_part d (R.range_image d img m k o new) m k) o.0 (length new) ≡ new
-  pub others : (p n : ℕ) → R.write_range d img m k o new ≡ Verdict.Passed → R.table_place d img m k ≡ octets_at p n
+  pub accepted : Exactly (R.write_range d img m k o new ≡ passed) (RangeGood R d img m k o.0 (length new))
+  pub read_back : R.write_range d img m k o new ≡ passed → part (R.table_part d (R.range_image d img m k o new) m k) o.0 (length new) ≡ new
+  pub others : (p n : ℕ) → R.write_range d img m k o new ≡ passed → R.table_place d img m k ≡ octets_at p n
       → OthersSame img (R.range_image d img m k o new) (p + o.0) (length new)
   pub unchanged : Unchanged (R.write_range d img m k o new) img (R.range_image d img m k o new)
 
 -- WRITE AN ELEMENT'S OCTETS
 pub record OctetsWrites (R : Replies) (d img : List ℕ) (q : ElementName) (new : List ℕ) : Type 0 where
-  pub accepted : Exactly (R.write_octets d img q new ≡ Verdict.Passed) (OctetsGood R d img q (length new))
-  pub read_back : R.write_octets d img q new ≡ Verdict.Passed → R.element_part d (R.octets_image d img q new) q ≡ new
-  pub others : (p n : ℕ) → R.write_octets d img q new ≡ Verdict.Passed → R.element_place d img q ≡ octets_at p n → OthersSame img (R.octets_image d img q new) p n
+  pub accepted : Exactly (R.write_octets d img q new ≡ passed) (OctetsGood R d img q (length new))
+  pub read_back : R.write_octets d img q new ≡ passed → R.element_part d (R.octets_image d img q new) q ≡ new
+  pub others : (p n : ℕ) → R.write_octets d img q new ≡ passed → R.element_place d img q ≡ octets_at p n → OthersSame img (R.octets_image d img q new) p n
   pub unchanged : Unchanged (R.write_octets d img q new) img (R.octets_image d img q new)
 
 -- WRITE AN ELEMENT'S NUMBER. What is written are octets: lists of numbers stand for memory, so that has to be said
 pub record NumberWrites (R : Replies) (d img : List ℕ) (q : ElementName) (x : ℕ) : Type 0 where
-  pub accepted : Exactly (R.write_number d img q x ≡ Verdict.Passed) (NumberGood R d img q x)
-  pub read_back : R.write_number d img q x ≡ Verdict.Passed → R.element_number d (R.number_image d img q x) q ≡ Reply.Number x
-  pub octets : (p n : ℕ) → R.write_number d img q x ≡ Verdict.Passed → R.element_place d img q ≡ octets_at p n
+  pub accepted : Exactly (R.write_number d img q x ≡ passed) (NumberGood R d img q x)
+  pub read_back : R.write_number d img q x ≡ passed → R.element_number d (R.number_image d img q x) q ≡ Ok (Answer.Number x)
+  pub octets : (p n : ℕ) → R.write_number d img q x ≡ passed → R.element_place d img q ≡ octets_at p n
       → (y : ℕ) → p ≤ y → y < p + n → get_or (R.number_image d img q x) y 0 < 256
-  pub others : (p n : ℕ) → R.write_number d img q x ≡ Verdict.Passed → R.element_place d img q ≡ octets_at p n → OthersSame img (R.number_image d img q x) p n
+  pub others : (p n : ℕ) → R.write_number d img q x ≡ passed → R.element_place d img q ≡ octets_at p n → OthersSame img (R.number_image d img q x) p n
   pub unchanged : Unchanged (R.write_number d img q x) img (R.number_image d img q x)
 
 -- READS: the octets of the place that is told, of a range that lies in its table from the offset on, and of an integer the number that they make in the image's DATA_ORDER. On refusal see specs/Demand1
@@ -107,7 +107,7 @@ pub record Reads (R : Replies) (d img : List ℕ) : Type 0 where
   pub table : (m k p n : ℕ) → R.table_place d img m k ≡ octets_at p n → R.table_part d img m k ≡ part img p n
   pub element : (q : ElementName) (p n : ℕ) → R.element_place d img q ≡ octets_at p n → R.element_part d img q ≡ part img p n
   pub number : (q : ElementName) (p n : ℕ) → R.element_place d img q ≡ octets_at p n → is_uint (fields_at d q.item) ≡ true
-      → R.element_number d img q ≡ Reply.Number (number_at img p n)
+      → R.element_number d img q ≡ Ok (Answer.Number (number_at img p n))
   pub range : (m k p size : ℕ) (o : TableOffset) (n : ℕ) → R.table_place d img m k ≡ octets_at p size → o.0 + n ≤ size
       → R.read_range d img m k o n ≡ octets_at (p + o.0) n
   pub range_part : (m k : ℕ) (o : TableOffset) (n p l : ℕ) → R.read_range d img m k o n ≡ octets_at p l → R.range_part d img m k o n ≡ part img p l

@@ -3,12 +3,10 @@
 -- out, every octet below the total lies in exactly one element; after an accepted write every element stands where it stood."
 -- Each clause is one named statement over any family of replies R, by the rules in words (specs/Rules) and the walk in words (specs/Walk). proofs/Demand3.antt proves every
 -- statement here of our replies, for every description and image.
-use Rattle.std.specs.Prelude.{ℕ, zero, suc, ◌+◌, ◌<◌, ◌≤◌, ◌≡◌, ◌⊎◌, true, false, List, [], ◌∷◌, length, if◌then◌else◌}
+use Rattle.std.specs.Prelude.{ℕ, zero, suc, ◌+◌, ◌<◌, ◌≤◌, ◌≡◌, ◌⊎◌, true, false, List, [], ◌∷◌, length, if◌then◌else◌, Ok, Err}
 use Rattle.offsets.specs.declared.TableOffset.{TableOffset}
 use Rattle.meaning.specs.declared.ElementName.{ElementName}
 use Rattle.meaning.specs.Causes.{subscripts_of}
-use Rattle.meaning.specs.declared.Reply.{Reply}
-use Rattle.meaning.specs.declared.Verdict.{Verdict}
 use Rattle.meaning.specs.Description.{item_count, fields_at, is_table, is_table_named}
 use Rattle.meaning.specs.Passed.{Exactly, end_of}
 use Rattle.meaning.specs.Layout.{Placed, Seat, unread_dimension, bit_outside, unequal_elements, no_item, stopped_at, lay_out, leaf_octets, Numbers, value}
@@ -21,14 +19,16 @@ use Rattle.demands.specs.Causes.{CausesSay}
 use Rattle.demands.specs.Replies.{Replies, octets_at, alone}
 use Rattle.demands.specs.Rules.{MeetsRules}
 use Rattle.demands.specs.Walk.{octet_before, octets_in, numbers_in, runs_past, FirstPast, exists, way_to, Earlier}
+use Rattle.meaning.specs.Values.{passed}
+use Rattle.meaning.specs.declared.Answer.{Answer}
 
 -- A DESCRIPTION IS PASSED EXACTLY WHEN IT MEETS THE RULES
 abbrev pub PassedExactly : Replies → (description : List ℕ) → Type 0
-PassedExactly R d = Exactly (R.check d ≡ Verdict.Passed) (MeetsRules d)
+PassedExactly R d = Exactly (R.check d ≡ passed) (MeetsRules d)
 
 -- a passed description, and an image of at most 65,535 octets
 pub record Passed (R : Replies) (d img : List ℕ) : Type 0 where
-  pub passes : R.check d ≡ Verdict.Passed
+  pub passes : R.check d ≡ passed
   pub allowed : length img ≤ 65535
 
 -- IT NEVER MEETS A DIMENSION NOT YET READ, A BIT OUTSIDE ITS ELEMENT OR AN ARRAY OF UNEQUAL ELEMENTS, nor an item that has no place
@@ -41,19 +41,19 @@ pub record NoneMet (d img : List ℕ) : Type 0 where
 -- IT LAYS OUT, OR IS REFUSED AS SHORT
 pub record LaysOut (R : Replies) (d img : List ℕ) : Type 0 where
   pub total : ℕ
-  pub reply : R.layout d img ≡ Reply.Total total
+  pub reply : R.layout d img ≡ Ok (Answer.Total total)
 
 pub record IsShort (R : Replies) (d img : List ℕ) : Type 0 where
   pub item : ℕ
   pub octet : ℕ
-  pub reply : R.layout d img ≡ Reply.Refused (image_short item octet)
+  pub reply : R.layout d img ≡ Err (image_short item octet)
 
 abbrev pub LaysOrShort : Replies → (description image : List ℕ) → Type 0
 LaysOrShort R d img = LaysOut R d img ⊎ IsShort R d img
 
 -- SHORT EXACTLY WHERE THE WALK FIRST RUNS PAST THE END: at the first piece whose end is past the image
 abbrev pub ShortExactly : Replies → (description image : List ℕ) → Type 0
-ShortExactly R d img = (i p : ℕ) → Exactly (R.layout d img ≡ Reply.Refused (image_short i p)) (FirstPast d img i p)
+ShortExactly R d img = (i p : ℕ) → Exactly (R.layout d img ≡ Err (image_short i p)) (FirstPast d img i p)
 
 -- LAID OUT EXACTLY WHERE EVERY PIECE ENDS INSIDE THE IMAGE; the total is the end of the last, and so inside it
 pub record AllInside (d img : List ℕ) (total : ℕ) : Type 0 where
@@ -62,7 +62,7 @@ pub record AllInside (d img : List ℕ) (total : ℕ) : Type 0 where
   pub inside : total ≤ length img
 
 abbrev pub TotalExactly : Replies → (description image : List ℕ) → Type 0
-TotalExactly R d img = (total : ℕ) → Exactly (R.layout d img ≡ Reply.Total total) (AllInside d img total)
+TotalExactly R d img = (total : ℕ) → Exactly (R.layout d img ≡ Ok (Answer.Total total)) (AllInside d img total)
 
 -- WHERE A TABLE IS: from the end of the pieces before it to the end of its own
 pub record Seated (d img : List ℕ) (m k p n : ℕ) : Type 0 where
@@ -104,7 +104,7 @@ pub record ElementsStand (R : Replies) (d img : List ℕ) (total : ℕ) : Type 0
   pub one : (x : ℕ) → x < total → OneElement R d img x
   pub ends : (q : ElementName) (p n : ℕ) → R.element_place d img q ≡ octets_at p n → p + n ≤ total
   -- THE DIMENSIONS have the numbers that the number question answers
-  pub dimensions : (i : ℕ) → i < item_count d → 0 < (fields_at d i).sets → R.element_number d img (alone i) ≡ Reply.Number (numbers_in d img (fields_at d i).sets)
+  pub dimensions : (i : ℕ) → i < item_count d → 0 < (fields_at d i).sets → R.element_number d img (alone i) ≡ Ok (Answer.Number (numbers_in d img (fields_at d i).sets))
   -- each name that there is has an element, of its length
   pub there : (q : ElementName) → exists d (numbers_in d img) q ≡ true → (p : ℕ) × (R.element_place d img q ≡ octets_at p (length_in d (numbers_in d img) q.item))
   -- no other has, and the first cause is told; of a number too
@@ -162,8 +162,8 @@ pub record Demand3 (R : Replies) (d img : List ℕ) : Type 0 where
   pub lays_or_short : Passed R d img → LaysOrShort R d img
   pub short_exactly : Passed R d img → ShortExactly R d img
   pub total_exactly : Passed R d img → TotalExactly R d img
-  pub tables_stand : (total : ℕ) → R.layout d img ≡ Reply.Total total → TablesStand R d img
-  pub elements_stand : (total : ℕ) → R.layout d img ≡ Reply.Total total → ElementsStand R d img total
-  pub tables_follow : (total : ℕ) → R.layout d img ≡ Reply.Total total → TablesFollow R d img total
+  pub tables_stand : (total : ℕ) → R.layout d img ≡ Ok (Answer.Total total) → TablesStand R d img
+  pub elements_stand : (total : ℕ) → R.layout d img ≡ Ok (Answer.Total total) → ElementsStand R d img total
+  pub tables_follow : (total : ℕ) → R.layout d img ≡ Ok (Answer.Total total) → TablesFollow R d img total
   pub table_made_up : TableMadeUp R d img
   pub writes_stay_put : WritesStayPut R d img

@@ -6,12 +6,11 @@
 -- as 21, before any write is done; a reply read that has none of these forms is 43."
 -- Said of any family of messages M, over any family R of the tables' replies: octet by octet what a form is, then what is read, written and served by these forms. No message is made or
 -- taken apart here. proofs/Messages.antt proves it of ours, over our tables' replies, and proofs/OnlyMessages.antt that no other family meets it. Assumes nothing.
-use Rattle.std.specs.Prelude.{ℕ, ◌+◌, ◌-◌, ◌*◌, ◌%◌, ◌<◌, ◌≤◌, ◌≡◌, ◌⊎◌, Bool, true, not, ◌&&◌, ◌||◌, List, [], ◌∷◌, ◌++◌, map, length, get_or, take, if◌then◌else◌}
+use Rattle.std.specs.Prelude.{ℕ, ◌+◌, ◌-◌, ◌*◌, ◌%◌, ◌<◌, ◌≤◌, ◌≡◌, ◌⊎◌, Bool, true, not, ◌&&◌, ◌||◌, List, [], ◌∷◌, ◌++◌, map, length, get_or, take, if◌then◌else◌, Ok, Err}
 use Rattle.std.proofs.Math.Option.{Option, some, none}
 use Rattle.offsets.specs.declared.TableOffset.{TableOffset}
 use Rattle.meaning.specs.Basics.{◌=?◌, ◌<?◌, part}
 use Rattle.meaning.specs.declared.Refusal.{Refusal}
-use Rattle.meaning.specs.declared.Reply.{Reply}
 use Rattle.meaning.specs.Messages.{Request, full_read, offset_read, full_write, offset_write, RequestRead, is_request, not_request, MeterReply, holds, done, refuses, sum_of}
 use Rattle.meaning.specs.Numbers.{no_table, outside_table, no_room}
 use Rattle.meaning.specs.Passed.{Exactly}
@@ -22,6 +21,8 @@ use Rattle.demands.specs.Bench.{Messages}
 use Rattle.demands.specs.Given.{given, first_of}
 use Rattle.demands.specs.Demand2.{OthersSame}
 use Rattle.demands.specs.Replies.{Replies}
+use Rattle.meaning.specs.Values.{Reply}
+use Rattle.meaning.specs.declared.Answer.{Answer}
 
 -- OCTETS: lists of numbers stand for memory, so that it has to be said where they are octets
 abbrev pub Octets : List ℕ → Type 0
@@ -139,14 +140,14 @@ pub record ReadsReply (M : Messages) (xs : List ℕ) : Type 0 where
 
 -- WRITING INTO THE ROOM LENT. The message stands there: its length is replied, its octets come first, and every other octet of the room is the same
 pub record Stands (Form : List ℕ → Type 0) (long : ℕ) (new room : List ℕ) (reply : Reply) (later : List ℕ) : Type 0 where
-  pub total : reply ≡ Reply.Total long
+  pub total : reply ≡ Ok (Answer.Total long)
   pub form : Form (take long later)
   pub octets : Octets new → Octets (take long later)
   pub others : OthersSame room later 0 long
 
 -- or it is refused as 21, and no octet changes
 pub record NoRoom (room : List ℕ) (reply : Reply) (later : List ℕ) : Type 0 where
-  pub refused : reply ≡ Reply.Refused no_room
+  pub refused : reply ≡ Err no_room
   pub unchanged : later ≡ room
 
 -- which of them: each number fits its field, and the message the room; or not
@@ -166,9 +167,9 @@ WritesReply M a room = WrittenReply (ReplyFits a) a room (M.write_reply a room) 
 
 -- EACH UNDOES THE OTHER: what was written reads as what it was, whatever was in the room; what was read is written again octet for octet; and octets are one message only
 pub record EachUndoes {A : Type 0} (Form : List ℕ → A → Type 0) (Reads : List ℕ → A → Type 0) (write : A → List ℕ → Reply) (after : A → List ℕ → List ℕ) : Type 0 where
-  pub back : (a : A) (room : List ℕ) (n : ℕ) → write a room ≡ Reply.Total n → Reads (take n (after a room)) a
+  pub back : (a : A) (room : List ℕ) (n : ℕ) → write a room ≡ Ok (Answer.Total n) → Reads (take n (after a room)) a
   pub again : (xs : List ℕ) (a : A) (room : List ℕ) → Octets xs → Reads xs a → length xs ≤ length room
-      → (write a room ≡ Reply.Total (length xs)) × (take (length xs) (after a room) ≡ xs)
+      → (write a room ≡ Ok (Answer.Total (length xs))) × (take (length xs) (after a room) ≡ xs)
   pub one : (xs : List ℕ) (a b : A) → Form xs a → Form xs b → a ≡ b
 
 -- SERVING
@@ -233,8 +234,8 @@ pub record Serves (M : Messages) (R : Replies) (d img xs room : List ℕ) : Type
   pub image : List ℕ
   pub answers : Answers M R d img xs answer image
   pub written : WrittenReply (Unit {0}) answer room (M.serve d img xs room) (M.served_room d img xs room)
-  pub after : (n : ℕ) → M.serve d img xs room ≡ Reply.Total n → M.served_image d img xs room ≡ image
-  pub unchanged : M.serve d img xs room ≡ Reply.Refused no_room → M.served_image d img xs room ≡ img
+  pub after : (n : ℕ) → M.serve d img xs room ≡ Ok (Answer.Total n) → M.served_image d img xs room ≡ image
+  pub unchanged : M.serve d img xs room ≡ Err no_room → M.served_image d img xs room ≡ img
 
 -- ALL OF IT
 pub record MessagesSay (M : Messages) (R : Replies) : Type 0 where

@@ -6,16 +6,14 @@ use Rattle.offsets.specs.declared.TableOffset.{TableOffset}
 use Rattle.meaning.specs.declared.Date.{Date}
 use Rattle.meaning.specs.declared.ElementName.{ElementName}
 use Rattle.meaning.specs.declared.Moment.{Moment}
-use Rattle.meaning.specs.declared.Place.{Place}
 use Rattle.meaning.specs.declared.Quantity.{Quantity}
-use Rattle.meaning.specs.declared.Reply.{Reply}
-use Rattle.meaning.specs.declared.Verdict.{Verdict}
 use Rattle.meaning.specs.Description.{check_reply}
 use Rattle.meaning.specs.Refusals.{verdict_reply, place_reply, layout_reply, table_place_reply, element_place_reply, table_part_reply, element_part_reply, read_range_reply, read_range_part, element_number_reply}
 use Rattle.meaning.specs.Refusals.{write_range_reply, write_range_image, write_octets_reply, write_octets_image, write_number_reply, write_number_image}
 use Rattle.meaning.specs.Calendar.{tier_reply, seasoned_reply, weekday_reply, matrix_reply, matrix_verdict, cells_after}
 use Rattle.meaning.specs.Questions as ask
 use Rattle.meaning.specs.Questions.{Question, Outcome, outcome}
+use Rattle.meaning.specs.Values.{Verdict, Place, Reply, at}
 
 -- each reply, and of the writes and the matrix what is in the image and in the cells lent, afterwards
 pub record Replies : Type 0 where
@@ -87,7 +85,7 @@ outcome_by R (ask.weekday t) d img = outcome (R.weekday t) [] img
 
 -- A PLACE: n octets from octet p on
 abbrev pub octets_at : (p n : ℕ) → Place
-octets_at p n = Place.At (record { 0 = p }) n
+octets_at p n = at (record { 0 = p }) n
 
 -- the element of an item with no ARRAY round it
 abbrev pub alone : (item : ℕ) → ElementName

@@ -1,12 +1,12 @@
 -- THE RULES ON DESCRIPTIONS, as facts in the words of document 01, "Description items" and refusals 1 to 7. What an item's fields are is read from its octets by `fields_at` (crate
 -- meaning, specs/Description); all else is said here, by which items enclose which. proofs/Rules.antt proves `CheckSays` of our check, for every description. Assumes
 -- nothing.
-use Rattle.std.specs.Prelude.{ℕ, ◌+◌, ◌<◌, ◌≤◌, ◌≡◌, Bool, true, false, cond, List, if◌then◌else◌}
+use Rattle.std.specs.Prelude.{ℕ, ◌+◌, ◌<◌, ◌≤◌, ◌≡◌, Bool, true, false, cond, List, if◌then◌else◌, Err}
 use Rattle.meaning.specs.Basics.{◌=?◌, ◌<?◌}
-use Rattle.meaning.specs.declared.Verdict.{Verdict}
 use Rattle.meaning.specs.Description.{item_count, fields_at, is_table, nests, is_table_named}
 use Rattle.meaning.specs.Passed.{Exactly, LengthAllowed, end_of, SetEarlier}
 use Rattle.meaning.specs.Numbers.{description_length, breaks_rule}
+use Rattle.meaning.specs.Values.{Verdict, passed}
 
 infix 10 when◌holds◌otherwise◌
 -- WHAT ENCLOSES WHAT. Counts include nested items: item j encloses the items that follow it, as many as it counts
@@ -103,6 +103,6 @@ pub record FirstToBreak (d : List ℕ) (n i : ℕ) : Type 0 where
   pub broken : KeepsRule d n i → ⊥
 
 pub record CheckSays (d : List ℕ) (reply : Verdict) : Type 0 where
-  pub passed : Exactly (reply ≡ Verdict.Passed) (MeetsRules d)
-  pub length : Exactly (reply ≡ Verdict.Refused description_length) (LengthAllowed d → ⊥)
-  pub broken : (n i : ℕ) → 2 ≤ n → Exactly (reply ≡ Verdict.Refused (breaks_rule n i)) (FirstToBreak d n i)
+  pub passed : Exactly (reply ≡ passed) (MeetsRules d)
+  pub length : Exactly (reply ≡ Err description_length) (LengthAllowed d → ⊥)
+  pub broken : (n i : ℕ) → 2 ≤ n → Exactly (reply ≡ Err (breaks_rule n i)) (FirstToBreak d n i)

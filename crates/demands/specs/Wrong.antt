@@ -2,15 +2,12 @@
 -- replies or of messages that does what is said of it, on whatever description or image; the clause that refutes it is said of the example D and its first image, with what the
 -- clause leans on; of weekdays, which need no description and no image, it is the whole of `WeekdaysSay` and nothing besides. proofs/Wrong.antt proves 1 to 13,
 -- proofs/WrongMessages.antt 14 to 18, proofs/WrongWeekdays.antt 19 to 22, proofs/WrongCauses.antt 23 to 27. Assumes nothing.
-use Rattle.std.specs.Prelude.{ℕ, ◌+◌, ◌-◌, ◌*◌, ◌/◌, ◌%◌, ◌<◌, ◌≡◌, List, [], ◌∷◌, length, get_or}
+use Rattle.std.specs.Prelude.{ℕ, ◌+◌, ◌-◌, ◌*◌, ◌/◌, ◌%◌, ◌<◌, ◌≡◌, List, [], ◌∷◌, length, get_or, Ok, Err}
 use Rattle.offsets.specs.declared.TableOffset.{TableOffset}
 use Rattle.meaning.specs.declared.Date.{Date}
 use Rattle.meaning.specs.declared.ElementName.{ElementName}
 use Rattle.meaning.specs.declared.Moment.{Moment}
-use Rattle.meaning.specs.declared.Place.{Place}
 use Rattle.meaning.specs.declared.Quantity.{Quantity}
-use Rattle.meaning.specs.declared.Reply.{Reply}
-use Rattle.meaning.specs.declared.Verdict.{Verdict}
 use Rattle.meaning.specs.Careful.{with_subscripts, maze, two_by_two, none_outside}
 use Rattle.meaning.specs.Examples.{D, D_writable, first, plain, at, offset, clock, clock_image, moment, date}
 use Rattle.meaning.specs.Messages.{full_write, sum_of}
@@ -24,6 +21,8 @@ use Rattle.demands.specs.Demand3.{PassedExactly, Passed, TotalExactly, ElementsS
 use Rattle.demands.specs.Bench.{Messages}
 use Rattle.demands.specs.Messages.{ReadsRequest, WritesRequest, Serves}
 use Rattle.demands.specs.Replies.{Replies, ours, octets_at, alone}
+use Rattle.meaning.specs.Values.{Reply, passed}
+use Rattle.meaning.specs.declared.Answer.{Answer}
 
 -- a calendar of two seasons: from 1 January 2024 on season 1. Every day of season 0 has schedule 1, tier 0; every day of season 1 schedule 2, tier 2
 abbrev pub two_seasons : List ℕ
@@ -35,12 +34,12 @@ two_seasons =
 module _ (R : Replies) where
   -- D is passed, and then the clause on totals holds over every image
   pub record TotalsOfD : Type 0 where
-    pub passes : R.check D ≡ Verdict.Passed
+    pub passes : R.check D ≡ passed
     pub exactly : (img : List ℕ) → Passed R D img → TotalExactly R D img
 
   -- 1. A TEST THAT SAYS NO TO EVERYTHING breaks "a description is passed exactly when it meets the rules"
   pub record SaysNo : Type 0 where
-    pub no : (d : List ℕ) → R.check d ≡ Verdict.Passed → ⊥
+    pub no : (d : List ℕ) → R.check d ≡ passed → ⊥
 
   -- 2. ONE LAYOUT FOR ALL IMAGES breaks "the total is the end of the last piece"
   pub record OneLayout : Type 0 where
@@ -71,13 +70,13 @@ module _ (R : Replies) where
 
   -- 8. A TIER THAT IS ALWAYS 0 breaks "tier x is that of the latest switch"
   pub record AlwaysZero : Type 0 where
-    pub zero : (d img : List ℕ) (w : Moment) (q : Quantity) (x : ℕ) → R.tier d img w q ≡ Reply.Tier x → x ≡ 0
+    pub zero : (d img : List ℕ) (w : Moment) (q : Quantity) (x : ℕ) → R.tier d img w q ≡ Ok (Answer.Tier x) → x ≡ 0
 
   -- the tables' octets are those of a calendar, which can be had
   pub record CalendarRead (d img : List ℕ) : Type 0 where
     pub table51 : R.table_part d img 0 51 ≡ table_part_reply d img 0 51
     pub table54 : R.table_part d img 0 54 ≡ table_part_reply d img 0 54
-    pub had : R.matrix_verdict d img ≡ Verdict.Passed
+    pub had : R.matrix_verdict d img ≡ passed
     pub tier : (w : Moment) (q : Quantity)
         → TierSays (data_order img) (R.table_part d img 0 51) (R.table_part d img 0 54) (R.matrix_verdict d img) w q (R.tier d img w q)
     pub seasoned : (t : Date)
@@ -85,34 +84,34 @@ module _ (R : Replies) where
 
   -- 9. A WRITE THAT ASKS ONLY WHETHER THE TABLE IS WRITABLE, here Table 00 at its dimension of item 2, breaks "no dimension octet is touched"
   pub record WritesDimensions : Type 0 where
-    pub accepted : R.write_range D_writable first 0 0 (offset 1) (0 ∷ []) ≡ Verdict.Passed
+    pub accepted : R.write_range D_writable first 0 0 (offset 1) (0 ∷ []) ≡ passed
 
   -- 10. THE EARLIEST RECORD'S SEASON on a day before every season record breaks "season 0 where no season record stands at or before the day"
   pub record TakesEarliest : Type 0 where
-    pub tier : (q : Quantity) → R.tier (clock 15) two_seasons (moment 2023 12 31 0 0) q ≡ Reply.Tier 2
+    pub tier : (q : Quantity) → R.tier (clock 15) two_seasons (moment 2023 12 31 0 0) q ≡ Ok (Answer.Tier 2)
 
   -- 11. THE FIRST ROW OF THE MATRIX, WHATEVER THE SEASON, breaks "the season is that of the record chosen by that day"
   pub record FirstRow : Type 0 where
-    pub tier : (q : Quantity) → R.tier (clock 15) two_seasons (moment 2024 1 1 0 0) q ≡ Reply.Tier 0
+    pub tier : (q : Quantity) → R.tier (clock 15) two_seasons (moment 2024 1 1 0 0) q ≡ Ok (Answer.Tier 0)
 
   -- 12. A RECORD THAT STANDS ONLY FROM THE DAY AFTER ITS DATE breaks "yes exactly where one stands at or before the date"
   pub record FromTheNextDay : Type 0 where
-    pub none : R.seasoned (clock 12) clock_image (date 2024 1 1) ≡ Reply.No
+    pub none : R.seasoned (clock 12) clock_image (date 2024 1 1) ≡ Ok Answer.No
 
   -- 13. NEVER A NO breaks "no exactly where none stands"
   pub record NeverNo : Type 0 where
-    pub yes : (d img : List ℕ) (t : Date) → R.seasoned d img t ≡ Reply.No → ⊥
+    pub yes : (d img : List ℕ) (t : Date) → R.seasoned d img t ≡ Ok Answer.No → ⊥
 
 -- ALL OF THEM
 pub record WrongPrograms (R : Replies) : Type 0 where
   pub says_no : SaysNo R → PassedExactly R D → ⊥
   pub one_layout : OneLayout R → TotalsOfD R → ⊥
   pub not_walked : NotWalked R → TotalsOfD R → ⊥
-  pub writes_no_range : NeverWrites R → R.write_range D first 0 5 (offset 0) (1 ∷ 2 ∷ []) ≡ Verdict.Passed → R.table_place D first 0 5 ≡ octets_at 2 6
+  pub writes_no_range : NeverWrites R → R.write_range D first 0 5 (offset 0) (1 ∷ 2 ∷ []) ≡ passed → R.table_place D first 0 5 ≡ octets_at 2 6
       → Reads R D first → RangeWrites R D first 0 5 (offset 0) (1 ∷ 2 ∷ []) → ⊥
-  pub writes_no_octets : NeverWrites R → R.write_octets D first (alone 5) (1 ∷ 2 ∷ []) ≡ Verdict.Passed → R.element_place D first (alone 5) ≡ octets_at 2 2
+  pub writes_no_octets : NeverWrites R → R.write_octets D first (alone 5) (1 ∷ 2 ∷ []) ≡ passed → R.element_place D first (alone 5) ≡ octets_at 2 2
       → Reads R D first → OctetsWrites R D first (alone 5) (1 ∷ 2 ∷ []) → ⊥
-  pub writes_no_number : NeverWrites R → R.write_number D first (at 7 0) 1 ≡ Verdict.Passed → R.element_place D first (at 7 0) ≡ octets_at 4 2
+  pub writes_no_number : NeverWrites R → R.write_number D first (at 7 0) 1 ≡ passed → R.element_place D first (at 7 0) ≡ octets_at 4 2
       → Reads R D first → NumberWrites R D first (at 7 0) 1 → ⊥
   pub padded : Padded R → ElementsStand R D first 8 → ⊥
   pub stretched : Stretched R → ElementsStand R D first 8 → ⊥
@@ -150,12 +149,12 @@ module _ (M : Messages) where
 
   -- 14. A CHECK OCTET OVER COUNT AND DATA, so that all of these make a multiple of 256, breaks "the sum of the data octets"
   pub record ChecksCount : Type 0 where
-    pub octet : (id : ℕ) (new room : List ℕ) (n : ℕ) → M.write_request (full_write id new) room ≡ Reply.Total n
+    pub octet : (id : ℕ) (new room : List ℕ) (n : ℕ) → M.write_request (full_write id new) room ≡ Ok (Answer.Total n)
         → let later = M.request_room (full_write id new) room in (get_or later 3 0 + get_or later 4 0 + sum_of new + get_or later (5 + length new) 0) % 256 ≡ 0
 
   -- 15. A CHECK OCTET THAT IS THE SUM ITSELF breaks "is its two's complement"
   pub record NotNegated : Type 0 where
-    pub octet : (id : ℕ) (new room : List ℕ) (n : ℕ) → M.write_request (full_write id new) room ≡ Reply.Total n
+    pub octet : (id : ℕ) (new room : List ℕ) (n : ℕ) → M.write_request (full_write id new) room ≡ Ok (Answer.Total n)
         → get_or (M.request_room (full_write id new) room) (5 + length new) 0 ≡ sum_of new % 256
 
   -- 16. AN ID TAKEN MODULO 2,048, here 2,053 for 5, breaks "a manufacturer table's id is its number plus 2,048"
@@ -187,7 +186,7 @@ from_march t =
 module _ (R : Replies) where
   -- 19. MONTHS COUNTED FROM MARCH WITHOUT THE SHIFT OF THE YEAR breaks "1 January 2000 was a Saturday"
   pub record Unshifted : Type 0 where
-    pub told : (t : Date) → IsReal t → R.weekday t ≡ Reply.Weekday (from_march t)
+    pub told : (t : Date) → IsReal t → R.weekday t ≡ Ok (Answer.Weekday (from_march t))
 
   -- 20. ONE OFF AFTER FEBRUARY, where a leap year's 29 February has no day of its own, breaks "the day after has the weekday after"
   pub record OneOff : Type 0 where
@@ -195,11 +194,11 @@ module _ (R : Replies) where
 
   -- 21. 2000 TAKEN FOR A COMMON YEAR breaks "one of the seven" on every real date
   pub record CommonYear : Type 0 where
-    pub unreal : R.weekday (date 2000 2 29) ≡ Reply.Refused not_a_date
+    pub unreal : R.weekday (date 2000 2 29) ≡ Err not_a_date
 
   -- 22. A WEEK THAT STARTS WITH MONDAY AS 0, so that Sunday is 6, breaks what 19 does
   pub record MondayFirst : Type 0 where
-    pub five : R.weekday (date 2000 1 1) ≡ Reply.Weekday 5
+    pub five : R.weekday (date 2000 1 1) ≡ Ok (Answer.Weekday 5)
 
 -- ALL OF THEM
 pub record WrongWeekdays (R : Replies) : Type 0 where
@@ -212,23 +211,23 @@ pub record WrongWeekdays (R : Replies) : Type 0 where
 module _ (R : Replies) where
   -- 23. 24 BEFORE 26, where a number is asked of a BLOCK with no subscripts, breaks "the first cause in its order is told"
   pub record CountFirst : Type 0 where
-    pub told : R.element_number maze two_by_two (plain 8) ≡ Reply.Refused subscript_count
+    pub told : R.element_number maze two_by_two (plain 8) ≡ Err subscript_count
 
   -- 24. AN INNER SUBSCRIPT TOLD WHERE AN OUTER BRANCH ISN'T CHOSEN breaks "none outside it is in the way"
   pub record InnerFirst : Type 0 where
-    pub told : R.element_place maze two_by_two (with_subscripts 10 2 1 9) ≡ Place.Refused (subscript_too_large 1)
+    pub told : R.element_place maze two_by_two (with_subscripts 10 2 1 9) ≡ Err (subscript_too_large 1)
 
   -- 25. A DEPTH COUNTED FROM THE INSIDE, here of the outer array, breaks "its depth is how many ARRAYs stand outside"
   pub record FromInside : Type 0 where
-    pub told : R.element_place maze two_by_two (with_subscripts 7 2 2 0) ≡ Place.Refused (subscript_too_large 1)
+    pub told : R.element_place maze two_by_two (with_subscripts 7 2 2 0) ≡ Err (subscript_too_large 1)
 
   -- 26. A DEPTH THAT COUNTS CHOICES, here of the inner array, which stands in a choice, breaks the same
   pub record CountsChoices : Type 0 where
-    pub told : R.element_place maze two_by_two (with_subscripts 7 2 0 2) ≡ Place.Refused (subscript_too_large 2)
+    pub told : R.element_place maze two_by_two (with_subscripts 7 2 0 2) ≡ Err (subscript_too_large 2)
 
   -- 27. 23 FOR AN ARRAY OF COUNT 0 breaks "23 is told of a branch"
   pub record EmptyUnchosen : Type 0 where
-    pub told : R.element_place maze none_outside (with_subscripts 7 2 0 0) ≡ Place.Refused branch_not_chosen
+    pub told : R.element_place maze none_outside (with_subscripts 7 2 0 0) ≡ Err branch_not_chosen
 
 -- ALL OF THEM
 pub record WrongCauses (R : Replies) : Type 0 where

@@ -11,7 +11,6 @@ use borrow.Author.Tests.{lt-ltb}
 use native.Mathlib.Omega.{arith}
 use Rattle.meaning.specs.Basics.{◌<?◌}
 use Rattle.meaning.specs.declared.ElementName.{ElementName}
-use Rattle.meaning.specs.declared.Place.{Place}
 use Rattle.meaning.specs.declared.Refusal.{Refusal}
 use Rattle.meaning.specs.Causes.{suits, why_none}
 use Rattle.meaning.specs.Description.{item_count, fields_at, is_uint}
@@ -26,6 +25,7 @@ use Rattle.laying.proofs.Among.{Among, every_among, ElementOf, named_among, Seat
 use Rattle.laying.proofs.Cover.{EndsBy}
 use Rattle.laying.proofs.Opened.{Opens, Came, opens, refuses, came, for_laid, where_laid, ElementAt, where_opens, TableOf}
 use Rattle.laying.proofs.LaidOut.{elements_own, elements_end, tables_follow_lem}
+use Rattle.meaning.specs.Values.{at}
 
 -- each element laid out is of its item
 pub own : {d img : List ℕ} {ts : List Seat} {es : List Placed} {s : Slots} {total : ℕ} → Opens d img ts es s total
@@ -57,7 +57,7 @@ module _ {d img : List ℕ} {q : ElementName} {p n : ℕ} (a : ElementAt d img q
 
 -- AN ELEMENT WHOSE NUMBER IS ASKED is a UINT, where it is anyway
 -- found, it has a place, whatever the refusal else
-placed_same : (why other : Refusal) (x : Option Placed) (p n : ℕ) → placed_place why x ≡ Place.At (record { 0 = p }) n → placed_place other x ≡ Place.At (record { 0 = p }) n
+placed_same : (why other : Refusal) (x : Option Placed) (p n : ℕ) → placed_place why x ≡ at (record { 0 = p }) n → placed_place other x ≡ at (record { 0 = p }) n
 unfolding placed_place
 placed_same why other none p n e = clash (cc)
 placed_same why other (some x) p n e = e
@@ -76,20 +76,20 @@ module _ (d img : List ℕ) (q : ElementName) (number : Bool) (p n : ℕ) where
       go true e = rw (lt-ltb q.item (item_count d) l, h e)
       go false e = refl
 
-  pub for_exactly : Exactly (element_place_in number d q (open_image d img) ≡ Place.At (record { 0 = p }) n) (Integer × (element_place_reply d img q ≡ Place.At (record { 0 = p }) n))
+  pub for_exactly : Exactly (element_place_in number d q (open_image d img) ≡ at (record { 0 = p }) n) (Integer × (element_place_reply d img q ≡ at (record { 0 = p }) n))
   unfolding element_for placed_place element_place_reply element_place_in
   for_exactly = go (came d img)
     where
-      go : Came d img → Exactly (element_place_in number d q (open_image d img) ≡ Place.At (record { 0 = p }) n) (Integer × (element_place_reply d img q ≡ Place.At (record { 0 = p }) n))
+      go : Came d img → Exactly (element_place_in number d q (open_image d img) ≡ at (record { 0 = p }) n) (Integer × (element_place_reply d img q ≡ at (record { 0 = p }) n))
       go (refuses r h) = (λ e. clash (cc (ap (element_place_in number d q) h)), λ c. clash (cc (c.1, ap (element_place_in false d q) h)))
       go (opens ts es s m o) = (λ e. there (suits number d q) refl (sym (for_laid o number q) ∙ e), back)
         where
-          there : (b : Bool) → suits number d q ≡ b → placed_place (why_none number d (slot_numbers s) q) (if b then element_in q es else none) ≡ Place.At (record { 0 = p }) n
-              → Integer × (element_place_reply d img q ≡ Place.At (record { 0 = p }) n)
+          there : (b : Bool) → suits number d q ≡ b → placed_place (why_none number d (slot_numbers s) q) (if b then element_in q es else none) ≡ at (record { 0 = p }) n
+              → Integer × (element_place_reply d img q ≡ at (record { 0 = p }) n)
           there true h e = (suits_integer h, where_laid o q ∙ placed_same _ _ (element_in q es) p n e)
           there false h e = clash (cc)
 
-          back : Integer × (element_place_reply d img q ≡ Place.At (record { 0 = p }) n) → element_place_in number d q (open_image d img) ≡ Place.At (record { 0 = p }) n
+          back : Integer × (element_place_reply d img q ≡ at (record { 0 = p }) n) → element_place_in number d q (open_image d img) ≡ at (record { 0 = p }) n
           back c =
               let l = (element_own (where_opens d img q p n c.1)).there in
               for_laid o number q ∙ rw (integer_suits l c.0) (placed_same _ _ (element_in q es) p n (sym (where_laid o q) ∙ c.1))

@@ -1,6 +1,6 @@
 -- What the replies about an image mean: the description is passed, the image is allowed, and laying out comes to these tables and elements; or all of them
 -- are refused. From laying out each reply is computed. Assumes nothing.
-use Rattle.std.specs.Prelude.{if◌then◌else◌}
+use Rattle.std.specs.Prelude.{if◌then◌else◌, Ok, Err}
 use Prim.Native.Nat.{ℕ, ◌≤◌}
 use mathlib.Core.Path.{◌≡◌, refl, ◌∙◌, ap, subst, sym}
 use mathlib.Core.Bool.{Bool, true, false}
@@ -11,9 +11,6 @@ use borrow.Author.Tests.{ltb-false, le-ltb}
 use Rattle.meaning.specs.Basics.{◌<?◌, ◌≤?◌}
 use Rattle.meaning.specs.declared.ElementName.{ElementName}
 use Rattle.meaning.specs.declared.Refusal.{Refusal}
-use Rattle.meaning.specs.declared.Verdict.{Verdict}
-use Rattle.meaning.specs.declared.Reply.{Reply}
-use Rattle.meaning.specs.declared.Place.{Place}
 use Rattle.meaning.specs.Causes.{why_none}
 use Rattle.meaning.specs.Description.{check_reply}
 use Rattle.meaning.specs.Passed.{Passes}
@@ -24,6 +21,8 @@ use Rattle.meaning.specs.Numbers.{image_too_long, image_short}
 use Rattle.laying.specs.Outcomes.{Lays}
 use Rattle.laying.proofs.Reaches.{passed_lays}
 use Rattle.meaning.proofs.Either.{clash}
+use Rattle.meaning.specs.Values.{Verdict, passed, at}
+use Rattle.meaning.specs.declared.Answer.{Answer}
 
 -- THE IMAGE OPENED
 -- a passed description, an image of at most 65,535 octets, and the tables, elements, slots and total that laying out comes to
@@ -44,7 +43,7 @@ open_laid_lem d img p h = rw (p, le-ltb 65535 (length img) h)
 
 -- the image by cases: what is refused by the check, too long or short, and what opens
 pub opening : (d img : List ℕ) {A : Type 0}
-    → ((r : Refusal) → check_reply d ≡ Verdict.Refused r → open_image d img ≡ refused r → A)
+    → ((r : Refusal) → check_reply d ≡ Err r → open_image d img ≡ refused r → A)
     → (Passes d → (65535 <? length img) ≡ true → open_image d img ≡ refused image_too_long → A)
     → (Passes d → (65535 <? length img) ≡ false → (es : List Placed) (i p : ℕ) → lay_out d img ≡ stopped_at es (short i p) → open_image d img ≡ refused (image_short i p) → A)
     → ((ts : List Seat) (es : List Placed) (s : Slots) (n : ℕ) → Opens d img ts es s n → A) → A
@@ -52,11 +51,11 @@ unfolding open_image open_sound open_laid stop_refusal Lays
 opening d img {A} unsound long cut whole = go (check_reply d) refl (65535 <? length img) refl (lay_out d img) refl
   where
     go : (v : Verdict) → check_reply d ≡ v → (b : Bool) → (65535 <? length img) ≡ b → (o : Layout) → lay_out d img ≡ o → A
-    go (Verdict.Refused r) e b g o h = unsound r e (rw e)
-    go Verdict.Passed e true g o h = long e g (rw (e, g))
-    go Verdict.Passed e false g (laid_out ts es s n) h = whole ts es s n (record { passes = e; allowed = ltb-false 65535 (length img) g; laid = h })
-    go Verdict.Passed e false g (stopped_at es (short i p)) h = cut e g es i p h (rw (e, g, h))
-    go Verdict.Passed e false g (stopped_at es (fault x i)) h = absurd (subst Lays h (passed_lays d img e))
+    go (Err r) e b g o h = unsound r e (rw e)
+    go passed e true g o h = long e g (rw (e, g))
+    go passed e false g (laid_out ts es s n) h = whole ts es s n (record { passes = e; allowed = ltb-false 65535 (length img) g; laid = h })
+    go passed e false g (stopped_at es (short i p)) h = cut e g es i p h (rw (e, g, h))
+    go passed e false g (stopped_at es (fault x i)) h = absurd (subst Lays h (passed_lays d img e))
 
 -- what open_image comes to
 pub came : (d img : List ℕ) → Came d img
@@ -70,7 +69,7 @@ module _ {d img : List ℕ} {ts : List Seat} {es : List Placed} {s : Slots} {n :
   opened_image = open_laid_lem d img o.passes o.allowed ∙ rw o.laid
 
   -- the total
-  pub total_laid : layout_reply d img ≡ Reply.Total n
+  pub total_laid : layout_reply d img ≡ Ok (Answer.Total n)
   unfolding layout_reply layout_in
   total_laid = rw opened_image
 
@@ -97,7 +96,7 @@ pub record TotalOf (d img : List ℕ) (n : ℕ) : Type 0 where
   pub opens : Opens d img seats elements slots n
 
 -- a total is replied only where the image is opened
-pub total_opens : (d img : List ℕ) (n : ℕ) → layout_reply d img ≡ Reply.Total n → TotalOf d img n
+pub total_opens : (d img : List ℕ) (n : ℕ) → layout_reply d img ≡ Ok (Answer.Total n) → TotalOf d img n
 unfolding layout_reply layout_in
 total_opens d img n e = go (came d img)
   where
@@ -115,7 +114,7 @@ pub record FoundAt (o : Option Placed) (p n : ℕ) : Type 0 where
   pub size : element.size ≡ n
 
 -- where a place is replied, one was
-found_at : (why : Refusal) (o : Option Placed) (p n : ℕ) → placed_place why o ≡ Place.At (record { 0 = p }) n → FoundAt o p n
+found_at : (why : Refusal) (o : Option Placed) (p n : ℕ) → placed_place why o ≡ at (record { 0 = p }) n → FoundAt o p n
 unfolding placed_place
 found_at why none p n e = clash (cc)
 found_at why (some x) p n e = record { element = x; found = refl; start = ap place_start e; size = ap place_length e }
@@ -128,18 +127,18 @@ pub record SeatAt (o : Option Seat) (p n : ℕ) : Type 0 where
   pub size : seat.size ≡ n
 
 -- where a place is replied, one was
-seat_at : (o : Option Seat) (p n : ℕ) → seat_place o ≡ Place.At (record { 0 = p }) n → SeatAt o p n
+seat_at : (o : Option Seat) (p n : ℕ) → seat_place o ≡ at (record { 0 = p }) n → SeatAt o p n
 unfolding seat_place
 seat_at none p n e = clash (cc)
 seat_at (some t) p n e = record { seat = t; found = refl; start = ap place_start e; size = ap place_length e }
 
 -- of an opened image: the element whose place is replied, by its item and subscripts
 pub where_found : {d img : List ℕ} {ts : List Seat} {es : List Placed} {s : Slots} {total : ℕ} → Opens d img ts es s total → (q : ElementName) (p n : ℕ)
-    → element_place_reply d img q ≡ Place.At (record { 0 = p }) n → FoundAt (element_named q.item (take q.count q.subscripts) es) p n
+    → element_place_reply d img q ≡ at (record { 0 = p }) n → FoundAt (element_named q.item (take q.count q.subscripts) es) p n
 unfolding element_in placed_place
 where_found {d} {es = es} {s} o q p n e = go (q.count ≤? 4) (sym (where_laid o q) ∙ e)
   where
-    go : (b : Bool) → placed_place (why_none false d (slot_numbers s) q) (if b then element_named q.item (take q.count q.subscripts) es else none) ≡ Place.At (record { 0 = p }) n
+    go : (b : Bool) → placed_place (why_none false d (slot_numbers s) q) (if b then element_named q.item (take q.count q.subscripts) es else none) ≡ at (record { 0 = p }) n
         → FoundAt (element_named q.item (take q.count q.subscripts) es) p n
     go true h = found_at _ _ p n h
     go false h = clash (cc)
@@ -154,7 +153,7 @@ pub record TableOf (d img : List ℕ) (m k p n : ℕ) : Type 0 where
   pub at : SeatAt (table_named m k seats) p n
 
 -- a table's place is replied only where the image is opened and the table found
-pub table_opens : (d img : List ℕ) (m k p n : ℕ) → table_place_reply d img m k ≡ Place.At (record { 0 = p }) n → TableOf d img m k p n
+pub table_opens : (d img : List ℕ) (m k p n : ℕ) → table_place_reply d img m k ≡ at (record { 0 = p }) n → TableOf d img m k p n
 unfolding table_place_reply table_place_in
 table_opens d img m k p n e = go (came d img)
   where
@@ -172,7 +171,7 @@ pub record ElementAt (d img : List ℕ) (q : ElementName) (p n : ℕ) : Type 0 w
   pub at : FoundAt (element_named q.item (take q.count q.subscripts) elements) p n
 
 -- an element's place is replied only where the image is opened and the element found
-pub where_opens : (d img : List ℕ) (q : ElementName) (p n : ℕ) → element_place_reply d img q ≡ Place.At (record { 0 = p }) n → ElementAt d img q p n
+pub where_opens : (d img : List ℕ) (q : ElementName) (p n : ℕ) → element_place_reply d img q ≡ at (record { 0 = p }) n → ElementAt d img q p n
 unfolding element_place_reply element_place_in
 where_opens d img q p n e = go (came d img)
   where

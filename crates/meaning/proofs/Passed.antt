@@ -11,7 +11,6 @@ use borrow.Author.Count.{below_more}
 use borrow.Author.Tests.{eq-eqb, ne_eqb, ltb-true}
 use lib.Dec.{eqb}
 use Rattle.meaning.specs.declared.Refusal.{Refusal}
-use Rattle.meaning.specs.declared.Verdict.{Verdict}
 use Rattle.meaning.specs.Description.{item_count, fields_at, is_table, is_table_named, is_table00, count, round, breaks1, breaks2, breaks3, breaks4, breaks5, breaks6, breaks7, lowest_broken, rule_broken, check_reply}
 use Rattle.meaning.specs.Passed.{breaks, MeetsRules, FirstToBreak, Passes, OfRules, CheckSays, Keeps, PassedLaws}
 use Rattle.meaning.proofs.Rules.{round_none, keeps, length_allowed, sound_length, sound_passed, sound_refused}
@@ -19,6 +18,8 @@ use Rattle.meaning.proofs.Nesting.{upward, bodies_nest, shared, levels}
 use Rattle.meaning.proofs.Ranges.{fields_range}
 use Rattle.meaning.proofs.Given.{slot_given, setter, table_given_lem, named_swap}
 use Rattle.meaning.specs.Numbers.{description_length, breaks_rule}
+use Rattle.std.specs.Prelude.{Err}
+use Rattle.meaning.specs.Values.{Verdict, passed}
 
 -- THE RULE REPORTED: x is the lowest number of `from` to 7 for which q holds, 0 where it holds for none
 record Lowest (x : ℕ) (q : ℕ → Bool) (from : ℕ) : Type 0 where
@@ -84,7 +85,7 @@ module _ (d : List ℕ) where
   meets_passed : MeetsRules d → Passes d
   meets_passed m = sound_passed d m.allowed (λ j l. none_broken j (m.kept j l))
 
-  breaking_refused : (n i : ℕ) → FirstToBreak d n i → check_reply d ≡ Verdict.Refused (breaks_rule n i)
+  breaking_refused : (n i : ℕ) → FirstToBreak d n i → check_reply d ≡ Err (breaks_rule n i)
   breaking_refused n i f =
       let l = lowest_broken_lem n i f.broken f.lowest in
       sound_refused d i n f.allowed (λ j p. none_broken j (f.earlier j p)) l.0 f.there l.1
@@ -132,7 +133,7 @@ module _ (d : List ℕ) where
           s.1 s.2
 
   -- and since each has a reply of its own, the reply tells which
-  differ : {r : Refusal} → Passes d → check_reply d ≡ Verdict.Refused r → ⊥
+  differ : {r : Refusal} → Passes d → check_reply d ≡ Err r → ⊥
   differ p q = let z : ◌≡◌ {A = ℕ} 0 1 = cc in omega arith
 
   passed_meets : Said → Passes d → MeetsRules d
@@ -142,23 +143,23 @@ module _ (d : List ℕ) where
 
   -- told by its number and its item
   number_in : Verdict → ℕ
-  number_in Verdict.Passed = 0
-  number_in (Verdict.Refused r) = r.number
+  number_in passed = 0
+  number_in (Err r) = r.number
 
   item_in : Verdict → ℕ
-  item_in Verdict.Passed = 0
-  item_in (Verdict.Refused r) = r.item
+  item_in passed = 0
+  item_in (Err r) = r.item
 
-  same_number : {r s : Refusal} → check_reply d ≡ Verdict.Refused r → check_reply d ≡ Verdict.Refused s → r.number ≡ s.number
+  same_number : {r s : Refusal} → check_reply d ≡ Err r → check_reply d ≡ Err s → r.number ≡ s.number
   unfolding number_in
   same_number p q = ap number_in (sym p ∙ q)
 
-  refused_bad : Said → check_reply d ≡ Verdict.Refused description_length → breaks1 d ≡ true
+  refused_bad : Said → check_reply d ≡ Err description_length → breaks1 d ≡ true
   refused_bad (bad e) p = e
   refused_bad (meets m) p = absurd (differ (meets_passed m) p)
   refused_bad (breaking n i f a b) p = absurd (omega (arith, same_number p (breaking_refused n i f)))
 
-  refused_breaking : Said → (n i : ℕ) → 2 ≤ n → check_reply d ≡ Verdict.Refused (breaks_rule n i) → FirstToBreak d n i
+  refused_breaking : Said → (n i : ℕ) → 2 ≤ n → check_reply d ≡ Err (breaks_rule n i) → FirstToBreak d n i
   unfolding item_in
   refused_breaking (bad e) n i h p = absurd (omega (arith, same_number (sound_length d e) p))
   refused_breaking (meets m) n i h p = absurd (differ (meets_passed m) p)
@@ -166,7 +167,7 @@ module _ (d : List ℕ) where
       let q = breaking_refused m j f in
       rw (← same_number q p, ← ap item_in (sym q ∙ p)) f
 
-  refused_rules : Said → (r : Refusal) → check_reply d ≡ Verdict.Refused r → OfRules r
+  refused_rules : Said → (r : Refusal) → check_reply d ≡ Err r → OfRules r
   refused_rules (bad e) r p =
       let q = sound_length d e in
       let x : description_length ≡ r = cc in

@@ -13,10 +13,11 @@ use lib.Dec.{eqb, ltb}
 use lib.ListN.{length}
 use Rattle.meaning.specs.declared.Fields.{Fields}
 use Rattle.meaning.specs.declared.Round.{Round}
-use Rattle.meaning.specs.declared.Verdict.{Verdict}
 use Rattle.meaning.specs.Description.{item_count, fields_at, is_table, is_table_named, is_table00, is_data_order, is_dimension, nests, refers, inside, around, round, slot_octets, table_given, misplaced, breaks1, breaks2, breaks3, breaks4, breaks5, breaks6, breaks7, lowest_broken, rule_broken, first_broken, check_reply}
 use Rattle.meaning.specs.Passed.{Keeps, LengthAllowed}
 use Rattle.meaning.specs.Numbers.{description_length, breaks_rule}
+use Rattle.std.specs.Prelude.{Err}
+use Rattle.meaning.specs.Values.{passed}
 
 -- WHAT EARLIER ITEMS GAVE, before the first item and past one more
 pub slot_none : (d : List ℕ) (s : ℕ) → slot_octets d 0 s ≡ 0
@@ -120,21 +121,21 @@ keeps d f i r e =
 
 -- THE REPLY
 -- items that break no rule are passed
-pub first_passed : (d : List ℕ) (m i : ℕ) → ((j : ℕ) → i ≤ j → j < i + m → rule_broken d j ≡ 0) → first_broken d m i ≡ Verdict.Passed
+pub first_passed : (d : List ℕ) (m i : ℕ) → ((j : ℕ) → i ≤ j → j < i + m → rule_broken d j ≡ 0) → first_broken d m i ≡ passed
 unfolding first_broken
 first_passed d zero i h = refl
 first_passed d (suc m) i h = rw (h i (omega arith) (omega arith)) (first_passed d m (i + 1) (λ j p q. h j (omega arith) (omega arith)))
 
 -- of items the first that breaks a rule is reported
 pub first_refused : (d : List ℕ) (m i k n : ℕ) → i ≤ k → k < i + m → ((j : ℕ) → i ≤ j → j < k → rule_broken d j ≡ 0) → rule_broken d k ≡ n → (n ≡ 0 → ⊥)
-    → first_broken d m i ≡ Verdict.Refused (breaks_rule n k)
+    → first_broken d m i ≡ Err (breaks_rule n k)
 unfolding first_broken
 first_refused d zero i k n p q h e ne = absurd (omega arith)
 first_refused d (suc m) i k n p q h e ne =
     go (λ x. first_refused d m (i + 1) k n (omega arith) (omega arith) (λ j p q. h j (omega arith) q) e ne) (eq-or-lt_of_le p)
   where
-    go : (i < k → first_broken d m (i + 1) ≡ Verdict.Refused (breaks_rule n k)) → (i ≡ k) ⊎ (i < k)
-        → cond (eqb (rule_broken d i) 0) (first_broken d m (i + 1)) (Verdict.Refused (breaks_rule (rule_broken d i) i)) ≡ Verdict.Refused (breaks_rule n k)
+    go : (i < k → first_broken d m (i + 1) ≡ Err (breaks_rule n k)) → (i ≡ k) ⊎ (i < k)
+        → cond (eqb (rule_broken d i) 0) (first_broken d m (i + 1)) (Err (breaks_rule (rule_broken d i) i)) ≡ Err (breaks_rule n k)
     go rec (inl x) = rw (x, e, ne_eqb _ _ ne)
     go rec (inr x) = rw (h i (omega arith) x) (rec x)
 
@@ -148,17 +149,17 @@ length_allowed d e =
     record { some = omega arith; few = ltb-false _ _ b.1; whole = omega arith }
 
 -- a length that is not allowed is refused before any item is looked at
-pub sound_length : (d : List ℕ) → breaks1 d ≡ true → check_reply d ≡ Verdict.Refused description_length
+pub sound_length : (d : List ℕ) → breaks1 d ≡ true → check_reply d ≡ Err description_length
 unfolding check_reply
 sound_length d e = rw e
 
 -- a description whose items break no rule is passed
-pub sound_passed : (d : List ℕ) → breaks1 d ≡ false → ((j : ℕ) → j < item_count d → rule_broken d j ≡ 0) → check_reply d ≡ Verdict.Passed
+pub sound_passed : (d : List ℕ) → breaks1 d ≡ false → ((j : ℕ) → j < item_count d → rule_broken d j ≡ 0) → check_reply d ≡ passed
 unfolding check_reply
 sound_passed d e h = rw e (first_passed d (item_count d) 0 (λ j p q. h j (omega arith)))
 
 -- the first item that breaks a rule is reported, with the lowest that it breaks
 pub sound_refused : (d : List ℕ) (k n : ℕ) → breaks1 d ≡ false → ((j : ℕ) → j < k → rule_broken d j ≡ 0) → rule_broken d k ≡ n → k < item_count d → (n ≡ 0 → ⊥)
-    → check_reply d ≡ Verdict.Refused (breaks_rule n k)
+    → check_reply d ≡ Err (breaks_rule n k)
 unfolding check_reply
 sound_refused d k n e h b q ne = rw e (first_refused d (item_count d) 0 k n (omega arith) (omega arith) (λ j p q. h j q) b ne)

@@ -1,21 +1,19 @@
 -- THE CALENDAR: the section of that name in document 01, and E1 of document 02. Dates and weekdays; tables 51 and 54; season, special schedule, schedule and tier; the matrix.
 -- A table is here the list of its octets, however the description divides it. Assumes nothing.
-use Rattle.std.specs.Prelude.{ℕ, zero, suc, ◌+◌, ◌-◌, ◌*◌, ◌%◌, Bool, false, not, ◌&&◌, ◌||◌, List, [], ◌∷◌, length, get_or, if◌then◌else◌}
+use Rattle.std.specs.Prelude.{ℕ, zero, suc, ◌+◌, ◌-◌, ◌*◌, ◌%◌, Bool, false, not, ◌&&◌, ◌||◌, List, [], ◌∷◌, length, get_or, if◌then◌else◌, Ok, Err, Some, None}
 use Rattle.std.proofs.Math.Option.{Option, some, none}
 use Rattle.meaning.specs.Basics.{◌=?◌, ◌<?◌, ◌≤?◌, bits, flag, part, number_in, build}
-use Rattle.meaning.specs.declared.Chosen.{Chosen}
-use Rattle.meaning.specs.declared.Chosen.TheVariants.{Nothing, Entry}
 use Rattle.meaning.specs.declared.Controls.{Controls}
 use Rattle.meaning.specs.declared.Date.{Date}
 use Rattle.meaning.specs.declared.Moment.{Moment}
 use Rattle.meaning.specs.declared.Quantity.{Quantity}
 use Rattle.meaning.specs.declared.Refusal.{Refusal}
-use Rattle.meaning.specs.declared.Verdict.{Verdict}
-use Rattle.meaning.specs.declared.Reply.{Reply}
 use Rattle.meaning.specs.declared.Triple.{Triple}
 use Rattle.meaning.specs.Layout.{Seat, data_order, table_named}
 use Rattle.meaning.specs.Refusals.{Opened, opened, refused, open_image}
 use Rattle.meaning.specs.Numbers.{no_table, not_a_date, season_change_armed, no_row_or_column, not_a_calendar}
+use Rattle.meaning.specs.Values.{Verdict, Reply, Chosen, passed, entry}
+use Rattle.meaning.specs.declared.Answer.{Answer}
 
 -- DATES
 -- Gregorian: every fourth year, but of the hundreds only every fourth
@@ -104,17 +102,17 @@ triples o t at (suc n) = triple_at o t at ∷ triples o t (at + 3) n
 -- THE LATEST OF WHAT SOME RECORDS BRING, by the day or the minute from which it holds
 -- an earlier record's before a later one's: of equals, the later record
 unfoldable pub or_later : (earlier later : Chosen) → Chosen
-or_later Nothing b = b
-or_later (Entry w x) Nothing = Entry w x
-or_later (Entry w x) (Entry v y) = if w ≤? v then Entry v y else Entry w x
+or_later None b = b
+or_later (Some a) None = Some a
+or_later (Some a) (Some b) = if a.when ≤? b.when then Some b else Some a
 
 unfoldable pub latest : (brought : Triple → Chosen) → List Triple → Chosen
-latest f [] = Nothing
+latest f [] = None
 latest f (r ∷ rs) = or_later (f r) (latest f rs)
 
 -- something, where a condition holds
 abbrev pub entry_if : Bool → (when brings : ℕ) → Chosen
-entry_if b w x = if b then Entry w x else Nothing
+entry_if b w x = if b then entry w x else None
 
 -- DATES OF RECORDS. DATE: year bits 0..6, month 7..10, day 11..15
 -- years 0..89 are 2000 on, 90..99 are 1990 on; others are no years
@@ -152,8 +150,8 @@ season_on day dates = latest (season_entry day) dates
 
 -- document 02, E1: a day before every season record is in season 0
 unfoldable pub in_season : Chosen → ℕ
-in_season Nothing = 0
-in_season (Entry w s) = s
+in_season None = 0
+in_season (Some e) = e.brings
 
 -- and whether any season record with a real date stands at or before the day
 unfoldable pub season_stands : (day : ℕ) → List Triple → Bool
@@ -171,13 +169,13 @@ day_column c w = if c.weekdays then w else if w =? 6 then 0 else if w =? 0 then 
 
 -- special schedule k stands in column 7 + k or 3 + k
 unfoldable pub column_on : Controls → (day : ℕ) → Chosen → ℕ
-column_on c day Nothing = day_column c (weekday_of day)
-column_on c day (Entry w k) = day_columns c + k
+column_on c day None = day_column c (weekday_of day)
+column_on c day (Some e) = day_columns c + e.brings
 
 -- a season without a row, a special schedule without a column
 unfoldable pub missing_special : Controls → Chosen → Bool
-missing_special c Nothing = false
-missing_special c (Entry w k) = c.specials ≤? k
+missing_special c None = false
+missing_special c (Some e) = c.specials ≤? e.brings
 
 unfoldable pub cell_at : Controls → (table54 : List ℕ) → (row column : ℕ) → ℕ
 cell_at c t row column = get_or t (matrix_at c + row * row_width c + column) 0
@@ -205,8 +203,8 @@ switches_of o c t = triples o t (switches_at c) c.switches
 
 -- no such switch: "none yet today"
 unfoldable pub tier_from : Chosen → Reply
-tier_from Nothing = Reply.NoneYet
-tier_from (Entry w x) = Reply.Tier x
+tier_from None = Ok Answer.NoneYet
+tier_from (Some e) = Ok (Answer.Tier e.brings)
 
 -- the tier is that of the latest switch of that number at or before the time; of equal times, the later record
 unfoldable pub tier_by_schedule : (order : ℕ) → Controls → (table54 : List ℕ) → Quantity → (schedule minute : ℕ) → Reply
@@ -244,7 +242,7 @@ calendar d img = calendar_in img (open_image d img)
 -- 19: season or special schedule without a row or column; so too season 0 where there are no seasons
 unfoldable pub tier_on : (order : ℕ) → Controls → (table54 : List ℕ) → (day minute : ℕ) → Quantity → (special : Chosen) → (season : ℕ) → Reply
 tier_on o c t day m q x s =
-    if c.seasons ≤? s || missing_special c x then Reply.Refused no_row_or_column
+    if c.seasons ≤? s || missing_special c x then Err no_row_or_column
     else tier_by_schedule o c t q (cell_at c t s (column_on c day x)) m
 
 unfoldable pub tier_day : (order : ℕ) → Controls → (table54 : List ℕ) → (day minute : ℕ) → Quantity → Reply
@@ -252,10 +250,10 @@ tier_day o c t day m q = tier_on o c t day m q (special_on day (dates_of o c t))
 
 -- 16: not a real date, or not a time; 18: SEASON_CHNG_ARMED_FLAG set
 unfoldable pub tier_in : Moment → Quantity → Found → Reply
-tier_in w q (missing r) = Reply.Refused r
+tier_in w q (missing r) = Err r
 tier_in w q (found o c t) =
-    if not (real_date w.year w.month w.day && real_time w.hour w.minute) then Reply.Refused not_a_date
-    else if c.armed then Reply.Refused season_change_armed
+    if not (real_date w.year w.month w.day && real_time w.hour w.minute) then Err not_a_date
+    else if c.armed then Err season_change_armed
     else tier_day o c t (day_number w.year w.month w.day) (60 * w.hour + w.minute) q
 
 unfoldable pub tier_reply : (description image : List ℕ) → Moment → Quantity → Reply
@@ -263,11 +261,11 @@ tier_reply d img w q = tier_in w q (calendar d img)
 
 -- DOES ANY SEASON RECORD STAND AT OR BEFORE A DATE (document 02, E1): after 1 to 10 and 20 comes 16 alone
 unfoldable pub seasoned_in : Date → Found → Reply
-seasoned_in t (missing r) = Reply.Refused r
+seasoned_in t (missing r) = Err r
 seasoned_in t (found o c b) =
-    if not (real_date t.year t.month t.day) then Reply.Refused not_a_date
-    else if season_stands (day_number t.year t.month t.day) (dates_of o c b) then Reply.Yes
-    else Reply.No
+    if not (real_date t.year t.month t.day) then Err not_a_date
+    else if season_stands (day_number t.year t.month t.day) (dates_of o c b) then Ok Answer.Yes
+    else Ok Answer.No
 
 unfoldable pub seasoned_reply : (description image : List ℕ) → Date → Reply
 seasoned_reply d img t = seasoned_in t (calendar d img)
@@ -275,7 +273,7 @@ seasoned_reply d img t = seasoned_in t (calendar d img)
 -- THE WEEKDAY OF A DATE (document 02, E3), 0 for Sunday to 6 for Saturday; or 16 alone. It needs no table
 unfoldable pub weekday_reply : Date → Reply
 weekday_reply t =
-    if real_date t.year t.month t.day then Reply.Weekday (weekday_of (day_number t.year t.month t.day)) else Reply.Refused not_a_date
+    if real_date t.year t.month t.day then Ok (Answer.Weekday (weekday_of (day_number t.year t.month t.day))) else Err not_a_date
 
 -- THE MATRIX: fifteen rows of twenty-two; cells stand as in Table 54's rows, unused ones are 0
 unfoldable pub matrix_cell : Controls → (table54 : List ℕ) → (row column : ℕ) → ℕ
@@ -294,13 +292,13 @@ matrix_reply d img = matrix_in (calendar d img)
 
 -- by a separate question the refusal of the matrix: it needs no date, so 16 to 19 aren't given
 unfoldable pub matrix_verdict_in : Found → Verdict
-matrix_verdict_in (found o c t) = Verdict.Passed
-matrix_verdict_in (missing r) = Verdict.Refused r
+matrix_verdict_in (found o c t) = passed
+matrix_verdict_in (missing r) = Err r
 
 unfoldable pub matrix_verdict : (description image : List ℕ) → Verdict
 matrix_verdict d img = matrix_verdict_in (calendar d img)
 
 -- the cells lent to be written, afterwards: the matrix where it can be had; a refused call leaves them as they were
 unfoldable pub cells_after : Verdict → (matrix lent : List (List ℕ)) → List (List ℕ)
-cells_after Verdict.Passed matrix lent = matrix
-cells_after (Verdict.Refused r) matrix lent = lent
+cells_after passed matrix lent = matrix
+cells_after (Err r) matrix lent = lent

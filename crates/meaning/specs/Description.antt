@@ -1,12 +1,12 @@
 -- DESCRIPTION ITEMS: the section of that name in document 01, and its refusals 1 to 7.
 -- A description is a list of octets. The rules are said flat: item i breaks rule n, by what stands before it and what encloses it. Counts include nested
 -- items, so a body is an interval of item numbers, and whatever a rule asks of an item is a search over the items before it. Assumes nothing.
-use Rattle.std.specs.Prelude.{ℕ, zero, suc, ◌+◌, ◌*◌, ◌/◌, ◌%◌, Bool, false, not, ◌&&◌, ◌||◌, List, length, if◌then◌else◌}
+use Rattle.std.specs.Prelude.{ℕ, zero, suc, ◌+◌, ◌*◌, ◌/◌, ◌%◌, Bool, false, not, ◌&&◌, ◌||◌, List, length, if◌then◌else◌, Err}
 use Rattle.meaning.specs.Basics.{◌=?◌, ◌≤?◌, ◌<?◌, bits, part, most_first}
 use Rattle.meaning.specs.declared.Fields.{Fields}
 use Rattle.meaning.specs.declared.Round.{Round}
-use Rattle.meaning.specs.declared.Verdict.{Verdict}
 use Rattle.meaning.specs.Numbers.{description_length, breaks_rule}
+use Rattle.meaning.specs.Values.{Verdict, passed}
 
 -- ITEMS
 -- items of 4 octets
@@ -232,9 +232,9 @@ breaks1 d = length d =? 0 || 2048 <? length d || 0 <? length d % 4
 
 -- of n items from item i on, the first that breaks a rule is reported
 unfoldable pub first_broken : (description : List ℕ) → (n i : ℕ) → Verdict
-first_broken d zero i = Verdict.Passed
+first_broken d zero i = passed
 first_broken d (suc n) i =
-    if rule_broken d i =? 0 then first_broken d n (i + 1) else Verdict.Refused (breaks_rule (rule_broken d i) i)
+    if rule_broken d i =? 0 then first_broken d n (i + 1) else Err (breaks_rule (rule_broken d i) i)
 
 unfoldable pub check_reply : (description : List ℕ) → Verdict
-check_reply d = if breaks1 d then Verdict.Refused description_length else first_broken d (item_count d) 0
+check_reply d = if breaks1 d then Err description_length else first_broken d (item_count d) 0

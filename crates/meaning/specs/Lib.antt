@@ -1,4 +1,5 @@
 pub mod Basics
+pub mod Values
 pub mod Numbers
 pub mod Description
 pub mod Ranges

@@ -2,21 +2,20 @@
 -- All numbers stand most significant octet first. What a table holds and whether it may be written is not said anew: a request asks one of the tables' questions
 -- (specs/Questions). Assumes nothing. Wrong answers that this rules out: a check octet over the count too, or not negated; an id taken modulo 2,048; a write made
 -- whose reply doesn't fit; 13 told where a full write's count is wrong.
-use Rattle.std.specs.Prelude.{ℕ, ◌+◌, ◌-◌, ◌/◌, ◌%◌, Bool, true, false, not, ◌&&◌, List, [], ◌∷◌, ◌++◌, length, get_or, if◌then◌else◌}
+use Rattle.std.specs.Prelude.{ℕ, ◌+◌, ◌-◌, ◌/◌, ◌%◌, Bool, true, false, not, ◌&&◌, List, [], ◌∷◌, ◌++◌, length, get_or, if◌then◌else◌, Ok, Err, Result}
 use Rattle.std.proofs.Math.Option.{Option, some, none}
 use Rattle.meaning.specs.Basics.{◌=?◌, ◌≤?◌, part, splice, most_first, octets_in}
 use Rattle.meaning.specs.declared.Heard.{Heard}
-use Rattle.meaning.specs.declared.Place.{Place}
 use Rattle.meaning.specs.declared.Refusal.{Refusal}
-use Rattle.meaning.specs.declared.Reply.{Reply}
 use Rattle.meaning.specs.declared.ReplyTold.{ReplyTold}
 use Rattle.meaning.specs.declared.Requested.{Requested}
 use Rattle.meaning.specs.declared.RequestTold.{RequestTold}
-use Rattle.meaning.specs.declared.Verdict.{Verdict}
 use Rattle.meaning.specs.Refusals.{verdict_reply, table_place_reply, write_range_reply, write_range_image}
 use Rattle.meaning.specs.Questions as ask
 use Rattle.meaning.specs.Questions.{Outcome, outcome, outcome_of, refusal_in}
 use Rattle.meaning.specs.Numbers.{nothing_refused, outside_table, no_room, not_a_reply}
+use Rattle.meaning.specs.Values.{Verdict, Place, Reply, at}
+use Rattle.meaning.specs.declared.Answer.{Answer}
 
 -- FIELDS
 -- a number in n octets
@@ -87,12 +86,12 @@ unfoldable pub request_in : List ℕ → RequestRead
 request_in xs = if length xs =? 0 then not_request 1 else request_by (get_or xs 0 0) xs
 
 -- as the code has it: of data, how many
-unfoldable pub requested_by : RequestRead → Requested
-requested_by (not_request c) = Requested.Refused c
-requested_by (is_request (full_read id)) = Requested.FullRead id
-requested_by (is_request (offset_read id o n)) = Requested.OffsetRead id o n
-requested_by (is_request (full_write id new)) = Requested.FullWrite id (length new)
-requested_by (is_request (offset_write id o new)) = Requested.OffsetWrite id o (length new)
+unfoldable pub requested_by : RequestRead → Result Requested ℕ
+requested_by (not_request c) = Err c
+requested_by (is_request (full_read id)) = Ok (Requested.FullRead id)
+requested_by (is_request (offset_read id o n)) = Ok (Requested.OffsetRead id o n)
+requested_by (is_request (full_write id new)) = Ok (Requested.FullWrite id (length new))
+requested_by (is_request (offset_write id o new)) = Ok (Requested.OffsetWrite id o (length new))
 
 -- its data; none but in a write
 unfoldable pub request_data : RequestRead → List ℕ
@@ -129,11 +128,11 @@ reply_in xs =
     else none
 
 -- as the code has it: of data, how many
-unfoldable pub heard_by : Option MeterReply → Heard
-heard_by none = Heard.NoReply
-heard_by (some (holds xs)) = Heard.Data (length xs)
-heard_by (some done) = Heard.Done
-heard_by (some (refuses c)) = Heard.Refused c
+unfoldable pub heard_by : Option MeterReply → Result Heard Refusal
+heard_by none = Err not_a_reply
+heard_by (some (holds xs)) = Ok (Heard.Data (length xs))
+heard_by (some done) = Ok Heard.Done
+heard_by (some (refuses c)) = Ok (Heard.Refused c)
 
 -- its data; none but in the reply to a read
 unfoldable pub reply_data : Option MeterReply → List ℕ
@@ -147,7 +146,7 @@ unfoldable pub sent : (fits : Bool) → (octets room : List ℕ) → Bool
 sent fits xs room = fits && length xs ≤? length room
 
 unfoldable pub sent_reply : (fits : Bool) → (octets room : List ℕ) → Reply
-sent_reply fits xs room = if sent fits xs room then Reply.Total (length xs) else Reply.Refused no_room
+sent_reply fits xs room = if sent fits xs room then Ok (Answer.Total (length xs)) else Err no_room
 
 unfoldable pub sent_room : (fits : Bool) → (octets room : List ℕ) → List ℕ
 sent_room fits xs room = if sent fits xs room then splice room 0 xs else room
@@ -175,12 +174,12 @@ number_of id = id % 2048
 
 -- "a full write's count other than the table's size is the tables' 12"; else it is a write of the range from offset 0 on
 unfoldable pub other_size : (n : ℕ) → Place → Bool
-other_size n (Place.At p size) = not (n =? size)
-other_size n (Place.Refused r) = false
+other_size n (Ok e) = not (n =? e.length)
+other_size n (Err r) = false
 
 unfoldable pub write_table_reply : (description image : List ℕ) → (manufacturer number : ℕ) → (new : List ℕ) → Verdict
 write_table_reply d img m k new =
-    if other_size (length new) (table_place_reply d img m k) then Verdict.Refused outside_table else write_range_reply d img m k (record { 0 = 0 }) new
+    if other_size (length new) (table_place_reply d img m k) then Err outside_table else write_range_reply d img m k (record { 0 = 0 }) new
 
 unfoldable pub write_table_image : (description image : List ℕ) → (manufacturer number : ℕ) → (new : List ℕ) → List ℕ
 write_table_image d img m k new = if other_size (length new) (table_place_reply d img m k) then img else write_range_image d img m k (record { 0 = 0 }) new
@@ -229,18 +228,18 @@ serve_image d img xs room =
 
 -- BY NUMBERS, as C and lines of text have them
 -- what was read: 0 for what a form lacks, and for all but the octet that refuses where it is none
-unfoldable pub request_told : Requested → RequestTold
-request_told (Requested.Refused c) = record { code = c; kind = 0; id = 0; offset = 0; count = 0; start = 0 }
-request_told (Requested.FullRead id) = record { code = 0; kind = 0x30; id = id; offset = 0; count = 0; start = 0 }
-request_told (Requested.OffsetRead id o n) = record { code = 0; kind = 0x3F; id = id; offset = o; count = n; start = 0 }
-request_told (Requested.FullWrite id n) = record { code = 0; kind = 0x40; id = id; offset = 0; count = n; start = 5 }
-request_told (Requested.OffsetWrite id o n) = record { code = 0; kind = 0x4F; id = id; offset = o; count = n; start = 8 }
+unfoldable pub request_told : Result Requested ℕ → RequestTold
+request_told (Err c) = record { code = c; kind = 0; id = 0; offset = 0; count = 0; start = 0 }
+request_told (Ok (Requested.FullRead id)) = record { code = 0; kind = 0x30; id = id; offset = 0; count = 0; start = 0 }
+request_told (Ok (Requested.OffsetRead id o n)) = record { code = 0; kind = 0x3F; id = id; offset = o; count = n; start = 0 }
+request_told (Ok (Requested.FullWrite id n)) = record { code = 0; kind = 0x40; id = id; offset = 0; count = n; start = 5 }
+request_told (Ok (Requested.OffsetWrite id o n)) = record { code = 0; kind = 0x4F; id = id; offset = o; count = n; start = 8 }
 
-unfoldable pub reply_told : Heard → ReplyTold
-reply_told (Heard.Data n) = record { refusal = nothing_refused; kind = 1; code = 0; count = n; start = 3 }
-reply_told Heard.Done = record { refusal = nothing_refused; kind = 2; code = 0; count = 0; start = 0 }
-reply_told (Heard.Refused c) = record { refusal = nothing_refused; kind = 3; code = c; count = 0; start = 0 }
-reply_told Heard.NoReply = record { refusal = not_a_reply; kind = 0; code = 0; count = 0; start = 0 }
+unfoldable pub reply_told : Result Heard Refusal → ReplyTold
+reply_told (Ok (Heard.Data n)) = record { refusal = nothing_refused; kind = 1; code = 0; count = n; start = 3 }
+reply_told (Ok Heard.Done) = record { refusal = nothing_refused; kind = 2; code = 0; count = 0; start = 0 }
+reply_told (Ok (Heard.Refused c)) = record { refusal = nothing_refused; kind = 3; code = c; count = 0; start = 0 }
+reply_told (Err r) = record { refusal = r; kind = 0; code = 0; count = 0; start = 0 }
 
 -- what is to be written. A request's kind is its first octet; none where there is no such kind. What a form lacks isn't judged
 unfoldable pub request_of : (kind id offset count : ℕ) → (new : List ℕ) → Option Request
@@ -262,7 +261,7 @@ reply_of kind code new =
 -- what they come to in the room; where there is no such kind, 21 as for any number that doesn't fit its field
 unfoldable pub request_sent : Option Request → (room : List ℕ) → Reply
 request_sent (some q) room = write_request_reply q room
-request_sent none room = Reply.Refused no_room
+request_sent none room = Err no_room
 
 unfoldable pub request_room : Option Request → (room : List ℕ) → List ℕ
 request_room (some q) room = write_request_room q room
@@ -270,7 +269,7 @@ request_room none room = room
 
 unfoldable pub reply_sent : Option MeterReply → (room : List ℕ) → Reply
 reply_sent (some a) room = write_reply_reply a room
-reply_sent none room = Reply.Refused no_room
+reply_sent none room = Err no_room
 
 unfoldable pub reply_room : Option MeterReply → (room : List ℕ) → List ℕ
 reply_room (some a) room = write_reply_room a room

@@ -1,13 +1,13 @@
 -- WHAT A PASSED DESCRIPTION IS: that the reply says what the rules say, and what follows of a description that is passed, in document 01's words.
 -- Statements only; proofs/Passed.antt proves each for every description. Assumes nothing.
-use Rattle.std.specs.Prelude.{ℕ, ◌+◌, ◌*◌, ◌%◌, ◌<◌, ◌≤◌, ◌≡◌, ◌⊎◌, Bool, true, false, not, List, length, if◌then◌else◌}
+use Rattle.std.specs.Prelude.{ℕ, ◌+◌, ◌*◌, ◌%◌, ◌<◌, ◌≤◌, ◌≡◌, ◌⊎◌, Bool, true, false, not, List, length, if◌then◌else◌, Err}
 use Rattle.meaning.specs.declared.Fields.{Fields}
 use Rattle.meaning.specs.declared.Round.{Round}
 use Rattle.meaning.specs.declared.Refusal.{Refusal}
-use Rattle.meaning.specs.declared.Verdict.{Verdict}
 use Rattle.meaning.specs.Basics.{◌=?◌}
 use Rattle.meaning.specs.Description.{item_count, fields_at, is_table, nests, is_table_named, count, round, slot_octets, table_given, breaks1, breaks2, breaks3, breaks4, breaks5, breaks6, breaks7, is_table00, is_data_order, check_reply}
 use Rattle.meaning.specs.Numbers.{description_length, breaks_rule}
+use Rattle.meaning.specs.Values.{passed}
 
 abbrev pub Exactly : Type 0 → Type 0 → Type 0
 Exactly A B = (A → B) × (B → A)
@@ -44,7 +44,7 @@ pub record FirstToBreak (d : List ℕ) (n i : ℕ) : Type 0 where
   pub lowest : (m : ℕ) → m < n → breaks d m i ≡ false
 
 abbrev pub Passes : List ℕ → Type 0
-Passes d = check_reply d ≡ Verdict.Passed
+Passes d = check_reply d ≡ passed
 
 -- the refusals that the rules give
 abbrev pub OfRules : Refusal → Type 0
@@ -54,9 +54,9 @@ OfRules r = (r ≡ description_length) ⊎ ((2 ≤ r.number) × (r.number ≤ 7)
 -- item that breaks one and its lowest; nothing else is replied
 pub record CheckSays (d : List ℕ) : Type 0 where
   pub passed : Exactly (Passes d) (MeetsRules d)
-  pub description_length : Exactly (check_reply d ≡ Verdict.Refused description_length) (breaks1 d ≡ true)
-  pub broken : (n i : ℕ) → 2 ≤ n → Exactly (check_reply d ≡ Verdict.Refused (breaks_rule n i)) (FirstToBreak d n i)
-  pub nothing_else : (r : Refusal) → check_reply d ≡ Verdict.Refused r → OfRules r
+  pub description_length : Exactly (check_reply d ≡ Err description_length) (breaks1 d ≡ true)
+  pub broken : (n i : ℕ) → 2 ≤ n → Exactly (check_reply d ≡ Err (breaks_rule n i)) (FirstToBreak d n i)
+  pub nothing_else : (r : Refusal) → check_reply d ≡ Err r → OfRules r
 
 -- AN ITEM THAT BREAKS NO RULE: item i, which is f with r round it; the rules as facts
 pub record Keeps (d : List ℕ) (f : Fields) (i : ℕ) (r : Round) : Type 0 where

@@ -1,7 +1,7 @@
 -- THE QUESTIONS: the list of "What the tool holds" in document 01 and those that document 02 adds, a case each, with all that is asked and lent beside description and image; and what each
 -- comes to: its reply, the octets that it tells, and the image afterwards. The callers that know numbers and octets alone, C and lines of text, state their replies by
 -- these. Assumes nothing.
-use Rattle.std.specs.Prelude.{ℕ}
+use Rattle.std.specs.Prelude.{ℕ, Ok, Err}
 use mathlib.Core.List.{List, [], flatten}
 use Rattle.std.proofs.Math.Option.{Option, some, none}
 use Rattle.offsets.specs.declared.TableOffset.{TableOffset}
@@ -10,12 +10,13 @@ use Rattle.meaning.specs.declared.Date.{Date}
 use Rattle.meaning.specs.declared.Moment.{Moment}
 use Rattle.meaning.specs.declared.Quantity.{Quantity}
 use Rattle.meaning.specs.declared.Refusal.{Refusal}
-use Rattle.meaning.specs.declared.Reply.{Reply}
 use Rattle.meaning.specs.declared.Told.{Told}
 use Rattle.meaning.specs.Description.{check_reply}
 use Rattle.meaning.specs.Refusals.{told_by, verdict_reply, place_reply, layout_reply, table_place_reply, element_place_reply, table_part_reply, element_part_reply, read_range_reply, read_range_part, element_number_reply}
 use Rattle.meaning.specs.Refusals.{write_range_reply, write_range_image, write_octets_reply, write_octets_image, write_number_reply, write_number_image}
 use Rattle.meaning.specs.Calendar.{tier_reply, seasoned_reply, weekday_reply, matrix_reply, matrix_verdict}
+use Rattle.meaning.specs.Values.{Reply}
+use Rattle.meaning.specs.declared.Answer.{Answer}
 
 pub data Question : Type 0 where
   -- is this description sound
@@ -84,16 +85,8 @@ image_after q d img = (outcome_of q d img).image
 
 -- THE REFUSAL IN A REPLY, none where the question is answered
 unfoldable pub refusal_in : Reply → Option Refusal
-refusal_in (Reply.Refused r) = some r
-refusal_in Reply.Passed = none
-refusal_in (Reply.Total n) = none
-refusal_in (Reply.At p n) = none
-refusal_in (Reply.Number x) = none
-refusal_in (Reply.Tier t) = none
-refusal_in Reply.NoneYet = none
-refusal_in Reply.Yes = none
-refusal_in Reply.No = none
-refusal_in (Reply.Weekday w) = none
+refusal_in (Err r) = some r
+refusal_in (Ok a) = none
 
 unfoldable pub refusal_to : Question → (description image : List ℕ) → Option Refusal
 refusal_to q d img = refusal_in (reply_to q d img)

@@ -1,9 +1,8 @@
 -- The three outcomes that a passed description never meets are possible: for each, a description that isn't passed and an image that meet it.
 -- proofs/Unpassed.antt proves the three statements.
-use Rattle.std.specs.Prelude.{ℕ, ◌≡◌, List}
+use Rattle.std.specs.Prelude.{ℕ, ◌≡◌, List, Err}
 use Rattle.std.proofs.Math.Option.{Option, some, none}
 use Rattle.meaning.specs.declared.Refusal.{Refusal}
-use Rattle.meaning.specs.declared.Verdict.{Verdict}
 use Rattle.meaning.specs.Description.{check_reply}
 use Rattle.meaning.specs.Layout.{Layout, laid_out, stopped_at, Stop, unread_dimension, bit_outside, unequal_elements, lay_out}
 
@@ -18,7 +17,7 @@ pub record Met (outcome : ℕ → Stop) : Type 0 where
   pub image : List ℕ
   pub refusal : Refusal
   pub item : ℕ
-  pub not_passed : check_reply description ≡ Verdict.Refused refusal
+  pub not_passed : check_reply description ≡ Err refusal
   pub stops : stop_of (lay_out description image) ≡ some (outcome item)
 
 -- a reference to a dimension not read yet

@@ -97,12 +97,15 @@ pub struct Triple {
     pub octet: u32,
 }
 
-// What a record of Table 54 brings: nothing, or something from a day or a minute on.
+// What a record of Table 54 brings, and the day or the minute from which it holds.
 #[derive(Clone, Copy)]
-pub enum Chosen {
-    Nothing,
-    Entry { when: u32, brings: u32 },
+pub struct Entry {
+    pub when: u32,
+    pub brings: u32,
 }
+
+// A record may bring nothing.
+pub type Chosen = Option<Entry>;
 
 // Why a question is refused: the number of document 01 or 02, and what it reports, an item, an octet and a subscript's depth, each 0 where it reports none. C has this very struct. The numbers that
 // report nothing have their names here; specs/Numbers.antt has the same names, for the definitions.
@@ -245,29 +248,27 @@ impl Refusal {
 }
 
 // Whether a description is sound, a write is accepted, the matrix can be had.
+pub type Verdict = Result<(), Refusal>;
+
+// Where octets stand in the image, and how many.
 #[derive(Clone, Copy)]
-pub enum Verdict {
-    Passed,
-    Refused(Refusal),
+pub struct Extent {
+    pub start: ImageOffset,
+    pub length: usize,
 }
 
 // Where a table or an element is, and how long.
-#[derive(Clone, Copy)]
-pub enum Place {
-    At { start: ImageOffset, length: usize },
-    Refused(Refusal),
-}
+pub type Place = Result<Extent, Refusal>;
 
 // What a question is answered: a case for each kind of answer. specs/Refusals.antt has the numbers that each tells.
 #[derive(Clone, Copy)]
-pub enum Reply {
-    Refused(Refusal),
+pub enum Answer {
     // A verdict that refuses nothing.
     Passed,
     // The total of octets used, of the image or of a room lent.
     Total(usize),
     // A place.
-    At { start: ImageOffset, length: usize },
+    At(Extent),
     // An element's number.
     Number(u64),
     // The tier that holds; or that no switch has come yet that day.
@@ -280,6 +281,9 @@ pub enum Reply {
     Weekday(u32),
 }
 
+// What a question comes to.
+pub type Reply = Result<Answer, Refusal>;
+
 // A reply in numbers, for callers that know no enum: the refusal, and two numbers of the answer's own, 0 where it has fewer or is refused.
 #[derive(Clone, Copy)]
 pub struct Told {
@@ -288,11 +292,9 @@ pub struct Told {
     pub second: u64,
 }
 
-// A request as it was read (document 02's E2): what it asks for, or the octet that refuses it. Of a write, how many octets of data it has; they stand from its octet 5 on,
-// behind an offset from octet 8 on.
+// What a request asks for (document 02's E2). Of a write, how many octets of data it has; they stand from its octet 5 on, behind an offset from octet 8 on.
 #[derive(Clone, Copy)]
 pub enum Requested {
-    Refused(u32),
     FullRead {
         id: u32,
     },
@@ -312,13 +314,12 @@ pub enum Requested {
     },
 }
 
-// A meter's reply as it was read: so many octets of data, from its octet 3 on; a write done; the octet that refuses. Or it is no reply.
+// A meter's reply: so many octets of data, from its octet 3 on; a write done; the octet that refuses.
 #[derive(Clone, Copy)]
 pub enum Heard {
     Data { count: usize },
     Done,
     Refused(u32),
-    NoReply,
 }
 
 // A request that was read, in numbers, for callers that know no enum; C has this very struct. The octet that refuses it, 0 where none does; its kind, which is its first
