@@ -14,7 +14,7 @@ use Rattle.meaning.specs.Basics.{◌<?◌, ◌=?◌}
 use Rattle.meaning.specs.declared.ElementName.{ElementName}
 use Rattle.meaning.specs.declared.Refusal.{Refusal}
 use Rattle.meaning.specs.declared.Place.{Place}
-use Rattle.meaning.specs.Description.{item_count, fields_at, is_uint}
+use Rattle.meaning.specs.Description.{item_count, fields_at, is_uint, kind_of}
 use Rattle.meaning.specs.Layout.{Placed, Seat, table_named, number_at}
 use Rattle.meaning.specs.Refusals.{open_image, seat_place, table_place_reply, range_at, read_range_reply, element_place_reply, integer_place_reply, element_place_in, writable, any_dimension, table_around, allowed, allowed_at, fitting, range_of, range_in, range_place, written_in, octets_place_in, number_place_in, place_start}
 use Rattle.meaning.proofs.Ranges.{fields_range}
@@ -41,7 +41,7 @@ stands d img q p n e =
     record {
       inside = omega (arith, element_ends a, total_inside d img a.seats a.elements a.slots a.total a.opens.laid);
       there = (element_own a).there;
-      few = λ u. let k = eqb-true (fields_at d q.item).kind 2 u in omega (arith, (element_own a).long (omega arith), (fields_range d q.item).integer k);
+      few = λ u. let k = eqb-true (kind_of (fields_at d q.item)) 2 u in omega (arith, (element_own a).long (omega arith), (fields_range d q.item).integer k);
     }
 
 pub element_inside : (d img : List ℕ) (q : ElementName) (v : Place) → v ≡ element_place_reply d img q → Inside img v

@@ -6,7 +6,7 @@ use mathlib.Core.List.{List}
 use borrow.Author.Tests.{ne_eqb}
 use native.Mathlib.Omega.{arith}
 use Rattle.meaning.specs.Basics.{◌<?◌}
-use Rattle.meaning.specs.Description.{fields_at, is_array, is_choice, nested}
+use Rattle.meaning.specs.Description.{fields_at, is_array, is_choice, nested, kind_of}
 use Rattle.meaning.specs.Layout.{branches_in, if_branches, branches_of, taken, body_in, body_at, leaf_octets, Numbers, value}
 use Rattle.laying.specs.Sizes.{body_size, item_size}
 use Rattle.laying.specs.Sound.{FitBody, FitNode}
@@ -29,12 +29,12 @@ module _ (d : List ℕ) (v : Numbers) where
   Below k l = (a m : ℕ) → FitBody (inner_at k d a m) → body_size (inner_at k d a m) v ≡ body_octets l d v a m
 
   -- AN ITEM, kind by kind
-  pub element_octets : (l at : ℕ) → 2 ≤ (fields_at d at).kind → (fields_at d at).kind ≤ 4
+  pub element_octets : (l at : ℕ) → 2 ≤ kind_of (fields_at d at) → kind_of (fields_at d at) ≤ 4
       → item_octets (body_octets l d v) d v at ≡ leaf_octets (fields_at d at) (value v (fields_at d at))
   unfolding item_octets
-  element_octets l at two four = rw (ne_eqb (fields_at d at).kind 5 (λ e. omega arith), ne_eqb (fields_at d at).kind 6 (λ e. omega arith))
+  element_octets l at two four = rw (ne_eqb (kind_of (fields_at d at)) 5 (λ e. omega arith), ne_eqb (kind_of (fields_at d at)) 6 (λ e. omega arith))
 
-  array_octets : (l at : ℕ) → (fields_at d at).kind ≡ 5 → item_octets (body_octets l d v) d v at ≡ value v (fields_at d at) * body_octets l d v (at + 1) (fields_at d at).first
+  array_octets : (l at : ℕ) → kind_of (fields_at d at) ≡ 5 → item_octets (body_octets l d v) d v at ≡ value v (fields_at d at) * body_octets l d v (at + 1) (fields_at d at).first
   unfolding item_octets
   array_octets l at five = let is : is_array (fields_at d at) ≡ true = rw five in rw is
 

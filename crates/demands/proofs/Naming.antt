@@ -12,7 +12,7 @@ use native.Mathlib.Decide.{dec_lt, ℕ_discrete}
 use native.Mathlib.Omega.{arith}
 use Rattle.meaning.specs.Basics.{◌<?◌}
 use Rattle.meaning.specs.declared.Fields.{Fields}
-use Rattle.meaning.specs.Description.{item_count, fields_at, is_element, is_array, is_choice, nests, nested}
+use Rattle.meaning.specs.Description.{item_count, fields_at, is_element, is_array, is_choice, nests, nested, kind_of}
 use Rattle.meaning.specs.Layout.{Node, Body, Arms, Tables, leaf, array, choice, stray, done, more, last_arm, arm, no_more, table, stray_table, leaf_octets}
 use Rattle.meaning.specs.Layout.{Branches, otherwise, branch, branches_in, if_branches, branches_of, taken, body_in, arms_of, body_at, Numbers, value}
 use Rattle.meaning.specs.Passed.{BodiesNest, end_of}
@@ -75,7 +75,7 @@ taken_names inner at x (branch t c rest) v = picked (λ c. names_body (body_in i
 
 -- an IF is no element
 pub choice_no_element : (f : Fields) → is_choice f ≡ true → is_element f ≡ false
-choice_no_element f is = let six = eqb-true f.kind 6 is in rw six
+choice_no_element f is = let six = eqb-true (kind_of f) 6 is in rw six
 
 -- an element from an item on that is none stands after it
 pub element_after : (d : List ℕ) (at i : ℕ) → is_element (fields_at d at) ≡ false → at ≤ i → is_element (fields_at d i) ≡ true → at + 1 ≤ i
@@ -417,7 +417,7 @@ module _ (d : List ℕ) (v : Numbers) where
         (λ lost fit. absurd fit)
         (λ l two four fit.
         let end : end_of d at ≡ at + 1 = omega (arith, (fields_range d at).whole two four) in
-        rw end (names_leaf at (rw (le-leb 2 f.kind two, le-leb f.kind 4 four))))
+        rw end (names_leaf at (rw (le-leb 2 (kind_of f) two, le-leb (kind_of f) 4 four))))
         (λ l five fit.
         let one = (fields_range d at).one (omega arith) in
         let z : at + 1 + 0 ≡ at + 1 = omega arith in

@@ -12,7 +12,7 @@ use native.Mathlib.Omega.{arith}
 use Rattle.meaning.specs.Basics.{◌≤?◌}
 use Rattle.meaning.specs.declared.ElementName.{ElementName}
 use Rattle.meaning.specs.Causes.{subscripts_of}
-use Rattle.meaning.specs.Description.{item_count, fields_at, is_element, is_array}
+use Rattle.meaning.specs.Description.{item_count, fields_at, is_element, is_array, kind_of}
 use Rattle.meaning.proofs.Either.{tested}
 use Rattle.almanac.proofs.Tests.{both_true}
 use Rattle.laying.specs.Every.{Every}
@@ -65,8 +65,8 @@ module _ (d : List ℕ) where
 
   not_both : (i j : ℕ) → Element i → Array j → i ≡ j → ⊥
   not_both i j h k e =
-      let most = leb-true (fields_at d i).kind 4 (both_true (2 ≤? (fields_at d i).kind) _ h).1 in
-      let five = eqb-true (fields_at d j).kind 5 k in
+      let most = leb-true (kind_of (fields_at d i)) 4 (both_true (2 ≤? kind_of (fields_at d i)) _ h).1 in
+      let five = eqb-true (kind_of (fields_at d j)) 5 k in
       omega (arith, rw e at most)
 
   ways : (ks bs xs ys : List ℕ) (i j : ℕ) → Every Array ks → Every Array bs → length xs ≡ length ks → length ys ≡ length bs → Element i → Element j

@@ -11,7 +11,7 @@ use native.Mathlib.Omega.{arith}
 use Rattle.meaning.specs.Basics.{◌≤?◌, ◌=?◌}
 use Rattle.meaning.specs.declared.ElementName.{ElementName}
 use Rattle.meaning.specs.Causes.{subscripts_of}
-use Rattle.meaning.specs.Description.{item_count, fields_at, is_table, is_table_named, is_table00, is_dimension, is_data_order}
+use Rattle.meaning.specs.Description.{item_count, fields_at, is_table, is_table_named, is_table00, is_dimension, is_data_order, kind_of}
 use Rattle.meaning.specs.Layout.{leaf_octets, value}
 use Rattle.meaning.specs.Passed.{PassedLaws}
 use Rattle.meaning.specs.Questions.{refusal_in}
@@ -44,14 +44,14 @@ none_less : (d : List ℕ) → is_table (fields_at d 0) ≡ true → (ks xs : Li
 unfolding way Every Earlier
 none_less d t [] xs i h l is (inl e) =
     let f : i ≡ 0 = omega arith in
-    let least = leb-true 2 (fields_at d i).kind (both_true (2 ≤? (fields_at d i).kind) _ is).0 in
-    omega (arith, rw f at least, eqb-true (fields_at d 0).kind 1 t)
+    let least = leb-true 2 (kind_of (fields_at d i)) (both_true (2 ≤? kind_of (fields_at d i)) _ is).0 in
+    omega (arith, rw f at least, eqb-true (kind_of (fields_at d 0)) 1 t)
 none_less d t [] xs i h l is (inr e) = e.1
 none_less d t (k ∷ ks) [] i h l is e = omega arith
 none_less d t (k ∷ ks) (x ∷ xs) i h l is (inl e) =
     let f : k ≡ 0 = omega arith in
-    let five = eqb-true (fields_at d k).kind 5 h.0 in
-    omega (arith, rw f at five, eqb-true (fields_at d 0).kind 1 t)
+    let five = eqb-true (kind_of (fields_at d k)) 5 h.0 in
+    omega (arith, rw f at five, eqb-true (kind_of (fields_at d 0)) 1 t)
 none_less d t (k ∷ ks) (x ∷ xs) i h l is (inr e) = e.1
 
 -- WHAT ITEMS 0 AND 1 ARE

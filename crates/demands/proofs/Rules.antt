@@ -8,7 +8,7 @@ use native.Mathlib.Omega.{arith}
 use borrow.Author.Tests.{eq-eqb, ne_eqb}
 use lib.Dec.{eqb, ltb}
 use lib.ListN.{length}
-use Rattle.meaning.specs.Description.{item_count, fields_at, is_table_named, is_table00, is_data_order, round, slot_octets, table_given, misplaced, breaks1, breaks2, breaks3, breaks4, breaks5, breaks6, breaks7, check_reply}
+use Rattle.meaning.specs.Description.{item_count, fields_at, is_table_named, is_table00, is_data_order, round, slot_octets, table_given, misplaced, breaks1, breaks2, breaks3, breaks4, breaks5, breaks6, breaks7, check_reply, kind_of}
 use Rattle.meaning.specs.Passed.{Exactly, breaks, end_of, MeetsRules as BreaksNone, FirstToBreak as FirstBroken, LengthAllowed}
 use Rattle.meaning.proofs.Rules.{slot_step, given_none, given_step}
 use Rattle.meaning.proofs.Nesting.{upward}
@@ -53,7 +53,7 @@ octets_set d i once j s e some l =
 module _ (d : List ℕ) (i : ℕ) where
   rule2 : Fails (breaks2 (fields_at d i)) (WellFormed d i)
   unfolding breaks2
-  rule2 = put (fails_not (equal (fields_at d i).kind 0)) (λ h. omega arith) (λ h e. omega arith)
+  rule2 = put (fails_not (equal (kind_of (fields_at d i)) 0)) (λ h. omega arith) (λ h e. omega arith)
 
   rule3 : Fails (breaks3 (fields_at d i) i (round d i i)) (InPlace d i)
   unfolding breaks3 misplaced is_table00 is_data_order

@@ -11,7 +11,7 @@ use native.Mathlib.Omega.{arith}
 use Rattle.meaning.specs.Basics.{◌<?◌, ◌≤?◌}
 use Rattle.meaning.specs.declared.Fields.{Fields}
 use Rattle.meaning.specs.declared.Round.{Round}
-use Rattle.meaning.specs.Description.{item_count, fields_at, is_element, is_array, is_choice, nests, nested, slot_octets}
+use Rattle.meaning.specs.Description.{item_count, fields_at, is_element, is_array, is_choice, nests, nested, slot_octets, kind_of}
 use Rattle.meaning.specs.Layout.{Body, branches_in, if_branches, branches_of, taken, body_in, only_body, body_at, leaf_octets, number_at}
 use Rattle.meaning.specs.Layout.{Slots, Placed, short, Laid, laid, stopped, in_image, placed, size_from, repeated, lay_body, lay_node, Numbers, value, slot_numbers}
 use Rattle.meaning.specs.Passed.{PassedLaws, end_of}
@@ -125,7 +125,7 @@ module _ (d img : List ℕ) (p : PassedLaws d) where
 
   -- a UINT, BLOCK or SET
   walks_leaf : (a : ℕ) (s : Slots) (κ : Known) (q : ℕ) → At d img a s q → Matches s κ → a < item_count d → is_piece d (numbers_before d img a) a ≡ true
-      → 2 ≤ (fields_at d a).kind → (fields_at d a).kind ≤ 4 → (0 < (fields_at d a).sets → (fields_at d a).slot ≡ 0) → value (slot_numbers s) (fields_at d a) ≡ value v (fields_at d a)
+      → 2 ≤ kind_of (fields_at d a) → kind_of (fields_at d a) ≤ 4 → (0 < (fields_at d a).sets → (fields_at d a).slot ≡ 0) → value (slot_numbers s) (fields_at d a) ≡ value v (fields_at d a)
       → Walks d img a (a + 1) (set_known (fields_at d a).sets (fields_at d a).octets κ)
       (record { item = a; subscripts = []; octets = leaf_octets (fields_at d a) (value v (fields_at d a)) } ∷ [])
       (in_image false (length img) a q (placed a (fields_at d a) img s q (leaf_octets (fields_at d a) (value (slot_numbers s) (fields_at d a)))))
@@ -256,7 +256,7 @@ module _ (d img : List ℕ) (p : PassedLaws d) where
       (λ lost long rises h. absurd h)
       (λ g two four long rises h.
       let end : end_of d a ≡ a + 1 = omega (arith, (fields_range d a).whole two four) in
-      let is : is_element f ≡ true = rw (le-leb 2 f.kind two, le-leb f.kind 4 four) in
+      let is : is_element f ≡ true = rw (le-leb 2 (kind_of f) two, le-leb (kind_of f) 4 four) in
       rw (end, value_is s κ f a _ m h.refers)
       (walks_leaf a s κ q here m (omega arith) (open_piece a e l room o (rw is)) two four h.owns (value_agrees κ w v f (agrees a s κ q (omega arith) same here) h.refers)))
       (λ g five long rises h.

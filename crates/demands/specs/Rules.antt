@@ -3,7 +3,7 @@
 -- nothing.
 use Rattle.std.specs.Prelude.{ℕ, ◌+◌, ◌<◌, ◌≤◌, ◌≡◌, Bool, true, false, cond, List, if◌then◌else◌, Err}
 use Rattle.meaning.specs.Basics.{◌=?◌, ◌<?◌}
-use Rattle.meaning.specs.Description.{item_count, fields_at, is_table, nests, is_table_named}
+use Rattle.meaning.specs.Description.{item_count, fields_at, is_table, nests, is_table_named, kind_of}
 use Rattle.meaning.specs.Passed.{Exactly, LengthAllowed, end_of, SetEarlier}
 use Rattle.meaning.specs.Numbers.{description_length, breaks_rule}
 use Rattle.meaning.specs.Values.{Verdict, passed}
@@ -32,7 +32,7 @@ NestRound d j i = Encloses d j i × (nests (fields_at d j) ≡ true)
 -- THE RULES, each as what an item i that keeps it is
 -- 2: its kind is known, no spare bit is set, no width code is 3, no count or slot is below its least
 abbrev pub WellFormed : (description : List ℕ) → (i : ℕ) → Type 0
-WellFormed d i = 0 < (fields_at d i).kind
+WellFormed d i = 0 < kind_of (fields_at d i)
 
 -- 3: it stands at a level and place that it may have
 pub record InPlace (d : List ℕ) (i : ℕ) : Type 0 where

@@ -12,7 +12,7 @@ use Rattle.meaning.specs.declared.Inner.{Inner}
 use Rattle.meaning.specs.declared.Round.{Round}
 use Rattle.meaning.specs.Ranges.{FieldsRange}
 use Rattle.meaning.specs.Passed.{Keeps, PassedLaws, end_of}
-use Rattle.meaning.specs.Description.{fields_at, nests, nested, count, inside, slot_octets}
+use Rattle.meaning.specs.Description.{fields_at, nests, nested, count, inside, slot_octets, kind_of}
 use Rattle.meaning.specs.Layout.{Node, Body, leaf, array, choice, stray, done, more, Branches, otherwise, branch, branches_of, body_in, arms_of, only_body, body_at}
 use Rattle.meaning.proofs.Ranges.{fields_range, sets_none}
 use Rattle.meaning.proofs.Rules.{slot_step}
@@ -87,7 +87,7 @@ module _ (d : List ℕ) (k at n : ℕ) (r : Round) (free : Bool) (κ : Known)
   good = record { some = range.some_bits; inside = λ h. rw (here f.slot h) (keep.refers h) }
 
   -- an item that sets no slot leaves those known as they are
-  unmoved : (f.kind ≡ 2 → ⊥) → Same d κ (at + 1)
+  unmoved : (kind_of f ≡ 2 → ⊥) → Same d κ (at + 1)
   unfolding set_known
   unmoved other = rw (sets_none f range other) at next
 
@@ -95,7 +95,7 @@ module _ (d : List ℕ) (k at n : ℕ) (r : Round) (free : Bool) (κ : Known)
   unfolding SoundNode after_node
   item =
       node_cases (λ t. SoundItem d free κ t (at + 1 + nested f)) (inner_at k d) d at n
-      (λ lost. absurd (lost fits (counted _ (range.known (omega (arith, keep.well_formed, eqb-false f.kind 1 (keep.within table)))))))
+      (λ lost. absurd (lost fits (counted _ (range.known (omega (arith, keep.well_formed, eqb-false (kind_of f) 1 (keep.within table)))))))
       (λ l two four.
       let ends : at + 1 + nested f ≡ at + 1 = omega (arith, range.whole two four) in
       rw ends

@@ -8,7 +8,7 @@ use borrow.Author.Tests.{leb-true, le-ltb, ne_eqb}
 use native.Mathlib.Omega.{arith}
 use Rattle.meaning.specs.Basics.{◌≤?◌}
 use Rattle.meaning.specs.declared.Fields.{Fields}
-use Rattle.meaning.specs.Description.{item_count, fields_at, is_table, nested}
+use Rattle.meaning.specs.Description.{item_count, fields_at, is_table, nested, kind_of}
 use Rattle.meaning.specs.Layout.{Node, Body, Arms, Tables, leaf, array, choice, stray, done, more, last_arm, arm, no_more, table, stray_table}
 use Rattle.meaning.specs.Layout.{Branches, otherwise, branch, branches_of, arms_of, node_of, body_of, body_at, table_at, tables_of, tree_of, leaf_octets}
 use Rattle.meaning.proofs.Ranges.{fields_range}
@@ -55,12 +55,12 @@ module _ (d : List ℕ) where
   RisesTables lo (stray_table i) = Unit {0}
 
   -- what the description says of a UINT, BLOCK or SET is true of it
-  of_item : (i : ℕ) → i < item_count d → 2 ≤ (fields_at d i).kind → (fields_at d i).kind ≤ 4 → (x : ℕ) → OfItem d i (fields_at d i).sets (leaf_octets (fields_at d i) x)
+  of_item : (i : ℕ) → i < item_count d → 2 ≤ kind_of (fields_at d i) → kind_of (fields_at d i) ≤ 4 → (x : ℕ) → OfItem d i (fields_at d i).sets (leaf_octets (fields_at d i) x)
   unfolding leaf_octets
   of_item i h a b x =
       record {
         there = h;
-        inner = ne_eqb (fields_at d i).kind 1 (λ e. omega arith);
+        inner = ne_eqb (kind_of (fields_at d i)) 1 (λ e. omega arith);
         sets = refl;
         long = λ k. rw (le-ltb 0 (fields_at d i).slot (omega (arith, (fields_range d i).owns k)));
       }

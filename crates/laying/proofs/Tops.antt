@@ -6,7 +6,7 @@ use mathlib.Core.Bool.{Bool, true, false, true≢false}
 use borrow.Author.Tests.{le-leb, eqb-true}
 use native.Mathlib.Omega.{arith}
 use Rattle.meaning.specs.declared.Round.{Round}
-use Rattle.meaning.specs.Description.{item_count, fields_at, is_table, is_element, is_array, nests, nested, count, inside}
+use Rattle.meaning.specs.Description.{item_count, fields_at, is_table, is_element, is_array, nests, nested, count, inside, kind_of}
 use Rattle.meaning.specs.Passed.{Passes, PassedLaws, end_of}
 use Rattle.meaning.specs.Layout.{Node, Body, Arms, Tables, leaf, array, choice, stray, done, more, last_arm, arm, table, table_at, body_at}
 use Rattle.meaning.specs.Layout.{tables_of, tree_of}
@@ -25,7 +25,7 @@ unfolding table_at
 table_is d at n rest e h = rw (e, le-leb (fields_at d at).first n h)
 
 pub table_one : (d : List ℕ) (at : ℕ) → is_table (fields_at d at) ≡ true → (fields_at d at).second ≡ 0
-table_one d at e = (fields_range d at).one (omega (arith, eqb-true (fields_at d at).kind 1 e))
+table_one d at e = (fields_range d at).one (omega (arith, eqb-true (kind_of (fields_at d at)) 1 e))
 
 -- at the top level nothing stands round an item
 abbrev pub top : (description : List ℕ) → Round
@@ -50,7 +50,7 @@ unfolding inside set_known
 table_at_lem {d} p at κ l run same =
     let f = fields_at d at in
     let is : is_table f ≡ true = (first_keeps p run l).top refl in
-    let kind = eqb-true f.kind 1 is in
+    let kind = eqb-true (kind_of f) 1 is in
     let one : count (is_table f) ≡ 1 = rw is in
     let quiet = sets_none f (fields_range d at) (λ two. omega arith) in
     let next : Same d κ (at + 1) = rw quiet at (same_next d at f.sets f.octets κ same (slot_step d at)) in

@@ -8,8 +8,9 @@ use native.Mathlib.Decide.{dec_lt}
 use native.Mathlib.Omega.{arith}
 use borrow.Author.Tests.{ltb-true}
 use Rattle.meaning.specs.declared.Fields.{Fields}
+use Rattle.meaning.specs.declared.Kind.{Kind}
 use Rattle.meaning.specs.Basics.{bits}
-use Rattle.meaning.specs.Description.{own_octets, referring, malformed, names_slot, octets_of_code, table_of, uint_of, block_of, set_of, array_of, if_of, fields_of, word_at, fields_at}
+use Rattle.meaning.specs.Description.{own_octets, referring, malformed, names_slot, octets_of_code, table_of, uint_of, block_of, set_of, array_of, if_of, fields_of, word_at, fields_at, kind_of}
 use Rattle.meaning.specs.Ranges.{FieldsRange}
 
 -- whichever of two it is
@@ -43,18 +44,18 @@ fields_ranged w =
     let names : names_slot w ≡ true → 0 < bits 27 22 w = λ e. ltb-true 0 (bits 27 22 w) e in
     let table : FieldsRange (table_of w) = omega arith in
     either_ranged (kind 1) table
-    (either_ranged (kind 2) (if_both (ltb (bits 27 26 w) 3) (eqb (bits 19 0 w) 0) (own_octets 2 (bits 25 20 w) (octets_of_code (bits 27 26 w))) (λ p q. omega (arith, octets)))
-    (either_ranged (kind 3) (if_both (ltb 0 (bits 27 16 w)) (eqb (bits 15 0 w) 0) (own_octets 3 0 (bits 27 16 w)) (λ p q. omega arith))
-    (either_ranged (kind 4) (if_both (names_slot w) (eqb (bits 10 0 w) 0) (referring 4 (bits 11 11 w) 0 0 w) (λ p q. omega (arith, names p)))
-    (either_ranged (kind 5) (if_both (names_slot w) (ltb 0 (bits 11 0 w)) (referring 5 0 (bits 11 0 w) 0 w) (λ p q. omega (arith, names p)))
-    (either_ranged (kind 6) (if_both (names_slot w) (ltb 0 (bits 11 6 w)) (referring 6 0 (bits 11 6 w) (bits 5 0 w) w) (λ p q. omega (arith, names p)))
+    (either_ranged (kind 2) (if_both (ltb (bits 27 26 w) 3) (eqb (bits 19 0 w) 0) (own_octets Kind.Uint (bits 25 20 w) (octets_of_code (bits 27 26 w))) (λ p q. omega (arith, octets)))
+    (either_ranged (kind 3) (if_both (ltb 0 (bits 27 16 w)) (eqb (bits 15 0 w) 0) (own_octets Kind.Block 0 (bits 27 16 w)) (λ p q. omega arith))
+    (either_ranged (kind 4) (if_both (names_slot w) (eqb (bits 10 0 w) 0) (referring Kind.Set (bits 11 11 w) 0 0 w) (λ p q. omega (arith, names p)))
+    (either_ranged (kind 5) (if_both (names_slot w) (ltb 0 (bits 11 0 w)) (referring Kind.Array 0 (bits 11 0 w) 0 w) (λ p q. omega (arith, names p)))
+    (either_ranged (kind 6) (if_both (names_slot w) (ltb 0 (bits 11 6 w)) (referring Kind.If 0 (bits 11 6 w) (bits 5 0 w) w) (λ p q. omega (arith, names p)))
     none_ranged)))))
 
 pub fields_range : (d : List ℕ) (i : ℕ) → FieldsRange (fields_at d i)
 fields_range d i = fields_ranged (word_at d i)
 
 -- only a UINT sets a slot
-pub sets_none : (f : Fields) → FieldsRange f → (f.kind ≡ 2 → ⊥) → f.sets ≡ 0
+pub sets_none : (f : Fields) → FieldsRange f → (kind_of f ≡ 2 → ⊥) → f.sets ≡ 0
 sets_none f h other = go (dec_lt 0 f.sets)
   where
     go : Dec (0 < f.sets) → f.sets ≡ 0

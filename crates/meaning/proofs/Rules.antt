@@ -13,7 +13,7 @@ use lib.Dec.{eqb, ltb}
 use lib.ListN.{length}
 use Rattle.meaning.specs.declared.Fields.{Fields}
 use Rattle.meaning.specs.declared.Round.{Round}
-use Rattle.meaning.specs.Description.{item_count, fields_at, is_table, is_table_named, is_table00, is_data_order, is_dimension, nests, refers, inside, around, round, slot_octets, table_given, misplaced, breaks1, breaks2, breaks3, breaks4, breaks5, breaks6, breaks7, lowest_broken, rule_broken, first_broken, check_reply}
+use Rattle.meaning.specs.Description.{item_count, fields_at, is_table, is_table_named, is_table00, is_data_order, is_dimension, nests, refers, inside, around, round, slot_octets, table_given, misplaced, breaks1, breaks2, breaks3, breaks4, breaks5, breaks6, breaks7, lowest_broken, rule_broken, first_broken, check_reply, kind_of}
 use Rattle.meaning.specs.Passed.{Keeps, LengthAllowed}
 use Rattle.meaning.specs.Numbers.{description_length, breaks_rule}
 use Rattle.std.specs.Prelude.{Err}
@@ -104,7 +104,7 @@ keeps d f i r e =
     let s = either_false (stray || inner) deep p.1 in
     let t = either_false stray inner s.0 in
     let g = either_false again twice u.4 in
-    let k : f.kind ≡ 0 → ⊥ = eqb-false _ _ u.0 in
+    let k : kind_of f ≡ 0 → ⊥ = eqb-false _ _ u.0 in
     record {
       well_formed = omega arith;
       table00 = λ h. not-false _ (both_false (eqb i 0) _ q.0 (eq-eqb i 0 h));

@@ -2,8 +2,9 @@
 -- A description is a list of octets. The rules are said flat: item i breaks rule n, by what stands before it and what encloses it. Counts include nested
 -- items, so a body is an interval of item numbers, and whatever a rule asks of an item is a search over the items before it. Assumes nothing.
 use Rattle.std.specs.Prelude.{ℕ, zero, suc, ◌+◌, ◌*◌, ◌/◌, ◌%◌, Bool, false, not, ◌&&◌, ◌||◌, List, length, if◌then◌else◌, Err}
-use Rattle.meaning.specs.Basics.{◌=?◌, ◌≤?◌, ◌<?◌, bits, part, most_first}
+use Rattle.meaning.specs.Basics.{◌=?◌, ◌≤?◌, ◌<?◌, bits, flag, part, most_first}
 use Rattle.meaning.specs.declared.Fields.{Fields}
+use Rattle.meaning.specs.declared.Kind.{Kind}
 use Rattle.meaning.specs.declared.Round.{Round}
 use Rattle.meaning.specs.Numbers.{description_length, breaks_rule}
 use Rattle.meaning.specs.Values.{Verdict, passed}
@@ -17,19 +18,19 @@ item_count d = length d / 4
 unfoldable pub word_at : (description : List ℕ) → (item : ℕ) → ℕ
 word_at d i = most_first (part d (i * 4) 4)
 
--- AN ITEM'S FIELDS, each 0 where its kind has none: kind (0: malformed); a TABLE's manufacturer bit, number and writable mark; items in its body, of an IF
+-- AN ITEM'S FIELDS, each 0 where its kind has none, and no mark where it has no mark: kind; a TABLE's manufacturer bit, number and writable mark; items in its body, of an IF
 -- those if true, then those if false; the slot that a UINT sets; a UINT's or BLOCK's octets; the reference's slot, low bit and width; a SET's unit
 -- octets of its own, and the slot that they set
-abbrev pub own_octets : (kind sets octets : ℕ) → Fields
-own_octets k s o = record { kind = k; manufacturer = 0; number = 0; writable = 0; first = 0; second = 0; sets = s; octets = o; slot = 0; low = 0; width = 0; unit = 0 }
+abbrev pub own_octets : Kind → (sets octets : ℕ) → Fields
+own_octets k s o = record { kind = k; manufacturer = 0; number = 0; writable = false; first = 0; second = 0; sets = s; octets = o; slot = 0; low = 0; width = 0; unit = 0 }
 
 -- a reference: 27..22 slot, 21..17 low bit, 16..12 width less 1
-abbrev pub referring : (kind unit first second word : ℕ) → Fields
+abbrev pub referring : Kind → (unit first second word : ℕ) → Fields
 referring k u a b w = record {
   kind = k;
   manufacturer = 0;
   number = 0;
-  writable = 0;
+  writable = false;
   first = a;
   second = b;
   sets = 0;
@@ -41,7 +42,7 @@ referring k u a b w = record {
 }
 
 abbrev pub malformed : Fields
-malformed = own_octets 0 0 0
+malformed = own_octets Kind.Malformed 0 0
 
 -- a reference names a slot of 1 to 63
 abbrev pub names_slot : (word : ℕ) → Bool
@@ -54,10 +55,10 @@ octets_of_code c = if c =? 0 then 1 else if c =? 1 then 2 else 4
 -- 1 TABLE: 27 manufacturer, 26..16 number, 15 writable, 14..0 items in body
 unfoldable pub table_of : (word : ℕ) → Fields
 table_of w = record {
-  kind = 1;
+  kind = Kind.Table;
   manufacturer = bits 27 27 w;
   number = bits 26 16 w;
-  writable = bits 15 15 w;
+  writable = flag 15 w;
   first = bits 14 0 w;
   second = 0;
   sets = 0;
@@ -70,23 +71,23 @@ table_of w = record {
 
 -- 2 UINT: 27..26 width code (not 3), 25..20 slot set (0 = none), 19..0 spare
 unfoldable pub uint_of : (word : ℕ) → Fields
-uint_of w = if bits 27 26 w <? 3 && bits 19 0 w =? 0 then own_octets 2 (bits 25 20 w) (octets_of_code (bits 27 26 w)) else malformed
+uint_of w = if bits 27 26 w <? 3 && bits 19 0 w =? 0 then own_octets Kind.Uint (bits 25 20 w) (octets_of_code (bits 27 26 w)) else malformed
 
 -- 3 BLOCK: 27..16 octets, 1 to 4,095; 15..0 spare
 unfoldable pub block_of : (word : ℕ) → Fields
-block_of w = if 0 <? bits 27 16 w && bits 15 0 w =? 0 then own_octets 3 0 (bits 27 16 w) else malformed
+block_of w = if 0 <? bits 27 16 w && bits 15 0 w =? 0 then own_octets Kind.Block 0 (bits 27 16 w) else malformed
 
 -- 4 SET: reference, 11 unit (0 octets, 1 flags), 10..0 spare
 unfoldable pub set_of : (word : ℕ) → Fields
-set_of w = if names_slot w && bits 10 0 w =? 0 then referring 4 (bits 11 11 w) 0 0 w else malformed
+set_of w = if names_slot w && bits 10 0 w =? 0 then referring Kind.Set (bits 11 11 w) 0 0 w else malformed
 
 -- 5 ARRAY: reference (the count), 11..0 items in body, at least 1
 unfoldable pub array_of : (word : ℕ) → Fields
-array_of w = if names_slot w && 0 <? bits 11 0 w then referring 5 0 (bits 11 0 w) 0 w else malformed
+array_of w = if names_slot w && 0 <? bits 11 0 w then referring Kind.Array 0 (bits 11 0 w) 0 w else malformed
 
 -- 6 IF: reference (nonzero is true), 11..6 items if true, at least 1, 5..0 items if false
 unfoldable pub if_of : (word : ℕ) → Fields
-if_of w = if names_slot w && 0 <? bits 11 6 w then referring 6 0 (bits 11 6 w) (bits 5 0 w) w else malformed
+if_of w = if names_slot w && 0 <? bits 11 6 w then referring Kind.If 0 (bits 11 6 w) (bits 5 0 w) w else malformed
 
 -- bits 31..28 are the kind. Malformed: kind unknown, width code 3, spare bit set, a count or slot below its least
 unfoldable pub fields_of : (word : ℕ) → Fields
@@ -102,22 +103,35 @@ fields_of w =
 abbrev pub fields_at : (description : List ℕ) → (item : ℕ) → Fields
 fields_at d i = fields_of (word_at d i)
 
+-- a kind's number; 0 is malformed
+abbrev pub kind_number : Kind → ℕ
+kind_number Kind.Malformed = 0
+kind_number Kind.Table = 1
+kind_number Kind.Uint = 2
+kind_number Kind.Block = 3
+kind_number Kind.Set = 4
+kind_number Kind.Array = 5
+kind_number Kind.If = 6
+
+abbrev pub kind_of : Fields → ℕ
+kind_of f = kind_number f.kind
+
 abbrev pub is_table : Fields → Bool
-is_table f = f.kind =? 1
+is_table f = kind_of f =? 1
 
 abbrev pub is_uint : Fields → Bool
-is_uint f = f.kind =? 2
+is_uint f = kind_of f =? 2
 
 -- an element is a UINT, BLOCK or SET
 abbrev pub is_element : Fields → Bool
-is_element f = 2 ≤? f.kind && f.kind ≤? 4
+is_element f = 2 ≤? kind_of f && kind_of f ≤? 4
 
 abbrev pub is_array : Fields → Bool
-is_array f = f.kind =? 5
+is_array f = kind_of f =? 5
 
 -- an IF is a choice of two bodies
 abbrev pub is_choice : Fields → Bool
-is_choice f = f.kind =? 6
+is_choice f = kind_of f =? 6
 
 -- an ARRAY or IF, which count in the depth
 abbrev pub nests : Fields → Bool
@@ -174,7 +188,7 @@ table_given d (suc j) m n = is_table_named (fields_at d j) m n || table_given d 
 -- THE RULES, each: item i, which is f with r round it, breaks it
 -- 2: kind unknown, width code 3, spare bit set, a count or slot below its least
 unfoldable pub breaks2 : Fields → Bool
-breaks2 f = f.kind =? 0
+breaks2 f = kind_of f =? 0
 
 -- item 0 is standard table 00 with at least one body item
 unfoldable pub is_table00 : Fields → Bool

@@ -5,7 +5,7 @@ use Rattle.meaning.specs.declared.Fields.{Fields}
 use Rattle.meaning.specs.declared.Round.{Round}
 use Rattle.meaning.specs.declared.Refusal.{Refusal}
 use Rattle.meaning.specs.Basics.{◌=?◌}
-use Rattle.meaning.specs.Description.{item_count, fields_at, is_table, nests, is_table_named, count, round, slot_octets, table_given, breaks1, breaks2, breaks3, breaks4, breaks5, breaks6, breaks7, is_table00, is_data_order, check_reply}
+use Rattle.meaning.specs.Description.{item_count, fields_at, is_table, nests, is_table_named, count, round, slot_octets, table_given, breaks1, breaks2, breaks3, breaks4, breaks5, breaks6, breaks7, is_table00, is_data_order, check_reply, kind_of}
 use Rattle.meaning.specs.Numbers.{description_length, breaks_rule}
 use Rattle.meaning.specs.Values.{passed}
 
@@ -60,7 +60,7 @@ pub record CheckSays (d : List ℕ) : Type 0 where
 
 -- AN ITEM THAT BREAKS NO RULE: item i, which is f with r round it; the rules as facts
 pub record Keeps (d : List ℕ) (f : Fields) (i : ℕ) (r : Round) : Type 0 where
-  pub well_formed : 0 < f.kind
+  pub well_formed : 0 < kind_of f
   pub table00 : i ≡ 0 → is_table00 f ≡ true
   pub data_order : i ≡ 1 → is_data_order f ≡ true
   pub top : r.tables ≡ 0 → is_table f ≡ true

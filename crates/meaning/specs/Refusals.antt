@@ -190,7 +190,7 @@ table_around d (suc j) = if is_table (fields_at d j) then j else table_around d 
 
 -- writable: the mark of the table at that item
 unfoldable pub writable : (description image : List ℕ) → (table : ℕ) → Bool
-writable d img t = (fields_at d t).writable =? 1
+writable d img t = (fields_at d t).writable
 
 -- n octets at p hold an octet of a dimension, an element that sets a slot: the later start lies before the earlier end
 unfoldable pub any_dimension : List Placed → (p n : ℕ) → Bool

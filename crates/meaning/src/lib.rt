@@ -4,14 +4,25 @@
 
 use offsets::ImageOffset;
 
+// What an item of a description is.
+#[derive(Clone, Copy, PartialEq, Eq)]
+pub enum Kind {
+    Malformed,
+    Table,
+    Uint,
+    Block,
+    Set,
+    Array,
+    If,
+}
+
 // What an item of a description says, each field 0 where its kind has none.
 #[derive(Clone, Copy)]
 pub struct Fields {
-    // 1 to 6; 0 is malformed.
-    pub kind: u32,
+    pub kind: Kind,
     pub manufacturer: u32,
     pub number: u32,
-    pub writable: u32,
+    pub writable: bool,
     // Items in its body, nested ones included, of an IF those if true; and an IF's items if false.
     pub first: usize,
     pub second: usize,
