@@ -3,7 +3,7 @@
 // Nothing is refused here: a word that is no item reads as malformed, of kind 0, and so does what
 // stands past the last item. A place can't be made elsewhere: callers start before the first item
 // and move on from there.
-#![tactic(auto)]
+#![tactic(auto, unfolding(meaning::specs::Description::octets_of_code, meaning::specs::Description::table_of, meaning::specs::Description::uint_of, meaning::specs::Description::block_of, meaning::specs::Description::set_of, meaning::specs::Description::array_of, meaning::specs::Description::if_of, meaning::specs::Description::fields_of, crate::specs::Read::read_at))]
 
 ghost use Rattle.std.specs.Prelude.{◌≡◌, ◌+◌, ◌<◌, ◌≤◌, min, if◌then◌else◌};
 ghost use Rattle.meaning.specs.Basics.{bits};
@@ -11,7 +11,7 @@ ghost use Rattle.meaning.specs.Description.{item_count, word_at, own_octets, ref
 ghost use Rattle.items.specs.Read.{read_at};
 
 use basics::{bit_range, both, either, wide};
-use meaning::Fields;
+use meaning::{Fields, Kind};
 
 // Bits high..low of a word, bit 0 least significant.
 fn bits(high: u32, low: u32, word: u32) -> u32
@@ -27,11 +27,12 @@ fn word_at(description: &[u8], item: usize) -> u32
     ensures { result ≡ word_at description.now item }
 {
     let at = item * 4;
-    let a = wide(description[at]);
-    let b = wide(description[at + 1]);
-    let c = wide(description[at + 2]);
-    let e = wide(description[at + 3]);
-    a * 16777216 + b * 65536 + c * 256 + e
+    u32::from_be_bytes([
+        description[at],
+        description[at + 1],
+        description[at + 2],
+        description[at + 3],
+    ])
 }
 
 fn names_slot(word: u32) -> bool
@@ -43,86 +44,57 @@ fn names_slot(word: u32) -> bool
 fn octets_of_code(code: u32) -> usize
     ensures { result ≡ octets_of_code code }
 {
-    if code == 0 {
-        return 1;
+    match code {
+        0 => 1,
+        1 => 2,
+        _ => 4,
     }
-    if code == 1 {
-        return 2;
-    }
-    4
 }
 
 // An item with octets of its own, and the slot that they set.
-fn own_octets(kind: u32, sets: usize, octets: usize) -> Fields
+fn own_octets(kind: Kind, sets: usize, octets: usize) -> Fields
     ensures { result ≡ own_octets kind sets octets }
 {
     Fields {
         kind,
-        manufacturer: 0,
-        number: 0,
-        writable: 0,
-        first: 0,
-        second: 0,
         sets,
         octets,
-        slot: 0,
-        low: 0,
-        width: 0,
-        unit: 0,
+        ..Fields::MALFORMED
     }
 }
 
 // An item with a reference, and the items in its bodies.
-fn referring(kind: u32, unit: u32, first: u32, second: u32, word: u32) -> Fields
-    ensures { result ≡ referring kind unit first second word }
+fn referring(kind: Kind, flags: bool, first: u32, second: u32, word: u32) -> Fields
+    ensures { result ≡ referring kind flags first second word }
 {
     Fields {
         kind,
-        manufacturer: 0,
-        number: 0,
-        writable: 0,
         first: first as usize,
         second: second as usize,
-        sets: 0,
-        octets: 0,
         slot: bits(27, 22, word) as usize,
         low: bits(21, 17, word),
         width: bits(16, 12, word) + 1,
-        unit,
+        flags,
+        ..Fields::MALFORMED
     }
-}
-
-fn malformed() -> Fields
-    ensures { result ≡ malformed }
-{
-    own_octets(0, 0, 0)
 }
 
 fn if_formed(formed: bool, fields: Fields) -> Fields
     ensures { result ≡ (if formed then fields else malformed) }
 {
-    if formed {
-        return fields;
-    }
-    malformed()
+    if formed { fields } else { Fields::MALFORMED }
 }
 
 fn table_of(word: u32) -> Fields
     ensures { result ≡ table_of word }
 {
     Fields {
-        kind: 1,
+        kind: Kind::Table,
         manufacturer: bits(27, 27, word),
         number: bits(26, 16, word),
-        writable: bits(15, 15, word),
+        writable: bits(15, 15, word) == 1,
         first: bits(14, 0, word) as usize,
-        second: 0,
-        sets: 0,
-        octets: 0,
-        slot: 0,
-        low: 0,
-        width: 0,
-        unit: 0,
+        ..Fields::MALFORMED
     }
 }
 
@@ -132,7 +104,11 @@ fn uint_of(word: u32) -> Fields
     let code = bits(27, 26, word);
     if_formed(
         both(code < 3, bits(19, 0, word) == 0),
-        own_octets(2, bits(25, 20, word) as usize, octets_of_code(code)),
+        own_octets(
+            Kind::Uint,
+            bits(25, 20, word) as usize,
+            octets_of_code(code),
+        ),
     )
 }
 
@@ -142,7 +118,7 @@ fn block_of(word: u32) -> Fields
     let octets = bits(27, 16, word);
     if_formed(
         both(0 < octets, bits(15, 0, word) == 0),
-        own_octets(3, 0, octets as usize),
+        own_octets(Kind::Block, 0, octets as usize),
     )
 }
 
@@ -151,7 +127,7 @@ fn set_of(word: u32) -> Fields
 {
     if_formed(
         both(names_slot(word), bits(10, 0, word) == 0),
-        referring(4, bits(11, 11, word), 0, 0, word),
+        referring(Kind::Set, bits(11, 11, word) == 1, 0, 0, word),
     )
 }
 
@@ -161,7 +137,7 @@ fn array_of(word: u32) -> Fields
     let items = bits(11, 0, word);
     if_formed(
         both(names_slot(word), 0 < items),
-        referring(5, 0, items, 0, word),
+        referring(Kind::Array, false, items, 0, word),
     )
 }
 
@@ -171,7 +147,7 @@ fn if_of(word: u32) -> Fields
     let yes = bits(11, 6, word);
     if_formed(
         both(names_slot(word), 0 < yes),
-        referring(6, 0, yes, bits(5, 0, word), word),
+        referring(Kind::If, false, yes, bits(5, 0, word), word),
     )
 }
 
@@ -179,15 +155,14 @@ fn if_of(word: u32) -> Fields
 fn fields_of(word: u32) -> Fields
     ensures { result ≡ fields_of word }
 {
-    let kind = bits(31, 28, word);
-    match kind {
+    match bits(31, 28, word) {
         1 => table_of(word),
         2 => uint_of(word),
         3 => block_of(word),
         4 => set_of(word),
         5 => array_of(word),
         6 => if_of(word),
-        _ => malformed(),
+        _ => Fields::MALFORMED,
     }
 }
 
@@ -195,14 +170,14 @@ fn fields_of(word: u32) -> Fields
 pub fn is_choice(f: Fields) -> bool
     ensures { result ≡ is_choice f }
 {
-    f.kind == 6
+    f.kind == Kind::If
 }
 
 // Whether it is an ARRAY or a choice, which count in the depth.
 pub fn nests(f: Fields) -> bool
     ensures { result ≡ nests f }
 {
-    either(f.kind == 5, is_choice(f))
+    either(f.kind == Kind::Array, is_choice(f))
 }
 
 // A place in a description: before item `at`.
@@ -239,7 +214,7 @@ impl Cursor {
             };
         }
         Read {
-            fields: malformed(),
+            fields: Fields::MALFORMED,
             next: self,
         }
     }
@@ -249,13 +224,8 @@ impl Cursor {
     pub fn past(self, items: usize) -> Cursor
         ensures { result.at ≡ min (self.at + items) 18446744073709551615 }
     {
-        if 18446744073709551615 - self.at < items {
-            return Cursor {
-                at: 18446744073709551615,
-            };
-        }
         Cursor {
-            at: self.at + items,
+            at: self.at.saturating_add(items),
         }
     }
 

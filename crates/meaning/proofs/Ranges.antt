@@ -9,7 +9,7 @@ use native.Mathlib.Omega.{arith}
 use borrow.Author.Tests.{ltb-true}
 use Rattle.meaning.specs.declared.Fields.{Fields}
 use Rattle.meaning.specs.declared.Kind.{Kind}
-use Rattle.meaning.specs.Basics.{bits}
+use Rattle.meaning.specs.Basics.{bits, flag}
 use Rattle.meaning.specs.Description.{own_octets, referring, malformed, names_slot, octets_of_code, table_of, uint_of, block_of, set_of, array_of, if_of, fields_of, word_at, fields_at, kind_of}
 use Rattle.meaning.specs.Ranges.{FieldsRange}
 
@@ -46,9 +46,9 @@ fields_ranged w =
     either_ranged (kind 1) table
     (either_ranged (kind 2) (if_both (ltb (bits 27 26 w) 3) (eqb (bits 19 0 w) 0) (own_octets Kind.Uint (bits 25 20 w) (octets_of_code (bits 27 26 w))) (λ p q. omega (arith, octets)))
     (either_ranged (kind 3) (if_both (ltb 0 (bits 27 16 w)) (eqb (bits 15 0 w) 0) (own_octets Kind.Block 0 (bits 27 16 w)) (λ p q. omega arith))
-    (either_ranged (kind 4) (if_both (names_slot w) (eqb (bits 10 0 w) 0) (referring Kind.Set (bits 11 11 w) 0 0 w) (λ p q. omega (arith, names p)))
-    (either_ranged (kind 5) (if_both (names_slot w) (ltb 0 (bits 11 0 w)) (referring Kind.Array 0 (bits 11 0 w) 0 w) (λ p q. omega (arith, names p)))
-    (either_ranged (kind 6) (if_both (names_slot w) (ltb 0 (bits 11 6 w)) (referring Kind.If 0 (bits 11 6 w) (bits 5 0 w) w) (λ p q. omega (arith, names p)))
+    (either_ranged (kind 4) (if_both (names_slot w) (eqb (bits 10 0 w) 0) (referring Kind.Set (flag 11 w) 0 0 w) (λ p q. omega (arith, names p)))
+    (either_ranged (kind 5) (if_both (names_slot w) (ltb 0 (bits 11 0 w)) (referring Kind.Array false (bits 11 0 w) 0 w) (λ p q. omega (arith, names p)))
+    (either_ranged (kind 6) (if_both (names_slot w) (ltb 0 (bits 11 6 w)) (referring Kind.If false (bits 11 6 w) (bits 5 0 w) w) (λ p q. omega (arith, names p)))
     none_ranged)))))
 
 pub fields_range : (d : List ℕ) (i : ℕ) → FieldsRange (fields_at d i)

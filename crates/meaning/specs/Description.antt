@@ -19,14 +19,14 @@ unfoldable pub word_at : (description : List ℕ) → (item : ℕ) → ℕ
 word_at d i = most_first (part d (i * 4) 4)
 
 -- AN ITEM'S FIELDS, each 0 where its kind has none, and no mark where it has no mark: kind; a TABLE's manufacturer bit, number and writable mark; items in its body, of an IF
--- those if true, then those if false; the slot that a UINT sets; a UINT's or BLOCK's octets; the reference's slot, low bit and width; a SET's unit
+-- those if true, then those if false; the slot that a UINT sets; a UINT's or BLOCK's octets; the reference's slot, low bit and width; of a SET whether its value counts flags
 -- octets of its own, and the slot that they set
 abbrev pub own_octets : Kind → (sets octets : ℕ) → Fields
-own_octets k s o = record { kind = k; manufacturer = 0; number = 0; writable = false; first = 0; second = 0; sets = s; octets = o; slot = 0; low = 0; width = 0; unit = 0 }
+own_octets k s o = record { kind = k; manufacturer = 0; number = 0; writable = false; first = 0; second = 0; sets = s; octets = o; slot = 0; low = 0; width = 0; flags = false }
 
 -- a reference: 27..22 slot, 21..17 low bit, 16..12 width less 1
-abbrev pub referring : Kind → (unit first second word : ℕ) → Fields
-referring k u a b w = record {
+abbrev pub referring : Kind → (flags : Bool) → (first second word : ℕ) → Fields
+referring k flags a b w = record {
   kind = k;
   manufacturer = 0;
   number = 0;
@@ -38,7 +38,7 @@ referring k u a b w = record {
   slot = bits 27 22 w;
   low = bits 21 17 w;
   width = bits 16 12 w + 1;
-  unit = u;
+  flags = flags;
 }
 
 abbrev pub malformed : Fields
@@ -66,7 +66,7 @@ table_of w = record {
   slot = 0;
   low = 0;
   width = 0;
-  unit = 0;
+  flags = false;
 }
 
 -- 2 UINT: 27..26 width code (not 3), 25..20 slot set (0 = none), 19..0 spare
@@ -79,15 +79,15 @@ block_of w = if 0 <? bits 27 16 w && bits 15 0 w =? 0 then own_octets Kind.Block
 
 -- 4 SET: reference, 11 unit (0 octets, 1 flags), 10..0 spare
 unfoldable pub set_of : (word : ℕ) → Fields
-set_of w = if names_slot w && bits 10 0 w =? 0 then referring Kind.Set (bits 11 11 w) 0 0 w else malformed
+set_of w = if names_slot w && bits 10 0 w =? 0 then referring Kind.Set (flag 11 w) 0 0 w else malformed
 
 -- 5 ARRAY: reference (the count), 11..0 items in body, at least 1
 unfoldable pub array_of : (word : ℕ) → Fields
-array_of w = if names_slot w && 0 <? bits 11 0 w then referring Kind.Array 0 (bits 11 0 w) 0 w else malformed
+array_of w = if names_slot w && 0 <? bits 11 0 w then referring Kind.Array false (bits 11 0 w) 0 w else malformed
 
 -- 6 IF: reference (nonzero is true), 11..6 items if true, at least 1, 5..0 items if false
 unfoldable pub if_of : (word : ℕ) → Fields
-if_of w = if names_slot w && 0 <? bits 11 6 w then referring Kind.If 0 (bits 11 6 w) (bits 5 0 w) w else malformed
+if_of w = if names_slot w && 0 <? bits 11 6 w then referring Kind.If false (bits 11 6 w) (bits 5 0 w) w else malformed
 
 -- bits 31..28 are the kind. Malformed: kind unknown, width code 3, spare bit set, a count or slot below its least
 unfoldable pub fields_of : (word : ℕ) → Fields

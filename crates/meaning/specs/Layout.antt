@@ -137,13 +137,13 @@ number_of (holds o x) = x
 abbrev pub slot_numbers : Slots → Numbers
 slot_numbers s = λ k. number_of (s k)
 
--- the octets of a SET: the value, or with unit 1 as many as that many flags fill
-unfoldable pub set_octets : (unit value : ℕ) → ℕ
-set_octets u x = if u =? 0 then x else (x + 7) / 8
+-- the octets of a SET: the value, or of flags as many as that many flags fill
+unfoldable pub set_octets : (flags : Bool) → (value : ℕ) → ℕ
+set_octets flags x = if flags then (x + 7) / 8 else x
 
 -- a SET is as long as its reference's value says, a UINT or BLOCK as its octets say
 unfoldable pub leaf_octets : Fields → (value : ℕ) → ℕ
-leaf_octets f x = if refers f then set_octets f.unit x else f.octets
+leaf_octets f x = if refers f then set_octets f.flags x else f.octets
 
 -- DATA_ORDER: bit 0 of item 1, the image's first octet. It governs every UINT of the image
 unfoldable pub data_order : (image : List ℕ) → ℕ

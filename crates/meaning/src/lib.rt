@@ -33,8 +33,26 @@ pub struct Fields {
     pub slot: usize,
     pub low: u32,
     pub width: u32,
-    // A SET's: 0 octets, 1 flags.
-    pub unit: u32,
+    // A SET's: its value counts flags, eight to an octet, not octets.
+    pub flags: bool,
+}
+
+impl Fields {
+    // What a word that is no item says.
+    pub const MALFORMED: Fields = Fields {
+        kind: Kind::Malformed,
+        manufacturer: 0,
+        number: 0,
+        writable: false,
+        first: 0,
+        second: 0,
+        sets: 0,
+        octets: 0,
+        slot: 0,
+        low: 0,
+        width: 0,
+        flags: false,
+    };
 }
 
 // A body inside an item: how many of the items in it come before that body, and how many it has.
@@ -140,121 +158,87 @@ impl Refusal {
     // Of the description, its length alone; 2 to 7 are the rules that an item breaks.
     pub const DESCRIPTION_LENGTH: Refusal = Refusal {
         number: 1,
-        item: 0,
-        octet: 0,
-        depth: 0,
+        ..Refusal::NONE
     };
     // Of the image; 9 is that it is short.
     pub const IMAGE_TOO_LONG: Refusal = Refusal {
         number: 8,
-        item: 0,
-        octet: 0,
-        depth: 0,
+        ..Refusal::NONE
     };
     // Of what is asked for, and of writes.
     pub const NO_TABLE: Refusal = Refusal {
         number: 10,
-        item: 0,
-        octet: 0,
-        depth: 0,
+        ..Refusal::NONE
     };
 
     pub const OUTSIDE_TABLE: Refusal = Refusal {
         number: 12,
-        item: 0,
-        octet: 0,
-        depth: 0,
+        ..Refusal::NONE
     };
 
     pub const NOT_WRITABLE: Refusal = Refusal {
         number: 13,
-        item: 0,
-        octet: 0,
-        depth: 0,
+        ..Refusal::NONE
     };
 
     pub const HOLDS_DIMENSION: Refusal = Refusal {
         number: 14,
-        item: 0,
-        octet: 0,
-        depth: 0,
+        ..Refusal::NONE
     };
 
     pub const WRONG_SIZE: Refusal = Refusal {
         number: 15,
-        item: 0,
-        octet: 0,
-        depth: 0,
+        ..Refusal::NONE
     };
     // Of the calendar; 17 is no longer given.
     pub const NOT_A_DATE: Refusal = Refusal {
         number: 16,
-        item: 0,
-        octet: 0,
-        depth: 0,
+        ..Refusal::NONE
     };
 
     pub const SEASON_CHANGE_ARMED: Refusal = Refusal {
         number: 18,
-        item: 0,
-        octet: 0,
-        depth: 0,
+        ..Refusal::NONE
     };
 
     pub const NO_ROW_OR_COLUMN: Refusal = Refusal {
         number: 19,
-        item: 0,
-        octet: 0,
-        depth: 0,
+        ..Refusal::NONE
     };
 
     pub const NOT_A_CALENDAR: Refusal = Refusal {
         number: 20,
-        item: 0,
-        octet: 0,
-        depth: 0,
+        ..Refusal::NONE
     };
     // Of elements, in place of 11; 25 is a subscript too large, with its depth.
     pub const NOT_AN_ELEMENT: Refusal = Refusal {
         number: 22,
-        item: 0,
-        octet: 0,
-        depth: 0,
+        ..Refusal::NONE
     };
 
     pub const BRANCH_NOT_CHOSEN: Refusal = Refusal {
         number: 23,
-        item: 0,
-        octet: 0,
-        depth: 0,
+        ..Refusal::NONE
     };
 
     pub const SUBSCRIPT_COUNT: Refusal = Refusal {
         number: 24,
-        item: 0,
-        octet: 0,
-        depth: 0,
+        ..Refusal::NONE
     };
 
     pub const NOT_A_NUMBER: Refusal = Refusal {
         number: 26,
-        item: 0,
-        octet: 0,
-        depth: 0,
+        ..Refusal::NONE
     };
     // Of messages.
     pub const NO_ROOM: Refusal = Refusal {
         number: 21,
-        item: 0,
-        octet: 0,
-        depth: 0,
+        ..Refusal::NONE
     };
 
     pub const NOT_A_REPLY: Refusal = Refusal {
         number: 43,
-        item: 0,
-        octet: 0,
-        depth: 0,
+        ..Refusal::NONE
     };
 }
 

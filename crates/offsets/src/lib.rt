@@ -20,16 +20,6 @@ pub struct ImageOffset(usize);
 #[derive(Clone, Copy)]
 pub struct TableStart(usize);
 
-// The sum of two numbers, or the last number that can be counted.
-fn sum(a: usize, b: usize) -> usize
-    ensures { result ≡ min (a + b) 18446744073709551615 }
-{
-    if 18446744073709551615 - a < b {
-        return 18446744073709551615;
-    }
-    a + b
-}
-
 impl TableOffset {
     pub fn new(octets: usize) -> TableOffset
         ensures { result.0 ≡ octets }
@@ -64,13 +54,13 @@ impl TableStart {
     pub fn after(self, length: usize) -> TableStart
         ensures { result.0 ≡ min (self.0 + length) 18446744073709551615 }
     {
-        TableStart(sum(self.0, length))
+        TableStart(self.0.saturating_add(length))
     }
 
     // Where in the image an octet of this table stands.
     pub fn in_image(self, offset: TableOffset) -> ImageOffset
         ensures { result.0 ≡ min (self.0 + offset.0) 18446744073709551615 }
     {
-        ImageOffset(sum(self.0, offset.0))
+        ImageOffset(self.0.saturating_add(offset.0))
     }
 }
