@@ -11,17 +11,17 @@ ghost use Rattle.meaning.specs.Basics.{part, number_in, octets_in};
 ghost use Rattle.meaning.specs.Layout.{data_order};
 ghost use Rattle.octets.specs.Octets.{number_of, number_read, put, place_of, replaced};
 
-use basics::{ends_within, least, wide};
+use basics::{ends_within, wide};
 use offsets::ImageOffset;
 
 // DATA_ORDER: bit 0 of the image's first octet. 0 is least significant octet first.
 pub fn data_order(image: &[u8]) -> u32
     ensures { result ≡ data_order image.now }
 {
-    if image.len() == 0 {
-        return 0;
+    match image {
+        [] => 0,
+        [first, ..] => wide(*first) % 2,
     }
-    wide(image[0]) % 2
 }
 
 // So many octets from `start` on, fewer where the image ends. They stand there in the image; a part
@@ -30,8 +30,8 @@ pub fn part<'a>(image: &'a [u8], start: ImageOffset, octets: usize) -> &'a [u8]
     ensures reply { result.now ≡ part image.now start.0 octets }
     ensures place { result.ref_ptr ≡ (image.entry.ref_ptr.0, image.entry.ref_ptr.1 + min start.0 (length image.now)) }
 {
-    let at = least(start.octet(), image.len());
-    let end = at + least(octets, image.len() - at);
+    let at = start.octet().min(image.len());
+    let end = at + octets.min(image.len() - at);
     &image[at..end]
 }
 
@@ -52,11 +52,9 @@ fn counted(octets: &[u8], order: u32) -> u64
     ensures { (result ≡ number_in order octets.now) × (result < 256 ^ length octets.now) }
 {
     let mut number = 0u64;
-    let mut i = 0;
-    while i < octets.len() {
+    for i in 0..octets.len() {
         let k = place_of(order, octets.len(), i);
         number = number * 256 + wide(octets[k]) as u64;
-        i += 1;
     }
     number
 }
@@ -88,11 +86,9 @@ fn least_first(octets: &mut [u8], value: u64)
     ensures { octets.new ≡ octets_in 0 (length octets.old) value }
 {
     let mut rest = value;
-    let mut i = 0;
-    while i < octets.len() {
-        octets[i] = (rest % 256) as u8;
-        rest = rest / 256;
-        i += 1;
+    for octet in octets.iter_mut() {
+        *octet = (rest % 256) as u8;
+        rest /= 256;
     }
 }
 
@@ -114,10 +110,8 @@ pub fn copy(new: &[u8], room: &mut [u8])
     if new.len() != room.len() {
         return;
     }
-    let mut i = 0;
-    while i < new.len() {
-        room[i] = new[i];
-        i += 1;
+    for (i, octet) in new.iter().enumerate() {
+        room[i] = *octet;
     }
 }
 

@@ -1,9 +1,6 @@
--- `octets::copy`: the octets before i are copied; those left are its measure. Assumes nothing.
-use Rattle.std.proofs.Common.{◌≡◌, ◌≤◌, ◌-◌, length, take}
+-- `octets::copy`: the octets before i are copied. Assumes nothing.
+use Rattle.std.proofs.Common.{◌≡◌, take}
 use Rattle.octets.proofs.copy.Given as goal
 
 abbrev pub invariant-loop-i : goal.invariant-loop-i
-invariant-loop-i l = (l.i ≤ length l.new) × (take l.i l.room ≡ take l.i l.new)
-
-abbrev pub decreases-loop-i : goal.decreases-loop-i
-decreases-loop-i l = length l.new - l.i
+invariant-loop-i l = take l.i l.room ≡ take l.i l.new

@@ -1,4 +1,4 @@
--- `octets::counted`: the loop has counted in the i most significant octets (Counting); the octets left are its measure. Assumes nothing.
+-- `octets::counted`: the loop has counted in the i most significant octets (Counting). Assumes nothing.
 use mathlib.Core.Path.{◌∙◌}
 use native.Mathlib.Omega.{arith}
 use Rattle.octets.proofs.Numbers.{counted_none, counted_next, counted_all, counted_room}
@@ -7,23 +7,11 @@ use Rattle.octets.proofs.counted.Goals as goal
 pub loop-i-init : goal.loop-i-init
 loop-i-init c = counted_none _ _ c.requires
 
-pub place_of-k-requires : goal.place_of-k-requires
-place_of-k-requires c = c.loop-i-test.true
-
 pub overflow_mul-number : goal.overflow_mul-number
 overflow_mul-number c = omega (arith, counted_room _ _ _ _ c.loop-i.invariant c.loop-i-test.true)
 
-pub bounds-octets-k : goal.bounds-octets-k
-bounds-octets-k c = c.place_of-k.ensures.1
-
 pub overflow_add-number : goal.overflow_add-number
 overflow_add-number c = omega (arith, c.wide.ensures.1, counted_room _ _ _ _ c.loop-i.invariant c.loop-i-test.true)
-
-pub overflow_add-i : goal.overflow_add-i
-overflow_add-i c = omega (arith, c.loop-i-test.true, c.loop-i.invariant.few)
-
-pub loop-i-smaller : goal.loop-i-smaller
-loop-i-smaller c = omega (arith, c.loop-i-test.true)
 
 pub loop-i-preserved : goal.loop-i-preserved
 loop-i-preserved c =

@@ -1,11 +1,6 @@
--- `octets::least_first`: the loop has filled in i octets, and what is left leads to the whole (Filling); the octets left are its measure. Assumes nothing.
-use Prim.Native.Nat.{◌-◌}
-use lib.ListN.{length}
+-- `octets::least_first`: the loop has filled in some octets, and what is left leads to the whole (Filling). Assumes nothing.
 use Rattle.octets.specs.Octets.{Filling}
 use Rattle.octets.proofs.least_first.Given as goal
 
-abbrev pub invariant-loop-i : goal.invariant-loop-i
-invariant-loop-i l = Filling l.initial.octets l.value l.octets l.rest l.i
-
-abbrev pub decreases-loop-i : goal.decreases-loop-i
-decreases-loop-i l = length l.initial.octets - l.i
+abbrev pub invariant-loop-octet : goal.invariant-loop-octet
+invariant-loop-octet l = Filling l.initial.octets l.value l.octets l.rest l.octet-index
