@@ -43,10 +43,7 @@ pub fn bit_range(number: u32, low: u32, width: u32) -> u32
 pub fn least(a: usize, b: usize) -> usize
     ensures { result ≡ min a b }
 {
-    if a < b {
-        return a;
-    }
-    b
+    a.min(b)
 }
 
 // Whether so many octets from `at` on end within a size. The sum is not made, as it could wrap.

@@ -19,8 +19,9 @@ use Rattle.meaning.proofs.Nesting.{one_more}
 use Rattle.items.specs.declared.Read.{Read}
 use Rattle.items.specs.Read.{read_at}
 use Rattle.items.proofs.ReadLaws.{range_read, fields_read, next_read}
-use Rattle.sound.specs.declared.Judged.{Judged}
-use Rattle.sound.specs.Walk.{Known, noted, JudgedAs, LevelsLeft, Fine, Quiet, Before, Entered, Clear, Broken, Going, Turn}
+use Rattle.meaning.specs.declared.Refusal.{Refusal}
+use Rattle.meaning.specs.Numbers.{breaks_rule}
+use Rattle.sound.specs.Walk.{Known, noted, Kept, Told, LevelsLeft, Fine, Quiet, Before, Entered, Clear, Broken, Going, Turn}
 
 -- THE SLOTS
 -- a test on the octets of a slot that an item names
@@ -64,11 +65,15 @@ module _ (d : List ℕ) (at : ℕ) (slots : List ℕ) (k : Known d at slots) (sm
           }
 
 -- ONE ITEM READ AND JUDGED
-pub judged_as : (d : List ℕ) (at : ℕ) (r : Round) → at < item_count d → {read : Read} {rule : ℕ} → read ≡ read_at d at → rule ≡ lowest_broken d read.fields at r
-    → JudgedAs d at r (record { rule = rule; fields = read.fields; next = read.next })
-judged_as d at r h er e =
-    let is = fields_read d at h er in
-    record { fields = is; range = range_read d at er; rule = e ∙ ap (λ (x : Fields). lowest_broken d x at r) is; next = next_read d at h er }
+module _ (d : List ℕ) (at : ℕ) (r : Round) (h : at < item_count d) {read : Read} {rule : ℕ} (er : read ≡ read_at d at) (e : rule ≡ lowest_broken d read.fields at r) where
+  rule_is : rule ≡ lowest_broken d (fields_at d at) at r
+  rule_is = e ∙ ap (λ (x : Fields). lowest_broken d x at r) (fields_read d at h er)
+
+  pub judged_kept : rule ≡ 0 → Kept d at r read
+  judged_kept z = record { fields = fields_read d at h er; range = range_read d at er; passes = sym rule_is ∙ z; next = next_read d at h er }
+
+  pub judged_told : (rule ≡ 0 → ⊥) → Told d at r (breaks_rule rule at)
+  judged_told some = record { some = λ z. some (rule_is ∙ z); is = ap (λ (x : ℕ). breaks_rule x at) rule_is }
 
 -- ONE LEVEL DOWN: in the bodies of an item that breaks no rule one level fewer is left
 deeper : (d : List ℕ) (at : ℕ) (r : Round) (levels : ℕ) → LevelsLeft r levels → Keeps d (fields_at d at) at r → ((fields_at d at).first + (fields_at d at).second ≡ 0 → ⊥)
@@ -80,21 +85,21 @@ deeper d at r levels l k some =
     (omega arith, λ e. record { left = omega arith; round = record { one = more.0; four = more.1 } })
 
 -- ONE TURN: item `at` of a body, with r round it, judged
-module _ {d : List ℕ} {at : ℕ} {slots : List ℕ} {r : Round} {levels : ℕ} {j : Judged} (b : Before d at slots r levels) (more : at < r.limit) (judged : JudgedAs d at r j) where
-  turn_is : rule_broken d at ≡ j.rule
+module _ {d : List ℕ} {at : ℕ} {slots : List ℕ} {r : Round} {levels : ℕ} (b : Before d at slots r levels) (more : at < r.limit) where
+  turn_is : rule_broken d at ≡ lowest_broken d (fields_at d at) at r
   unfolding rule_broken
-  turn_is = rw (b.held at (omega arith) more) (sym judged.rule)
+  turn_is = rw (b.held at (omega arith) more)
 
-  pub broke : Broken d at j.rule
-  broke = record { fine = b.fine; breaks = turn_is; there = omega (arith, b.there.whole) }
+  pub broke : {e : Refusal} → Told d at r e → Broken d e
+  broke t = record { at = at; rule = lowest_broken d (fields_at d at) at r; is = t.is; some = t.some; fine = b.fine; breaks = turn_is; there = omega (arith, b.there.whole) }
 
 -- and it breaks no rule
-module _ {d : List ℕ} {from at : ℕ} {slots : List ℕ} {r : Round} {levels : ℕ} {j : Judged} {later : List ℕ} (turn : Turn d from at slots r levels j later) where
+module _ {d : List ℕ} {from at : ℕ} {slots : List ℕ} {r : Round} {levels : ℕ} {j : Read} {later : List ℕ} (turn : Turn d from at slots r levels j later) where
   before : Before d at slots r levels
   before = turn.going.now
 
   on : Keeps d (fields_at d at) at r
-  on = keeps d (fields_at d at) at r (sym turn.judged.rule ∙ turn.passed)
+  on = keeps d (fields_at d at) at r turn.judged.passes
 
   known : Known d (at + 1) later
   known = rw (turn.set, turn.judged.fields) (known_step d at slots before.known (fields_range d at).sets)
@@ -105,7 +110,7 @@ module _ {d : List ℕ} {from at : ℕ} {slots : List ℕ} {r : Round} {levels :
       record {
         there = record { few = omega (arith, on.fits, before.there.few); whole = omega (arith, on.fits, before.there.whole) };
         deeper = λ some. deeper d at r levels before.levels_left on some;
-        fine = below_more (λ (i : ℕ). rule_broken d i ≡ 0) at before.fine (turn_is before turn.more turn.judged ∙ turn.passed);
+        fine = below_more (λ (i : ℕ). rule_broken d i ≡ 0) at before.fine (turn_is before turn.more ∙ turn.judged.passes);
         known = known;
         held_first = λ i p q. in_first d at i q ∙ ap (inside (fields_at d at) _) (before.held i (omega arith) (omega (arith, on.fits)));
         held_second = λ i p q. in_second d at i p q ∙ ap (inside (fields_at d at) _) (before.held i (omega arith) (omega (arith, on.fits)));

@@ -1,12 +1,14 @@
 -- What the recursive check carries, in terms of the rules: for the contracts of the functions below the public call. Assumes nothing.
-use Rattle.std.specs.Prelude.{ℕ, ◌+◌, ◌-◌, ◌<◌, ◌≤◌, List, ◌≡◌, length, get_or, set, if◌then◌else◌}
+use Rattle.std.specs.Prelude.{ℕ, ◌+◌, ◌-◌, ◌<◌, ◌≤◌, List, ◌≡◌, length, get_or, set, if◌then◌else◌, Result, Ok, Err}
+use Rattle.items.specs.declared.Read.{Read}
+use Rattle.meaning.specs.declared.Refusal.{Refusal}
+use Rattle.meaning.specs.Numbers.{breaks_rule}
 use Rattle.meaning.specs.Basics.{◌=?◌}
 use Rattle.meaning.specs.declared.Fields.{Fields}
 use Rattle.meaning.specs.declared.Round.{Round}
 use Rattle.meaning.specs.Ranges.{FieldsRange}
 use Rattle.meaning.specs.Passed.{Levels}
 use Rattle.meaning.specs.Description.{item_count, fields_at, round, inside, slot_octets, lowest_broken, rule_broken}
-use Rattle.sound.specs.declared.Judged.{Judged}
 use Rattle.sound.specs.declared.Checked.{Checked}
 
 -- n items there are
@@ -23,12 +25,21 @@ pub record Known (d : List ℕ) (k : ℕ) (slots : List ℕ) : Type 0 where
   pub size : length slots ≡ 64
   pub octets : (s : ℕ) → 0 < s → s < 64 → get_or slots s 0 ≡ slot_octets d k s
 
--- item `at`, with r round it, was judged
-pub record JudgedAs (d : List ℕ) (at : ℕ) (r : Round) (j : Judged) : Type 0 where
+-- item `at`, with r round it, was judged: it is read and breaks no rule
+pub record Kept (d : List ℕ) (at : ℕ) (r : Round) (j : Read) : Type 0 where
   pub fields : j.fields ≡ fields_at d at
   pub range : FieldsRange j.fields
-  pub rule : j.rule ≡ lowest_broken d (fields_at d at) at r
+  pub passes : lowest_broken d (fields_at d at) at r ≡ 0
   pub next : j.next.at ≡ at + 1
+
+-- or it breaks one, and the lowest is told
+pub record Told (d : List ℕ) (at : ℕ) (r : Round) (e : Refusal) : Type 0 where
+  pub some : lowest_broken d (fields_at d at) at r ≡ 0 → ⊥
+  pub is : e ≡ breaks_rule (lowest_broken d (fields_at d at) at r) at
+
+abbrev pub JudgedAs : (d : List ℕ) → (at : ℕ) → Round → Result Read Refusal → Type 0
+JudgedAs d at r (Ok j) = Kept d at r j
+JudgedAs d at r (Err e) = Told d at r e
 
 -- the levels that may still stand inside: 5 at the top, 4 in a TABLE's body, 0 inside four ARRAYs or IFs
 pub record LevelsLeft (r : Round) (levels : ℕ) : Type 0 where
@@ -72,16 +83,20 @@ pub record Clear (d : List ℕ) (from end at : ℕ) (slots : List ℕ) : Type 0 
   pub known : Known d end slots
   pub quiet : Quiet d from end
 
--- item `at` is the first that breaks a rule
-pub record Broken (d : List ℕ) (at rule : ℕ) : Type 0 where
+-- item `at` is the first that breaks a rule, and that is told
+pub record Broken (d : List ℕ) (e : Refusal) : Type 0 where
+  pub at : ℕ
+  pub rule : ℕ
+  pub is : e ≡ breaks_rule rule at
+  pub some : rule ≡ 0 → ⊥
   pub fine : Fine d at
   pub breaks : rule_broken d at ≡ rule
   pub there : at < item_count d
 
 -- what a check of the items from `from` up to `end` gives
-pub record CheckedAs (d : List ℕ) (from end : ℕ) (x : Checked) : Type 0 where
-  pub passed : x.rule ≡ 0 → Clear d from end x.place.at x.slots
-  pub refused : (x.rule ≡ 0 → ⊥) → Broken d x.place.at x.rule
+abbrev pub CheckedAs : (d : List ℕ) → (from end : ℕ) → Result Checked Refusal → Type 0
+CheckedAs d from end (Ok x) = Clear d from end x.place.at x.slots
+CheckedAs d from end (Err e) = Broken d e
 
 -- what is left to check of a body that started at `from`
 pub record Going (d : List ℕ) (from at : ℕ) (slots : List ℕ) (r : Round) (levels : ℕ) : Type 0 where
@@ -89,9 +104,8 @@ pub record Going (d : List ℕ) (from at : ℕ) (slots : List ℕ) (r : Round) (
   pub quiet : Quiet d from at
 
 -- one turn: item `at` is judged and breaks no rule, and the slot that it sets is noted
-pub record Turn (d : List ℕ) (from at : ℕ) (slots : List ℕ) (r : Round) (levels : ℕ) (j : Judged) (later : List ℕ) : Type 0 where
+pub record Turn (d : List ℕ) (from at : ℕ) (slots : List ℕ) (r : Round) (levels : ℕ) (j : Read) (later : List ℕ) : Type 0 where
   pub going : Going d from at slots r levels
   pub more : at < r.limit
-  pub judged : JudgedAs d at r j
-  pub passed : j.rule ≡ 0
+  pub judged : Kept d at r j
   pub set : later ≡ noted slots j.fields

@@ -3,7 +3,7 @@
 // Any octets get an answer: passed, or refused by 1 for their length, or by 2 to 7 with the first
 // item that breaks a rule. No memory is written. The definitions say the rules flat, item by item;
 // the code goes down into bodies, so that what encloses an item is at hand.
-#![tactic(auto)]
+#![tactic(auto, unfolding(meaning::specs::Description::breaks1, meaning::specs::Description::breaks2, meaning::specs::Description::breaks3, meaning::specs::Description::breaks4, meaning::specs::Description::breaks5, meaning::specs::Description::is_table00, meaning::specs::Description::is_data_order, meaning::specs::Description::misplaced, meaning::specs::Description::inside))]
 
 ghost use Rattle.std.specs.Prelude.{◌≡◌, ◌&&◌, ◌+◌, ◌<◌, ◌≤◌, length, get_or, if◌then◌else◌};
 ghost use Rattle.meaning.specs.Ranges.{FieldsRange};
@@ -11,21 +11,21 @@ ghost use Rattle.meaning.specs.Description.{item_count, is_table, nests, is_dime
 ghost use Rattle.sound.specs.Walk.{There, Known, noted, Before, JudgedAs, CheckedAs};
 
 use basics::{both, either, wide};
-use items::{Cursor, nests};
-use meaning::{Fields, Refusal, Round, Verdict};
+use items::{Cursor, Read, nests};
+use meaning::{Fields, Kind, Refusal, Round, Verdict};
 
 // 1 where it holds.
 fn count(a: bool) -> u32
     ensures { (result ≡ count a) × (result ≤ 1) }
 {
-    if a { 1 } else { 0 }
+    u32::from(a)
 }
 
 // WHAT AN ITEM IS
 fn is_table(f: Fields) -> bool
     ensures { result ≡ is_table f }
 {
-    f.kind == 1
+    f.kind == Kind::Table
 }
 
 fn is_dimension(f: Fields) -> bool
@@ -85,7 +85,7 @@ fn table_given(d: &[u8], end: usize, manufacturer: u32, number: u32) -> bool
 fn breaks2(f: Fields) -> bool
     ensures { result ≡ breaks2 f }
 {
-    f.kind == 0
+    f.kind == Kind::Malformed
 }
 
 fn is_table00(f: Fields) -> bool
@@ -209,27 +209,22 @@ fn lowest_broken(d: &[u8], f: Fields, i: usize, r: Round, slots: &[u8; 64]) -> u
 }
 
 // THE CHECK
-// One item judged: the rule that it breaks (0: none), its fields, and the next place.
-#[derive(Clone, Copy)]
-struct Judged {
-    rule: u32,
-    fields: Fields,
-    next: Cursor,
-}
-
-fn judge(d: &[u8], place: Cursor, r: Round, slots: &[u8; 64]) -> Judged
+// The item at a place, and the next place; or the lowest rule that the item breaks.
+fn judge(d: &[u8], place: Cursor, r: Round, slots: &[u8; 64]) -> Result<Read, Refusal>
     requires { There d.now (place.at + 1) × Known d.now place.at slots.now }
     ensures { JudgedAs d.now place.at r result }
 {
-    let at = place.item();
     let read = place.read(d);
-    let fields = read.fields;
-    let next = read.next;
-    Judged {
-        rule: lowest_broken(d, fields, at, r, slots),
-        fields,
-        next,
+    let item = place.item();
+    let rule = lowest_broken(d, read.fields, item, r, slots);
+    if rule == 0 {
+        return Ok(read);
     }
+    Err(Refusal {
+        number: rule as u64,
+        item: item as u64,
+        ..Refusal::NONE
+    })
 }
 
 // Inside item f too, in its body that ends before item `end`.
@@ -244,34 +239,30 @@ fn inside(f: Fields, end: usize, r: Round) -> Round
     }
 }
 
-// The number of the rule that the item at `place` breaks, the first to break one; or 0, and the body
-// ends at `place` with these slots set.
+// A body ends at `place`, with these slots set.
 #[derive(Clone, Copy)]
 struct Checked {
-    rule: u32,
     place: Cursor,
     slots: [u8; 64],
 }
 
-// Checks a body from a place on, item by item, and goes down into the bodies of its items. Round its
-// items stands r, `slots` are set so far, and `levels` more levels may stand inside: 5 at the top,
-// where a TABLE's body takes the first.
-fn check_body(d: &[u8], from: Cursor, slots: [u8; 64], r: Round, levels: usize) -> Checked
+// Checks a body from a place on, item by item, and goes down into the bodies of its items: where it
+// ends, or the first item that breaks a rule. Round its items stands r, `slots` are set so far, and
+// `levels` more levels may stand inside: 5 at the top, where a TABLE's body takes the first.
+fn check_body(
+    d: &[u8],
+    from: Cursor,
+    slots: [u8; 64],
+    r: Round,
+    levels: usize,
+) -> Result<Checked, Refusal>
     requires { Before d.now from.at slots r levels }
     ensures { CheckedAs d.now from.at r.limit result }
 {
     let mut place = from;
     let mut set = slots;
     while place.item() < r.limit {
-        let judged = judge(d, place, r, &set);
-        let rule = judged.rule;
-        if rule != 0 {
-            return Checked {
-                rule,
-                place,
-                slots: set,
-            };
-        }
+        let judged = judge(d, place, r, &set)?;
         let f = judged.fields;
         let next = judged.next;
         let known = noted(set, f);
@@ -281,24 +272,18 @@ fn check_body(d: &[u8], from: Cursor, slots: [u8; 64], r: Round, levels: usize) 
             continue;
         }
         let middle = next.item() + f.first;
-        let first = check_body(d, next, known, inside(f, middle, r), levels - 1);
-        if first.rule != 0 {
-            return first;
-        }
-        let then = first.place;
-        let still = first.slots;
-        let second = check_body(d, then, still, inside(f, middle + f.second, r), levels - 1);
-        if second.rule != 0 {
-            return second;
-        }
+        let first = check_body(d, next, known, inside(f, middle, r), levels - 1)?;
+        let second = check_body(
+            d,
+            first.place,
+            first.slots,
+            inside(f, middle + f.second, r),
+            levels - 1,
+        )?;
         place = second.place;
         set = second.slots;
     }
-    Checked {
-        rule: 0,
-        place,
-        slots: set,
-    }
+    Ok(Checked { place, slots: set })
 }
 
 fn breaks1(d: &[u8]) -> bool
@@ -313,23 +298,13 @@ pub fn check(description: &[u8]) -> Verdict
     ensures { result ≡ check_reply description.now }
 {
     if breaks1(description) {
-        return Verdict::Refused(Refusal::DESCRIPTION_LENGTH);
+        return Err(Refusal::DESCRIPTION_LENGTH);
     }
     let top = Round {
         limit: description.len() / 4,
         tables: 0,
         nests: 0,
     };
-    let checked = check_body(description, Cursor::first(), [0u8; 64], top, 5);
-    let rule = checked.rule;
-    if rule == 0 {
-        return Verdict::Passed;
-    }
-    let place = checked.place;
-    Verdict::Refused(Refusal {
-        number: rule as u64,
-        item: place.item() as u64,
-        octet: 0,
-        depth: 0,
-    })
+    check_body(description, Cursor::first(), [0u8; 64], top, 5)?;
+    Ok(())
 }

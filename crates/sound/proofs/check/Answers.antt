@@ -1,5 +1,6 @@
 -- `sound::check`: a bad length, every item clear, or the first that breaks a rule. Assumes nothing.
 use mathlib.Core.Path.{sym, ◌∙◌}
+use Rattle.std.proofs.lemmas.Result.{err_from_is_err_and}
 use Rattle.meaning.proofs.Rules.{sound_length, sound_passed, sound_refused}
 use Rattle.sound.proofs.Laws.{whole}
 use Rattle.sound.proofs.check.Goals as goal
@@ -7,14 +8,14 @@ use Rattle.sound.proofs.check.Goals as goal
 pub returns-then-breaks1 : goal.returns-then-breaks1
 returns-then-breaks1 c = sym (sound_length _ (sym c.breaks1.ensures ∙ c.if-breaks1.true))
 
-pub check_body-checked-requires : goal.check_body-checked-requires
-check_body-checked-requires c = rw c.first.ensures (whole _ (sym c.breaks1.ensures ∙ c.if-breaks1.false))
+pub check_body-requires : goal.check_body-requires
+check_body-requires c = rw c.first.ensures (whole _ (sym c.breaks1.ensures ∙ c.if-breaks1.false))
 
-pub returns-then-rule-eq0 : goal.returns-then-rule-eq0
-returns-then-rule-eq0 c =
-    sym (sound_passed _ (sym c.breaks1.ensures ∙ c.if-breaks1.false) (c.check_body-checked.ensures.passed c.if-rule-eq0.true).fine)
+pub returns-in_err-check_body : goal.returns-in_err-check_body
+returns-in_err-check_body c =
+    let p = err_from_is_err_and c.from_residual.result c.from_residual.ensures.1 in
+    let b = c.in_err-check_body.ensures in
+    rw (p.1, p.2, b.is) (sym (sound_refused _ _ _ (sym c.breaks1.ensures ∙ c.if-breaks1.false) b.fine b.breaks b.there b.some))
 
 pub returns : goal.returns
-returns c =
-    let b = c.check_body-checked.ensures.refused c.if-rule-eq0.false in
-    rw c.item.ensures (sym (sound_refused _ _ _ (sym c.breaks1.ensures ∙ c.if-breaks1.false) b.fine b.breaks b.there c.if-rule-eq0.false))
+returns c = sym (sound_passed _ (sym c.breaks1.ensures ∙ c.if-breaks1.false) c.in_ok-check_body.ensures.fine)
