@@ -3,7 +3,7 @@
 // Any octets get an answer: passed, or refused by 1 for their length, or by 2 to 7 with the first
 // item that breaks a rule. No memory is written. The definitions say the rules flat, item by item;
 // the code goes down into bodies, so that what encloses an item is at hand.
-#![tactic(auto, unfolding(meaning::specs::Description::breaks1, meaning::specs::Description::breaks2, meaning::specs::Description::breaks3, meaning::specs::Description::breaks4, meaning::specs::Description::breaks5, meaning::specs::Description::is_table00, meaning::specs::Description::is_data_order, meaning::specs::Description::misplaced, meaning::specs::Description::inside))]
+#![tactic(auto, unfolding(meaning::specs::Description::breaks1, meaning::specs::Description::breaks2, meaning::specs::Description::breaks3, meaning::specs::Description::breaks4, meaning::specs::Description::breaks5, meaning::specs::Description::is_table00, meaning::specs::Description::is_data_order, meaning::specs::Description::misplaced, meaning::specs::Description::inside, meaning::specs::Description::lowest_broken, crate::specs::Walk::noted))]
 
 ghost use Rattle.std.specs.Prelude.{◌≡◌, ◌&&◌, ◌+◌, ◌<◌, ◌≤◌, length, get_or, if◌then◌else◌};
 ghost use Rattle.meaning.specs.Ranges.{FieldsRange};
