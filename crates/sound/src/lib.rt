@@ -73,7 +73,7 @@ fn table_given(d: &[u8], end: usize, manufacturer: u32, number: u32) -> bool
 {
     let mut found = false;
     let mut place = Cursor::first();
-    while place.item() < end {
+    for _ in 0..end {
         let read = place.read(d);
         found = either(is_table_named(read.fields, manufacturer, number), found);
         place = read.next;
