@@ -2,7 +2,7 @@
 // number is turned into its value here too.
 //
 // What is told is a refusal, all 0 where nothing is refused, and two numbers of the answer's own.
-#![tactic(auto)]
+#![tactic(auto, unfolding(meaning::specs::Refusals::told_by, meaning::specs::Refusals::verdict_reply, meaning::specs::Refusals::place_reply, meaning::specs::Messages::request_told, meaning::specs::Messages::reply_told, crate::specs::Asked::quantity_of))]
 
 ghost use Rattle.std.specs.Prelude.{◌≡◌};
 ghost use mathlib.Core.List.{flatten};
@@ -11,7 +11,8 @@ ghost use Rattle.meaning.specs.Messages.{request_told, reply_told};
 ghost use Rattle.replies.specs.Asked.{quantity_of};
 
 use meaning::{
-    Heard, Place, Quantity, Refusal, Reply, ReplyTold, RequestTold, Requested, Told, Verdict,
+    Answer, Heard, Place, Quantity, Refusal, Reply, ReplyTold, RequestTold, Requested, Told,
+    Verdict,
 };
 
 // Nothing is told but the refusal.
@@ -36,53 +37,39 @@ fn answered(first: u64, second: u64) -> Told
     }
 }
 
-fn request_numbers(
-    code: u64,
-    kind: u64,
-    id: u64,
-    offset: u64,
-    count: u64,
-    start: u64,
-) -> RequestTold
-    ensures { result ≡ record { code = code; kind = kind; id = id; offset = offset; count = count; start = start } }
-{
-    RequestTold {
-        code,
-        kind,
-        id,
-        offset,
-        count,
-        start,
-    }
-}
+// What is told of a request, and of a meter's reply, all that their forms lack 0.
+const NO_REQUEST: RequestTold = RequestTold {
+    code: 0,
+    kind: 0,
+    id: 0,
+    offset: 0,
+    count: 0,
+    start: 0,
+};
 
-fn reply_numbers(refusal: Refusal, kind: u64, code: u64, count: u64, start: u64) -> ReplyTold
-    ensures { result ≡ record { refusal = refusal; kind = kind; code = code; count = count; start = start } }
-{
-    ReplyTold {
-        refusal,
-        kind,
-        code,
-        count,
-        start,
-    }
-}
+const NO_REPLY: ReplyTold = ReplyTold {
+    refusal: Refusal::NONE,
+    kind: 0,
+    code: 0,
+    count: 0,
+    start: 0,
+};
 
 // A reply in numbers.
 pub fn told(reply: Reply) -> Told
     ensures { result ≡ told_by reply }
 {
     match reply {
-        Reply::Refused(r) => refused_with(r),
-        Reply::Passed => answered(0, 0),
-        Reply::Total(n) => answered(n as u64, 0),
-        Reply::At { start, length } => answered(start.octet() as u64, length as u64),
-        Reply::Number(n) => answered(n, 0),
-        Reply::Tier(t) => answered(0, t as u64),
-        Reply::NoneYet => answered(1, 0),
-        Reply::Yes => answered(1, 0),
-        Reply::No => answered(0, 0),
-        Reply::Weekday(w) => answered(w as u64, 0),
+        Err(r) => refused_with(r),
+        Ok(Answer::Passed) => answered(0, 0),
+        Ok(Answer::Total(n)) => answered(n as u64, 0),
+        Ok(Answer::At(place)) => answered(place.start.octet() as u64, place.length as u64),
+        Ok(Answer::Number(n)) => answered(n, 0),
+        Ok(Answer::Tier(t)) => answered(0, t as u64),
+        Ok(Answer::NoneYet) => answered(1, 0),
+        Ok(Answer::Yes) => answered(1, 0),
+        Ok(Answer::No) => answered(0, 0),
+        Ok(Answer::Weekday(w)) => answered(w as u64, 0),
     }
 }
 
@@ -106,8 +93,8 @@ pub fn verdict_told(verdict: Verdict) -> Told
     ensures { result ≡ told_by (verdict_reply verdict) }
 {
     match verdict {
-        Verdict::Passed => told(Reply::Passed),
-        Verdict::Refused(r) => told(Reply::Refused(r)),
+        Ok(()) => told(Ok(Answer::Passed)),
+        Err(r) => told(Err(r)),
     }
 }
 
@@ -116,37 +103,74 @@ pub fn place_told(place: Place) -> Told
     ensures { result ≡ told_by (place_reply place) }
 {
     match place {
-        Place::At { start, length } => told(Reply::At { start, length }),
-        Place::Refused(r) => told(Reply::Refused(r)),
+        Ok(at) => told(Ok(Answer::At(at))),
+        Err(r) => told(Err(r)),
     }
 }
 
 // A request in numbers.
-pub fn request_told(requested: Requested) -> RequestTold
+pub fn request_told(requested: Result<Requested, u32>) -> RequestTold
     ensures { result ≡ request_told requested }
 {
     match requested {
-        Requested::Refused(code) => request_numbers(code as u64, 0, 0, 0, 0, 0),
-        Requested::FullRead { id } => request_numbers(0, 48, id as u64, 0, 0, 0),
-        Requested::OffsetRead { id, offset, count } => {
-            request_numbers(0, 63, id as u64, offset as u64, count as u64, 0)
-        }
-        Requested::FullWrite { id, count } => request_numbers(0, 64, id as u64, 0, count as u64, 5),
-        Requested::OffsetWrite { id, offset, count } => {
-            request_numbers(0, 79, id as u64, offset as u64, count as u64, 8)
-        }
+        Err(code) => RequestTold {
+            code: code as u64,
+            ..NO_REQUEST
+        },
+        Ok(Requested::FullRead { id }) => RequestTold {
+            kind: 48,
+            id: id as u64,
+            ..NO_REQUEST
+        },
+        Ok(Requested::OffsetRead { id, offset, count }) => RequestTold {
+            kind: 63,
+            id: id as u64,
+            offset: offset as u64,
+            count: count as u64,
+            ..NO_REQUEST
+        },
+        Ok(Requested::FullWrite { id, count }) => RequestTold {
+            kind: 64,
+            id: id as u64,
+            count: count as u64,
+            start: 5,
+            ..NO_REQUEST
+        },
+        Ok(Requested::OffsetWrite { id, offset, count }) => RequestTold {
+            kind: 79,
+            id: id as u64,
+            offset: offset as u64,
+            count: count as u64,
+            start: 8,
+            ..NO_REQUEST
+        },
     }
 }
 
 // A meter's reply in numbers.
-pub fn reply_told(heard: Heard) -> ReplyTold
+pub fn reply_told(heard: Result<Heard, Refusal>) -> ReplyTold
     ensures { result ≡ reply_told heard }
 {
     match heard {
-        Heard::Data { count } => reply_numbers(Refusal::NONE, 1, 0, count as u64, 3),
-        Heard::Done => reply_numbers(Refusal::NONE, 2, 0, 0, 0),
-        Heard::Refused(code) => reply_numbers(Refusal::NONE, 3, code as u64, 0, 0),
-        Heard::NoReply => reply_numbers(Refusal::NOT_A_REPLY, 0, 0, 0, 0),
+        Err(refusal) => ReplyTold {
+            refusal,
+            ..NO_REPLY
+        },
+        Ok(Heard::Data { count }) => ReplyTold {
+            kind: 1,
+            count: count as u64,
+            start: 3,
+            ..NO_REPLY
+        },
+        Ok(Heard::Done) => ReplyTold {
+            kind: 2,
+            ..NO_REPLY
+        },
+        Ok(Heard::Refused(code)) => ReplyTold {
+            kind: 3,
+            code: code as u64,
+            ..NO_REPLY
+        },
     }
 }
 
@@ -155,11 +179,9 @@ pub fn cells(matrix: [[u8; 22]; 15]) -> [u8; 330]
     ensures { result ≡ flatten matrix }
 {
     let mut octets = [0u8; 330];
-    let mut at = 0;
-    while at < 330 {
+    for at in 0..330 {
         let row = matrix[at / 22];
         octets[at] = row[at % 22];
-        at += 1;
     }
     octets
 }
@@ -168,8 +190,8 @@ pub fn cells(matrix: [[u8; 22]; 15]) -> [u8; 330]
 pub fn quantity(what: u64) -> Quantity
     ensures { result ≡ quantity_of what }
 {
-    if what == 0 {
-        return Quantity::Summations;
+    match what {
+        0 => Quantity::Summations,
+        _ => Quantity::Demands,
     }
-    Quantity::Demands
 }

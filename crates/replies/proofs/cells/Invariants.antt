@@ -1,10 +1,6 @@
 -- `replies::cells`: octet by octet. Assumes nothing.
-use Prim.Native.Nat.{◌-◌}
 use Rattle.replies.proofs.Rows.{Copied}
 use Rattle.replies.proofs.cells.Given as goal
 
 abbrev pub invariant-loop-at : goal.invariant-loop-at
 invariant-loop-at l = Copied l.matrix l.octets l.at
-
-abbrev pub decreases-loop-at : goal.decreases-loop-at
-decreases-loop-at l = 330 - l.at
