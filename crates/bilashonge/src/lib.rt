@@ -5,7 +5,7 @@
 // Nothing is kept. Memory is lent to be read, but for an image that is to be written, the cells of
 // the matrix and the room for a message: what those hold afterwards is stated too, for answers and
 // refusals.
-#![tactic(auto)]
+#![tactic(auto, unfolding(meaning::specs::Questions::outcome_of, meaning::specs::Questions::reply_to, meaning::specs::Questions::told_to, meaning::specs::Questions::image_after, crate::specs::Interface::element_named, crate::specs::Interface::moment_of, crate::specs::Interface::date_of))]
 
 ghost use Rattle.std.specs.Prelude.{◌≡◌, [], get_or};
 ghost use Rattle.meaning.specs.Refusals.{told_by, verdict_reply, place_reply};
@@ -16,7 +16,7 @@ ghost use Rattle.meaning.specs.Messages.{request_in, requested_by, request_told,
 ghost use Rattle.replies.specs.Asked.{quantity_of};
 ghost use Rattle.bilashonge.specs.Interface.{in_total, in_place, in_number, in_tier, in_answer, in_weekday, element_named, moment_of, date_of};
 
-use meaning::{Date, ElementName, Moment, Refusal, Reply, ReplyTold, RequestTold, Verdict};
+use meaning::{Date, ElementName, Moment, Refusal, ReplyTold, RequestTold, Told};
 use offsets::TableOffset;
 
 // The total of octets used, of the image or of the room for a message, 0 on refusal.
@@ -25,6 +25,17 @@ use offsets::TableOffset;
 pub struct Total {
     pub refusal: Refusal,
     pub total: u64,
+}
+
+impl From<Told> for Total {
+    ghost from_gives = { λ told answer. answer ≡ in_total told };
+
+    fn from(told: Told) -> Total {
+        Total {
+            refusal: told.refusal,
+            total: told.first,
+        }
+    }
 }
 
 // The first octet in the image, and the length, both 0 on refusal.
@@ -36,12 +47,35 @@ pub struct Place {
     pub length: u64,
 }
 
+impl From<Told> for Place {
+    ghost from_gives = { λ told answer. answer ≡ in_place told };
+
+    fn from(told: Told) -> Place {
+        Place {
+            refusal: told.refusal,
+            start: told.first,
+            length: told.second,
+        }
+    }
+}
+
 // An element's number, 0 on refusal.
 #[repr(C)]
 #[derive(Clone, Copy)]
 pub struct Number {
     pub refusal: Refusal,
     pub number: u64,
+}
+
+impl From<Told> for Number {
+    ghost from_gives = { λ told answer. answer ≡ in_number told };
+
+    fn from(told: Told) -> Number {
+        Number {
+            refusal: told.refusal,
+            number: told.first,
+        }
+    }
 }
 
 // 1 for "none yet today", and the tier, both 0 on refusal.
@@ -53,12 +87,35 @@ pub struct Tier {
     pub tier: u64,
 }
 
+impl From<Told> for Tier {
+    ghost from_gives = { λ told answer. answer ≡ in_tier told };
+
+    fn from(told: Told) -> Tier {
+        Tier {
+            refusal: told.refusal,
+            none: told.first,
+            tier: told.second,
+        }
+    }
+}
+
 // 1 for yes and 0 for no, 0 on refusal.
 #[repr(C)]
 #[derive(Clone, Copy)]
 pub struct Answer {
     pub refusal: Refusal,
     pub yes: u64,
+}
+
+impl From<Told> for Answer {
+    ghost from_gives = { λ told answer. answer ≡ in_answer told };
+
+    fn from(told: Told) -> Answer {
+        Answer {
+            refusal: told.refusal,
+            yes: told.first,
+        }
+    }
 }
 
 // 0 for Sunday to 6 for Saturday, 0 on refusal.
@@ -69,14 +126,22 @@ pub struct Weekday {
     pub weekday: u64,
 }
 
+impl From<Told> for Weekday {
+    ghost from_gives = { λ told answer. answer ≡ in_weekday told };
+
+    fn from(told: Told) -> Weekday {
+        Weekday {
+            refusal: told.refusal,
+            weekday: told.first,
+        }
+    }
+}
+
 // Subscript k of those lent, 0 past the last.
 fn subscript(subscripts: &[usize], k: usize) -> usize
     ensures { result ≡ get_or subscripts.now k 0 }
 {
-    if k < subscripts.len() {
-        return subscripts[k];
-    }
-    0
+    subscripts.get(k).copied().unwrap_or(0)
 }
 
 // The element of that item and those subscripts. More than four name none, whichever they are.
@@ -84,7 +149,7 @@ fn element_named(item: usize, subscripts: &[usize]) -> ElementName
     ensures { result ≡ element_named item subscripts.now }
 {
     ElementName {
-        item: item,
+        item,
         count: subscripts.len(),
         subscripts: [
             subscript(subscripts, 0),
@@ -95,51 +160,18 @@ fn element_named(item: usize, subscripts: &[usize]) -> ElementName
     }
 }
 
-// A verdict, as C has it.
-fn refusal_of(verdict: Verdict) -> Refusal
-    ensures { result ≡ (told_by (verdict_reply verdict)).refusal }
-{
-    let told = replies::verdict_told(verdict);
-    told.refusal
-}
-
-// A total, as C has it.
-fn total_of(reply: Reply) -> Total
-    ensures { result ≡ in_total (told_by reply) }
-{
-    let told = replies::told(reply);
-    let refusal = told.refusal;
-    Total {
-        refusal,
-        total: told.first,
-    }
-}
-
-// A place, as C has it.
-fn place_of(place: meaning::Place) -> Place
-    ensures { result ≡ in_place (told_by (place_reply place)) }
-{
-    let told = replies::place_told(place);
-    let refusal = told.refusal;
-    Place {
-        refusal,
-        start: told.first,
-        length: told.second,
-    }
-}
-
 // Is this description sound.
 pub fn bilashonge_check(description: &[u8]) -> Refusal
     ensures { result ≡ (told_to ask.check description.now []).refusal }
 {
-    refusal_of(sound::check(description))
+    replies::verdict_told(sound::check(description)).refusal
 }
 
 // Lay the image out: the total of octets used.
 pub fn bilashonge_layout(description: &[u8], image: &[u8]) -> Total
     ensures { result ≡ in_total (told_to ask.layout description.now image.now) }
 {
-    total_of(places::layout(description, image))
+    Total::from(replies::told(places::layout(description, image)))
 }
 
 // Where a table is, and how long.
@@ -151,7 +183,7 @@ pub fn bilashonge_table_place(
 ) -> Place
     ensures { result ≡ in_place (told_to (ask.table_place manufacturer number) description.now image.now) }
 {
-    place_of(places::table_place(description, image, manufacturer, number))
+    Place::from(replies::place_told(places::table_place(description, image, manufacturer, number)))
 }
 
 // Where a range of a table is.
@@ -166,7 +198,14 @@ pub fn bilashonge_range_place(
     ensures { result ≡ in_place (told_to (ask.read_range manufacturer number (record { 0 = offset }) length) description.now image.now) }
 {
     let at = TableOffset::new(offset);
-    place_of(access::range_place(description, image, manufacturer, number, at, length))
+    Place::from(replies::place_told(access::range_place(
+        description,
+        image,
+        manufacturer,
+        number,
+        at,
+        length,
+    )))
 }
 
 // Where an element is, and how long.
@@ -178,7 +217,11 @@ pub fn bilashonge_element_place(
 ) -> Place
     ensures { result ≡ in_place (told_to (ask.element_place (element_named item subscripts.now)) description.now image.now) }
 {
-    place_of(places::element_place(description, image, element_named(item, subscripts)))
+    Place::from(replies::place_told(places::element_place(
+        description,
+        image,
+        element_named(item, subscripts),
+    )))
 }
 
 // An element's number.
@@ -190,16 +233,11 @@ pub fn bilashonge_element_number(
 ) -> Number
     ensures { result ≡ in_number (told_to (ask.element_number (element_named item subscripts.now)) description.now image.now) }
 {
-    let told = replies::told(access::element_number(
+    Number::from(replies::told(access::element_number(
         description,
         image,
         element_named(item, subscripts),
-    ));
-    let refusal = told.refusal;
-    Number {
-        refusal,
-        number: told.first,
-    }
+    )))
 }
 
 // Writes a range of a table.
@@ -215,7 +253,14 @@ pub fn bilashonge_write_range(
     ensures image { image.new ≡ image_after (ask.write_range manufacturer number (record { 0 = offset }) new.now) description.now image.old }
 {
     let at = TableOffset::new(offset);
-    refusal_of(access::write_range(description, image, manufacturer, number, at, new))
+    replies::verdict_told(access::write_range(
+        description,
+        image,
+        manufacturer,
+        number,
+        at,
+        new,
+    )).refusal
 }
 
 // Writes an element's octets.
@@ -229,7 +274,12 @@ pub fn bilashonge_write_octets(
     ensures reply { result ≡ (told_to (ask.write_octets (element_named item subscripts.now) new.now) description.now image.old).refusal }
     ensures image { image.new ≡ image_after (ask.write_octets (element_named item subscripts.now) new.now) description.now image.old }
 {
-    refusal_of(access::write_octets(description, image, element_named(item, subscripts), new))
+    replies::verdict_told(access::write_octets(
+        description,
+        image,
+        element_named(item, subscripts),
+        new,
+    )).refusal
 }
 
 // Writes an element's number, in the image's DATA_ORDER.
@@ -243,7 +293,12 @@ pub fn bilashonge_write_number(
     ensures reply { result ≡ (told_to (ask.write_number (element_named item subscripts.now) value) description.now image.old).refusal }
     ensures image { image.new ≡ image_after (ask.write_number (element_named item subscripts.now) value) description.now image.old }
 {
-    refusal_of(access::write_number(description, image, element_named(item, subscripts), value))
+    replies::verdict_told(access::write_number(
+        description,
+        image,
+        element_named(item, subscripts),
+        value,
+    )).refusal
 }
 
 // The tier at a date and time.
@@ -260,24 +315,18 @@ pub fn bilashonge_tier_at(
     ensures { result ≡ in_tier (told_to (ask.tier (moment_of year month day hour minute) (quantity_of quantity)) description.now image.now) }
 {
     let moment = Moment {
-        year: year,
-        month: month,
-        day: day,
-        hour: hour,
-        minute: minute,
+        year,
+        month,
+        day,
+        hour,
+        minute,
     };
-    let told = replies::told(calendar::tier(
+    Tier::from(replies::told(calendar::tier(
         description,
         image,
         moment,
         replies::quantity(quantity as u64),
-    ));
-    let refusal = told.refusal;
-    Tier {
-        refusal,
-        none: told.first,
-        tier: told.second,
-    }
+    )))
 }
 
 // Whether any season record with a real date stands at or before a date.
@@ -290,34 +339,16 @@ pub fn bilashonge_seasoned(
 ) -> Answer
     ensures { result ≡ in_answer (told_to (ask.seasoned (date_of year month day)) description.now image.now) }
 {
-    let date = Date {
-        year: year,
-        month: month,
-        day: day,
-    };
-    let told = replies::told(calendar::seasoned(description, image, date));
-    let refusal = told.refusal;
-    Answer {
-        refusal,
-        yes: told.first,
-    }
+    let date = Date { year, month, day };
+    Answer::from(replies::told(calendar::seasoned(description, image, date)))
 }
 
 // The weekday of a date.
 pub fn bilashonge_weekday_of(year: u32, month: u32, day: u32) -> Weekday
     ensures { result ≡ in_weekday (told_to (ask.weekday (date_of year month day)) [] []) }
 {
-    let date = Date {
-        year: year,
-        month: month,
-        day: day,
-    };
-    let told = replies::told(dates::weekday_of(date));
-    let refusal = told.refusal;
-    Weekday {
-        refusal,
-        weekday: told.first,
-    }
+    let date = Date { year, month, day };
+    Weekday::from(replies::told(dates::weekday_of(date)))
 }
 
 // The schedule matrix, into cells. A refused call leaves cells as they are.
@@ -325,7 +356,7 @@ pub fn bilashonge_matrix(description: &[u8], image: &[u8], cells: &mut [[u8; 22]
     ensures reply { result ≡ (told_to ask.matrix description.now image.now).refusal }
     ensures cells { cells.new ≡ cells_after (matrix_verdict description.now image.now) (matrix_reply description.now image.now) cells.old }
 {
-    refusal_of(calendar::matrix_into(description, image, cells))
+    replies::verdict_told(calendar::matrix_into(description, image, cells)).refusal
 }
 
 // Answers a request over the tables: the reply into the room, and a write done in the image.
@@ -339,7 +370,7 @@ pub fn bilashonge_serve(
     ensures image { image.new ≡ serve_image description.now image.old request.now room.old }
     ensures room { room.new ≡ serve_room description.now image.old request.now room.old }
 {
-    total_of(messages::serve(description, image, request, room))
+    Total::from(replies::told(messages::serve(description, image, request, room)))
 }
 
 // Reads a request.
@@ -361,7 +392,7 @@ pub fn bilashonge_write_request(
     ensures reply { result ≡ in_total (told_by (request_sent (request_of kind id offset count new.now) room.old)) }
     ensures room { room.new ≡ request_room (request_of kind id offset count new.now) room.old }
 {
-    total_of(messages::write_request(kind, id, offset, count, new, room))
+    Total::from(replies::told(messages::write_request(kind, id, offset, count, new, room)))
 }
 
 // Reads a meter's reply.
@@ -376,5 +407,5 @@ pub fn bilashonge_write_reply(kind: u64, code: u64, new: &[u8], room: &mut [u8])
     ensures reply { result ≡ in_total (told_by (reply_sent (reply_of kind code new.now) room.old)) }
     ensures room { room.new ≡ reply_room (reply_of kind code new.now) room.old }
 {
-    total_of(messages::write_reply(kind, code, new, room))
+    Total::from(replies::told(messages::write_reply(kind, code, new, room)))
 }
