@@ -7,7 +7,7 @@ use Rattle.meaning.proofs.Splices.{part_long}
 use Rattle.octets.specs.Octets.{number_of}
 use Rattle.octets.proofs.Laws.{number_few}
 use Rattle.messages.specs.Messages.{Stands, CountedAs}
-use Rattle.messages.specs.declared.check.Counted.{Counted}
+use Rattle.std.specs.Prelude.{Some, None, Option}
 
 -- one octet more
 pub sum_more : (s : List ℕ) (i : ℕ) → i < length s → sum_of (take (i + 1) s) ≡ sum_of (take i s) + get_or s i 0
@@ -52,10 +52,10 @@ module _ (xs : List ℕ) (at : ℕ) where
         record { is = rw (← count, ← data_is, eq-eqb _ _ l, eq-eqb _ _ h); count = count; long = l; few = omega arith }
 
   -- FOR CALLERS: they stand there, or they don't
-  pub counted_are : {v : Counted} {n : ℕ} → CountedAs xs at v → v ≡ Counted.Are n → Stands xs at n
+  pub counted_are : {v : Option ℕ} {n : ℕ} → CountedAs xs at v → v ≡ Some n → Stands xs at n
   counted_are s e = subst (CountedAs xs at) e s
 
-  pub counted_not : {v : Counted} → CountedAs xs at v → v ≡ Counted.Not → is_counted xs at ≡ false
+  pub counted_not : {v : Option ℕ} → CountedAs xs at v → v ≡ None → is_counted xs at ≡ false
   counted_not s e = subst (CountedAs xs at) e s
 
   -- the data are as many as the count says

@@ -5,13 +5,14 @@ use borrow.Rule.Slice.PartMut.{mid_of, put_mid, mid_len, Post-is}
 use Rattle.meaning.specs.Basics.{◌≤?◌, splice, octets_in}
 use Rattle.meaning.specs.Messages.{in_octets, check_octet, counted, full_read, offset_read, full_write, offset_write, request_octets, holds, reply_octets, sent, sent_reply, sent_room}
 use Rattle.meaning.specs.Numbers.{no_room}
-use Rattle.meaning.specs.declared.Reply.{Reply}
 use Rattle.meaning.proofs.Either.{clash}
 use Rattle.meaning.proofs.Octets.{octets_long}
 use Rattle.meaning.proofs.Splices.{splice_long}
 use Rattle.octets.specs.Octets.{replaced}
 use Rattle.octets.proofs.Laws.{copied}
 use Rattle.messages.specs.Messages.{IsPut}
+use Rattle.std.specs.Prelude.{Ok, Err}
+use Rattle.meaning.specs.declared.Answer.{Answer}
 
 -- ONE FIELD
 -- an octet
@@ -65,11 +66,11 @@ module _ (fits : Bool) (xs room : List ℕ) where
     unfolding sent
     sent_is = sym (test ∙ rw (← long))
 
-    pub is_sent : {later : List ℕ} {n : ℕ} → b ≡ true → IsPut room 0 xs later n → (Reply.Total n ≡ sent_reply fits xs room) × (later ≡ sent_room fits xs room)
+    pub is_sent : {later : List ℕ} {n : ℕ} → b ≡ true → IsPut room 0 xs later n → (Ok (Answer.Total n) ≡ sent_reply fits xs room) × (later ≡ sent_room fits xs room)
     unfolding sent_reply sent_room
-    is_sent h p = (rw (sent_is, h) (ap Reply.Total (p.reply ∙ zero-add (length xs))), rw (sent_is, h) p.memory)
+    is_sent h p = (rw (sent_is, h) (ap (λ n. Ok (Answer.Total n)) (p.reply ∙ zero-add (length xs))), rw (sent_is, h) p.memory)
 
-    pub not_sent : b ≡ false → (Reply.Refused no_room ≡ sent_reply fits xs room) × (room ≡ sent_room fits xs room)
+    pub not_sent : b ≡ false → (Err no_room ≡ sent_reply fits xs room) × (room ≡ sent_room fits xs room)
     unfolding sent_reply sent_room
     not_sent h = (rw (sent_is, h), rw (sent_is, h))
 

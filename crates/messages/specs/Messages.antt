@@ -1,10 +1,8 @@
 -- WHAT IS KNOWN BELOW THE PUBLIC CALLS: of a message being put together, of data found in one, and of what the tables say. Assumes nothing.
-use Rattle.std.specs.Prelude.{◌≡◌, ℕ, ◌+◌, ◌<◌, ◌≤◌, true, false, List, length}
+use Rattle.std.specs.Prelude.{◌≡◌, ℕ, ◌+◌, ◌<◌, ◌≤◌, true, false, List, length, Ok, Err, Some, None, Option}
 use Rattle.meaning.specs.Basics.{part, splice}
-use Rattle.meaning.specs.declared.Place.{Place}
-use Rattle.meaning.specs.declared.Verdict.{Verdict}
 use Rattle.meaning.specs.Messages.{number_from, is_counted, MeterReply, holds, done, refuses, code_of}
-use Rattle.messages.specs.declared.check.Counted.{Counted}
+use Rattle.meaning.specs.Values.{Verdict, Place, passed, at}
 
 -- octets were put at `at`: the reply is the next place, and no other octet changes
 pub record IsPut (room : List ℕ) (at : ℕ) (xs later : List ℕ) (next : ℕ) : Type 0 where
@@ -20,15 +18,15 @@ pub record Stands (message : List ℕ) (at n : ℕ) : Type 0 where
   pub few : n < 65536
 
 -- so they do, or they don't
-abbrev pub CountedAs : (message : List ℕ) → (at : ℕ) → Counted → Type 0
-CountedAs xs at (Counted.Are n) = Stands xs at n
-CountedAs xs at Counted.Not = is_counted xs at ≡ false
+abbrev pub CountedAs : (message : List ℕ) → (at : ℕ) → Option ℕ → Type 0
+CountedAs xs at (Some n) = Stands xs at n
+CountedAs xs at None = is_counted xs at ≡ false
 
 -- WHAT THE TABLES SAY, as a reply
 unfoldable pub verdict_answer : Verdict → MeterReply
-verdict_answer Verdict.Passed = done
-verdict_answer (Verdict.Refused r) = refuses (code_of r)
+verdict_answer passed = done
+verdict_answer (Err r) = refuses (code_of r)
 
 unfoldable pub place_answer : (image : List ℕ) → Place → MeterReply
-place_answer img (Place.At p n) = holds (part img p.0 n)
-place_answer img (Place.Refused r) = refuses (code_of r)
+place_answer img (Ok e) = holds (part img e.start.0 e.length)
+place_answer img (Err r) = refuses (code_of r)

@@ -3,22 +3,13 @@ ghost use Rattle.std.specs.Prelude.{◌≡◌, ◌+◌, ◌%◌, ◌^◌, ◌<�
 ghost use Rattle.meaning.specs.Messages.{sum_of, check_octet, number_from};
 ghost use Rattle.messages.specs.Messages.{CountedAs};
 
-// Data that stand from some octet of a message on, to its end: how many; or they don't.
-#[derive(Clone, Copy)]
-pub(crate) enum Counted {
-    Are(usize),
-    Not,
-}
-
 // The sum of the data octets wraps at 256.
 fn sum(new: &[u8]) -> u8
     ensures { result ≡ sum_of new.now % 2 ^ 8 }
 {
     let mut total: u8 = 0;
-    let mut i = 0;
-    while i < new.len() {
-        total = std::num::wrapping_add_u8(total, new[i]);
-        i += 1;
+    for octet in new {
+        total = std::num::wrapping_add_u8(total, *octet);
     }
     total
 }
@@ -39,22 +30,22 @@ pub(crate) fn number_from(message: &[u8], at: usize, octets: usize) -> u64
     octets::number_in(&message[at..end], 1)
 }
 
-// Count, data and check octet from `at` on, up to the message's end.
-pub(crate) fn counted_from(message: &[u8], at: usize) -> Counted
+// How many data stand from `at` on, up to the message's end, with their count before them and the check octet behind.
+pub(crate) fn counted_from(message: &[u8], at: usize) -> Option<usize>
     requires { at ≤ 6 }
     ensures { CountedAs message.now at result }
 {
     if message.len() < at + 3 {
-        return Counted::Not;
+        return None;
     }
     let count = number_from(message, at, 2) as usize;
     let end = at + 2 + count;
     if message.len() != end + 1 {
-        return Counted::Not;
+        return None;
     }
     let start = at + 2;
     if message[end] != check_octet(&message[start..end]) {
-        return Counted::Not;
+        return None;
     }
-    Counted::Are(count)
+    Some(count)
 }

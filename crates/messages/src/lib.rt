@@ -26,10 +26,10 @@ const MANUFACTURER: u32 = 2048;
 fn code_of(refusal: Refusal) -> u64
     ensures { result ≡ code_of refusal }
 {
-    if refusal.number == 13 {
-        return 3;
+    match refusal.number {
+        13 => 3,
+        _ => 4,
     }
-    4
 }
 
 // What a write replies.
@@ -38,8 +38,8 @@ fn reply_verdict(verdict: Verdict, room: &mut [u8]) -> Reply
     ensures room { room.new ≡ write_reply_room (verdict_answer verdict) room.old }
 {
     match verdict {
-        Verdict::Passed => replying::send_done(room),
-        Verdict::Refused(r) => replying::send_refusal(code_of(r), room),
+        Ok(()) => replying::send_done(room),
+        Err(r) => replying::send_refusal(code_of(r), room),
     }
 }
 
@@ -49,16 +49,14 @@ fn reply_part(image: &[u8], place: Place, room: &mut [u8]) -> Reply
     ensures room { room.new ≡ write_reply_room (place_answer image.now place) room.old }
 {
     match place {
-        Place::Refused(r) => replying::send_refusal(code_of(r), room),
-        Place::At { start, length } => {
-            replying::send_data(octets::part(image, start, length), room)
-        }
+        Ok(at) => replying::send_data(octets::part(image, at.start, at.length), room),
+        Err(r) => replying::send_refusal(code_of(r), room),
     }
 }
 
 // THE PUBLIC CALLS
 // Reads a request: what it asks for, or the octet that refuses it.
-pub fn read_request(request: &[u8]) -> Requested
+pub fn read_request(request: &[u8]) -> Result<Requested, u32>
     ensures { result ≡ requested_by (request_in request.now) }
 {
     requests::read(request)
@@ -69,27 +67,22 @@ pub fn request_data<'a>(request: &'a [u8]) -> &'a [u8]
     ensures reply { result.now ≡ request_data (request_in request.now) }
     ensures place { result.ref_ptr ≡ (request.entry.ref_ptr.0, request.entry.ref_ptr.1 + (request_told (requested_by (request_in request.now))).start) }
 {
-    let asked = requests::read(request);
-    match asked {
-        Requested::FullWrite { id: _, count } => {
+    match requests::read(request) {
+        Ok(Requested::FullWrite { id: _, count }) => {
             let end = requests::FULL_DATA + count;
             &request[requests::FULL_DATA..end]
         }
-        Requested::OffsetWrite {
-            id: _,
-            offset: _,
-            count,
-        } => {
+        Ok(
+            Requested::OffsetWrite {
+                id: _,
+                offset: _,
+                count,
+            },
+        ) => {
             let end = requests::OFFSET_DATA + count;
             &request[requests::OFFSET_DATA..end]
         }
-        Requested::Refused(_) => &request[0..0],
-        Requested::FullRead { id: _ } => &request[0..0],
-        Requested::OffsetRead {
-            id: _,
-            offset: _,
-            count: _,
-        } => &request[0..0],
+        _ => &request[0..0],
     }
 }
 
@@ -105,23 +98,17 @@ pub fn write_request(
     ensures reply { result ≡ request_sent (request_of kind id offset count new.now) room.old }
     ensures room { room.new ≡ request_room (request_of kind id offset count new.now) room.old }
 {
-    if kind == requests::FULL_READ {
-        return requests::send_full_read(id, room);
+    match kind {
+        requests::FULL_READ => requests::send_full_read(id, room),
+        requests::OFFSET_READ => requests::send_offset_read(id, offset, count, room),
+        requests::FULL_WRITE => requests::send_full_write(id, new, room),
+        requests::OFFSET_WRITE => requests::send_offset_write(id, offset, new, room),
+        _ => Err(Refusal::NO_ROOM),
     }
-    if kind == requests::OFFSET_READ {
-        return requests::send_offset_read(id, offset, count, room);
-    }
-    if kind == requests::FULL_WRITE {
-        return requests::send_full_write(id, new, room);
-    }
-    if kind == requests::OFFSET_WRITE {
-        return requests::send_offset_write(id, offset, new, room);
-    }
-    Reply::Refused(Refusal::NO_ROOM)
 }
 
 // Reads a meter's reply.
-pub fn read_reply(reply: &[u8]) -> Heard
+pub fn read_reply(reply: &[u8]) -> Result<Heard, Refusal>
     ensures { result ≡ heard_by (reply_in reply.now) }
 {
     replying::read(reply)
@@ -132,15 +119,12 @@ pub fn reply_data<'a>(reply: &'a [u8]) -> &'a [u8]
     ensures reply { result.now ≡ reply_data (reply_in reply.now) }
     ensures place { result.ref_ptr ≡ (reply.entry.ref_ptr.0, reply.entry.ref_ptr.1 + (reply_told (heard_by (reply_in reply.now))).start) }
 {
-    let heard = replying::read(reply);
-    match heard {
-        Heard::Data { count } => {
+    match replying::read(reply) {
+        Ok(Heard::Data { count }) => {
             let end = replying::DATA + count;
             &reply[replying::DATA..end]
         }
-        Heard::Done => &reply[0..0],
-        Heard::Refused(_) => &reply[0..0],
-        Heard::NoReply => &reply[0..0],
+        _ => &reply[0..0],
     }
 }
 
@@ -149,16 +133,12 @@ pub fn write_reply(kind: u64, code: u64, new: &[u8], room: &mut [u8]) -> Reply
     ensures reply { result ≡ reply_sent (reply_of kind code new.now) room.old }
     ensures room { room.new ≡ reply_room (reply_of kind code new.now) room.old }
 {
-    if kind == 1 {
-        return replying::send_data(new, room);
+    match kind {
+        1 => replying::send_data(new, room),
+        2 => replying::send_done(room),
+        3 => replying::send_refusal(code, room),
+        _ => Err(Refusal::NO_ROOM),
     }
-    if kind == 2 {
-        return replying::send_done(room);
-    }
-    if kind == 3 {
-        return replying::send_refusal(code, room);
-    }
-    Reply::Refused(Refusal::NO_ROOM)
 }
 
 // Answers a request over the tables: its reply into the room, and a write done in the image.
@@ -170,12 +150,11 @@ pub fn serve(description: &[u8], image: &mut [u8], request: &[u8], room: &mut [u
 {
     // No reply is shorter than one octet, and a write's is no longer.
     if room.len() == 0 {
-        return Reply::Refused(Refusal::NO_ROOM);
+        return Err(Refusal::NO_ROOM);
     }
-    let asked = requests::read(request);
-    match asked {
-        Requested::Refused(code) => replying::send_refusal(code as u64, room),
-        Requested::FullRead { id } => {
+    match requests::read(request) {
+        Err(code) => replying::send_refusal(code as u64, room),
+        Ok(Requested::FullRead { id }) => {
             let place = places::table_place(
                 description,
                 image,
@@ -184,7 +163,7 @@ pub fn serve(description: &[u8], image: &mut [u8], request: &[u8], room: &mut [u
             );
             reply_part(image, place, room)
         }
-        Requested::OffsetRead { id, offset, count } => {
+        Ok(Requested::OffsetRead { id, offset, count }) => {
             let place = access::range_place(
                 description,
                 image,
@@ -195,7 +174,7 @@ pub fn serve(description: &[u8], image: &mut [u8], request: &[u8], room: &mut [u
             );
             reply_part(image, place, room)
         }
-        Requested::FullWrite { id, count } => {
+        Ok(Requested::FullWrite { id, count }) => {
             let end = requests::FULL_DATA + count;
             let verdict = access::write_table(
                 description,
@@ -206,7 +185,7 @@ pub fn serve(description: &[u8], image: &mut [u8], request: &[u8], room: &mut [u
             );
             reply_verdict(verdict, room)
         }
-        Requested::OffsetWrite { id, offset, count } => {
+        Ok(Requested::OffsetWrite { id, offset, count }) => {
             let end = requests::OFFSET_DATA + count;
             let verdict = access::write_range(
                 description,

@@ -3,9 +3,8 @@
 ghost use Rattle.std.specs.Prelude.{◌≡◌};
 ghost use Rattle.meaning.specs.Messages.{holds, done, refuses, reply_in, short_reply, heard_by, write_reply_reply, write_reply_room};
 
-use crate::check::Counted;
 use crate::{check, room};
-use meaning::{Heard, Refusal, Reply};
+use meaning::{Answer, Heard, Refusal, Reply};
 
 // The first octet of a reply that refuses nothing, and the last of those that refuse.
 const GOOD: u8 = 0;
@@ -17,33 +16,32 @@ pub(crate) const DATA: usize = 3;
 
 // READING
 // A reply of one octet.
-fn read_short(only: u8) -> Heard
+fn read_short(only: u8) -> Result<Heard, Refusal>
     ensures { result ≡ heard_by (short_reply only) }
 {
     if only == GOOD {
-        return Heard::Done;
+        return Ok(Heard::Done);
     }
     if only as u64 <= LAST {
-        return Heard::Refused(only as u32);
+        return Ok(Heard::Refused(only as u32));
     }
-    Heard::NoReply
+    Err(Refusal::NOT_A_REPLY)
 }
 
-pub(crate) fn read(reply: &[u8]) -> Heard
+pub(crate) fn read(reply: &[u8]) -> Result<Heard, Refusal>
     ensures { result ≡ heard_by (reply_in reply.now) }
 {
     if reply.len() == 1 {
         return read_short(reply[0]);
     }
-    let counted = check::counted_from(reply, 1);
-    match counted {
-        Counted::Not => Heard::NoReply,
-        Counted::Are(count) => {
+    match check::counted_from(reply, 1) {
+        Some(count) => {
             if reply[0] == GOOD {
-                return Heard::Data { count };
+                return Ok(Heard::Data { count });
             }
-            Heard::NoReply
+            Err(Refusal::NOT_A_REPLY)
         }
+        None => Err(Refusal::NOT_A_REPLY),
     }
 }
 
@@ -57,9 +55,9 @@ pub(crate) fn send_data(new: &[u8], room: &mut [u8]) -> Reply
         basics::ends_within(4, new.len(), room.len()),
     ) {
         let behind = room::put_octet(room, 0, GOOD);
-        return Reply::Total(room::put_counted(room, behind, new));
+        return Ok(Answer::Total(room::put_counted(room, behind, new)));
     }
-    Reply::Refused(Refusal::NO_ROOM)
+    Err(Refusal::NO_ROOM)
 }
 
 pub(crate) fn send_done(room: &mut [u8]) -> Reply
@@ -67,9 +65,9 @@ pub(crate) fn send_done(room: &mut [u8]) -> Reply
     ensures room { room.new ≡ write_reply_room done room.old }
 {
     if 1 <= room.len() {
-        return Reply::Total(room::put_octet(room, 0, GOOD));
+        return Ok(Answer::Total(room::put_octet(room, 0, GOOD)));
     }
-    Reply::Refused(Refusal::NO_ROOM)
+    Err(Refusal::NO_ROOM)
 }
 
 pub(crate) fn send_refusal(code: u64, room: &mut [u8]) -> Reply
@@ -78,7 +76,7 @@ pub(crate) fn send_refusal(code: u64, room: &mut [u8]) -> Reply
 {
     let fits = basics::both(1 <= code, code <= LAST);
     if basics::both(fits, 1 <= room.len()) {
-        return Reply::Total(room::put_octet(room, 0, code as u8));
+        return Ok(Answer::Total(room::put_octet(room, 0, code as u8)));
     }
-    Reply::Refused(Refusal::NO_ROOM)
+    Err(Refusal::NO_ROOM)
 }

@@ -5,9 +5,8 @@ ghost use Rattle.std.specs.Prelude.{◌≡◌, ◌+◌, ◌≤◌, ◌∷◌, �
 ghost use Rattle.meaning.specs.Messages.{in_octets, number_from, full_read, offset_read, full_write, offset_write, request_in, requested_by, request_by, write_request_reply, write_request_room};
 ghost use Rattle.messages.specs.Messages.{IsPut};
 
-use crate::check::Counted;
 use crate::{check, room};
-use meaning::{Refusal, Reply, Requested};
+use meaning::{Answer, Refusal, Reply, Requested};
 
 // The kinds, each the first octet of its requests.
 pub(crate) const FULL_READ: u64 = 48;
@@ -48,76 +47,67 @@ fn offset_of(request: &[u8]) -> usize
     check::number_from(request, 3, 3) as usize
 }
 
-fn read_full_read(request: &[u8]) -> Requested
+fn read_full_read(request: &[u8]) -> Result<Requested, u32>
     ensures { result ≡ requested_by (request_by 0x30 request.now) }
 {
     if request.len() != 3 {
-        return Requested::Refused(FAULTY);
+        return Err(FAULTY);
     }
-    Requested::FullRead { id: id_of(request) }
+    Ok(Requested::FullRead { id: id_of(request) })
 }
 
-fn read_offset_read(request: &[u8]) -> Requested
+fn read_offset_read(request: &[u8]) -> Result<Requested, u32>
     ensures { result ≡ requested_by (request_by 0x3F request.now) }
 {
     if request.len() != 8 {
-        return Requested::Refused(FAULTY);
+        return Err(FAULTY);
     }
-    Requested::OffsetRead {
+    Ok(Requested::OffsetRead {
         id: id_of(request),
         offset: offset_of(request),
         count: check::number_from(request, 6, 2) as usize,
-    }
+    })
 }
 
-fn read_full_write(request: &[u8]) -> Requested
+fn read_full_write(request: &[u8]) -> Result<Requested, u32>
     ensures { result ≡ requested_by (request_by 0x40 request.now) }
 {
-    let counted = check::counted_from(request, 3);
-    match counted {
-        Counted::Not => Requested::Refused(FAULTY),
-        Counted::Are(count) => Requested::FullWrite {
+    match check::counted_from(request, 3) {
+        None => Err(FAULTY),
+        Some(count) => Ok(Requested::FullWrite {
             id: id_of(request),
             count,
-        },
+        }),
     }
 }
 
-fn read_offset_write(request: &[u8]) -> Requested
+fn read_offset_write(request: &[u8]) -> Result<Requested, u32>
     ensures { result ≡ requested_by (request_by 0x4F request.now) }
 {
-    let counted = check::counted_from(request, 6);
-    match counted {
-        Counted::Not => Requested::Refused(FAULTY),
-        Counted::Are(count) => Requested::OffsetWrite {
+    match check::counted_from(request, 6) {
+        None => Err(FAULTY),
+        Some(count) => Ok(Requested::OffsetWrite {
             id: id_of(request),
             offset: offset_of(request),
             count,
-        },
+        }),
     }
 }
 
 // What a request asks for, or the octet that refuses it.
-pub(crate) fn read(request: &[u8]) -> Requested
+pub(crate) fn read(request: &[u8]) -> Result<Requested, u32>
     ensures { result ≡ requested_by (request_in request.now) }
 {
     if request.len() == 0 {
-        return Requested::Refused(FAULTY);
+        return Err(FAULTY);
     }
-    let kind = request[0] as u64;
-    if kind == FULL_READ {
-        return read_full_read(request);
+    match request[0] as u64 {
+        FULL_READ => read_full_read(request),
+        OFFSET_READ => read_offset_read(request),
+        FULL_WRITE => read_full_write(request),
+        OFFSET_WRITE => read_offset_write(request),
+        _ => Err(UNKNOWN),
     }
-    if kind == OFFSET_READ {
-        return read_offset_read(request);
-    }
-    if kind == FULL_WRITE {
-        return read_full_write(request);
-    }
-    if kind == OFFSET_WRITE {
-        return read_offset_write(request);
-    }
-    Requested::Refused(UNKNOWN)
 }
 
 // WRITING
@@ -144,9 +134,9 @@ pub(crate) fn send_full_read(id: u64, room: &mut [u8]) -> Reply
     ensures room { room.new ≡ write_request_room (full_read id) room.old }
 {
     if basics::both(id <= TWO_OCTETS, 3 <= room.len()) {
-        return Reply::Total(put_head(room, FULL_READ as u8, id));
+        return Ok(Answer::Total(put_head(room, FULL_READ as u8, id)));
     }
-    Reply::Refused(Refusal::NO_ROOM)
+    Err(Refusal::NO_ROOM)
 }
 
 pub(crate) fn send_offset_read(id: u64, offset: u64, count: u64, room: &mut [u8]) -> Reply
@@ -159,9 +149,9 @@ pub(crate) fn send_offset_read(id: u64, offset: u64, count: u64, room: &mut [u8]
     );
     if basics::both(fits, 8 <= room.len()) {
         let behind_offset = put_offset_head(room, OFFSET_READ as u8, id, offset);
-        return Reply::Total(room::put_number(room, behind_offset, 2, count));
+        return Ok(Answer::Total(room::put_number(room, behind_offset, 2, count)));
     }
-    Reply::Refused(Refusal::NO_ROOM)
+    Err(Refusal::NO_ROOM)
 }
 
 pub(crate) fn send_full_write(id: u64, new: &[u8], room: &mut [u8]) -> Reply
@@ -171,9 +161,9 @@ pub(crate) fn send_full_write(id: u64, new: &[u8], room: &mut [u8]) -> Reply
     let fits = basics::both(id <= TWO_OCTETS, new.len() as u64 <= TWO_OCTETS);
     if basics::both(fits, basics::ends_within(6, new.len(), room.len())) {
         let behind_id = put_head(room, FULL_WRITE as u8, id);
-        return Reply::Total(room::put_counted(room, behind_id, new));
+        return Ok(Answer::Total(room::put_counted(room, behind_id, new)));
     }
-    Reply::Refused(Refusal::NO_ROOM)
+    Err(Refusal::NO_ROOM)
 }
 
 pub(crate) fn send_offset_write(id: u64, offset: u64, new: &[u8], room: &mut [u8]) -> Reply
@@ -186,7 +176,7 @@ pub(crate) fn send_offset_write(id: u64, offset: u64, new: &[u8], room: &mut [u8
     );
     if basics::both(fits, basics::ends_within(9, new.len(), room.len())) {
         let behind_offset = put_offset_head(room, OFFSET_WRITE as u8, id, offset);
-        return Reply::Total(room::put_counted(room, behind_offset, new));
+        return Ok(Answer::Total(room::put_counted(room, behind_offset, new)));
     }
-    Reply::Refused(Refusal::NO_ROOM)
+    Err(Refusal::NO_ROOM)
 }

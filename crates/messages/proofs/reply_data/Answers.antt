@@ -22,10 +22,10 @@ unfolding reply_told
 returns-in-Done c =
     let both = reply_cut _ c.read-heard.ensures c.in-Done.is _ _ in record { reply = both.0; place = both.1 }
 
-pub returns-in-Refused : goal.returns-in-Refused
+pub returns-in-Err : goal.returns-in-Err
 unfolding reply_told
-returns-in-Refused c =
-    let both = reply_cut _ c.read-heard.ensures c.in-Refused.is _ _ in record { reply = both.0; place = both.1 }
+returns-in-Err c =
+    let both = reply_cut _ c.read-heard.ensures c.in-Err.is _ _ in record { reply = both.0; place = both.1 }
 
 pub returns-in-NoReply : goal.returns-in-NoReply
 unfolding reply_told

@@ -2,12 +2,12 @@
 use Rattle.messages.specs.Messages.{place_answer}
 use Rattle.messages.proofs.reply_part.Goals as goal
 
-pub returns-in-Refused : goal.returns-in-Refused
+pub returns-in-Err : goal.returns-in-Err
 unfolding place_answer
-returns-in-Refused c =
-    record { reply = rw (c.in-Refused.is, ← c.code_of.ensures) c.send_refusal.ensures.reply; room = rw (c.in-Refused.is, ← c.code_of.ensures) c.send_refusal.ensures.room }
+returns-in-Err c =
+    record { reply = rw (c.in-Err.is, ← c.code_of.ensures) c.send_refusal.ensures.reply; room = rw (c.in-Err.is, ← c.code_of.ensures) c.send_refusal.ensures.room }
 
-pub returns-in-At : goal.returns-in-At
+pub returns-in-Ok : goal.returns-in-Ok
 unfolding place_answer
-returns-in-At c =
-    record { reply = rw (c.in-At.is, ← c.part.ensures.reply) c.send_data.ensures.reply; room = rw (c.in-At.is, ← c.part.ensures.reply) c.send_data.ensures.room }
+returns-in-Ok c =
+    record { reply = rw (c.in-Ok.is, ← c.part.ensures.reply) c.send_data.ensures.reply; room = rw (c.in-Ok.is, ← c.part.ensures.reply) c.send_data.ensures.room }

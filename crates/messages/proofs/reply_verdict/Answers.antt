@@ -2,12 +2,12 @@
 use Rattle.messages.specs.Messages.{verdict_answer}
 use Rattle.messages.proofs.reply_verdict.Goals as goal
 
-pub returns-in-Passed : goal.returns-in-Passed
+pub returns-in-Ok : goal.returns-in-Ok
 unfolding verdict_answer
-returns-in-Passed c =
-    record { reply = rw c.in-Passed.is c.send_done.ensures.reply; room = rw c.in-Passed.is c.send_done.ensures.room }
+returns-in-Ok c =
+    record { reply = rw c.in-Ok.is c.send_done.ensures.reply; room = rw c.in-Ok.is c.send_done.ensures.room }
 
-pub returns-in-Refused : goal.returns-in-Refused
+pub returns-in-Err : goal.returns-in-Err
 unfolding verdict_answer
-returns-in-Refused c =
-    record { reply = rw (c.in-Refused.is, ← c.code_of.ensures) c.send_refusal.ensures.reply; room = rw (c.in-Refused.is, ← c.code_of.ensures) c.send_refusal.ensures.room }
+returns-in-Err c =
+    record { reply = rw (c.in-Err.is, ← c.code_of.ensures) c.send_refusal.ensures.reply; room = rw (c.in-Err.is, ← c.code_of.ensures) c.send_refusal.ensures.room }

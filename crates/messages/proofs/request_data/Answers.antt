@@ -31,10 +31,10 @@ unfolding request_told
 returns-in-OffsetWrite c =
     let both = request_cut _ c.read-asked.ensures c.in-OffsetWrite.is _ _ in record { reply = both.0; place = both.1 }
 
-pub returns-in-Refused : goal.returns-in-Refused
+pub returns-in-Err : goal.returns-in-Err
 unfolding request_told
-returns-in-Refused c =
-    let both = request_cut _ c.read-asked.ensures c.in-Refused.is _ _ in record { reply = both.0; place = both.1 }
+returns-in-Err c =
+    let both = request_cut _ c.read-asked.ensures c.in-Err.is _ _ in record { reply = both.0; place = both.1 }
 
 pub returns-in-FullRead : goal.returns-in-FullRead
 unfolding request_told

@@ -15,9 +15,9 @@ overflow_add-end-in-OffsetWrite c = omega (arith, (came_as _ c.read-asked.ensure
 pub slice_bounds-write_range-end : goal.slice_bounds-write_range-end
 slice_bounds-write_range-end c = omega (arith, (came_as _ c.read-asked.ensures c.in-OffsetWrite.is).0)
 
-pub returns-in-Refused : goal.returns-in-Refused
-returns-in-Refused c =
-    let all = refused_served c.args.description.now c.args.image.now c.args.request.now c.args.room.now c.read-asked.ensures c.in-Refused.is (c.send_refusal.ensures.reply, c.send_refusal.ensures.room) in record { reply = all.0; image = all.1.0; room = all.1.1 }
+pub returns-in-Err : goal.returns-in-Err
+returns-in-Err c =
+    let all = refused_served c.args.description.now c.args.image.now c.args.request.now c.args.room.now c.read-asked.ensures c.in-Err.is (c.send_refusal.ensures.reply, c.send_refusal.ensures.room) in record { reply = all.0; image = all.1.0; room = all.1.1 }
 
 pub returns-in-FullRead : goal.returns-in-FullRead
 returns-in-FullRead c =
