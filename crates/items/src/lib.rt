@@ -10,7 +10,7 @@ ghost use Rattle.meaning.specs.Basics.{bits};
 ghost use Rattle.meaning.specs.Description.{item_count, word_at, own_octets, referring, malformed, names_slot, octets_of_code, table_of, uint_of, block_of, set_of, array_of, if_of, fields_of, is_choice, nests};
 ghost use Rattle.items.specs.Read.{read_at};
 
-use basics::{bit_range, both, either, wide};
+use basics::{bit_range, wide};
 use meaning::{Fields, Kind};
 
 // Bits high..low of a word, bit 0 least significant.
@@ -103,7 +103,7 @@ fn uint_of(word: u32) -> Fields
 {
     let code = bits(27, 26, word);
     if_formed(
-        both(code < 3, bits(19, 0, word) == 0),
+        code < 3 && bits(19, 0, word) == 0,
         own_octets(
             Kind::Uint,
             bits(25, 20, word) as usize,
@@ -117,7 +117,7 @@ fn block_of(word: u32) -> Fields
 {
     let octets = bits(27, 16, word);
     if_formed(
-        both(0 < octets, bits(15, 0, word) == 0),
+        0 < octets && bits(15, 0, word) == 0,
         own_octets(Kind::Block, 0, octets as usize),
     )
 }
@@ -126,7 +126,7 @@ fn set_of(word: u32) -> Fields
     ensures { result ≡ set_of word }
 {
     if_formed(
-        both(names_slot(word), bits(10, 0, word) == 0),
+        names_slot(word) && bits(10, 0, word) == 0,
         referring(Kind::Set, bits(11, 11, word) == 1, 0, 0, word),
     )
 }
@@ -136,7 +136,7 @@ fn array_of(word: u32) -> Fields
 {
     let items = bits(11, 0, word);
     if_formed(
-        both(names_slot(word), 0 < items),
+        names_slot(word) && 0 < items,
         referring(Kind::Array, false, items, 0, word),
     )
 }
@@ -146,7 +146,7 @@ fn if_of(word: u32) -> Fields
 {
     let yes = bits(11, 6, word);
     if_formed(
-        both(names_slot(word), 0 < yes),
+        names_slot(word) && 0 < yes,
         referring(Kind::If, false, yes, bits(5, 0, word), word),
     )
 }
@@ -177,7 +177,7 @@ pub fn is_choice(f: Fields) -> bool
 pub fn nests(f: Fields) -> bool
     ensures { result ≡ nests f }
 {
-    either(f.kind == Kind::Array, is_choice(f))
+    f.kind == Kind::Array || is_choice(f)
 }
 
 // A place in a description: before item `at`.

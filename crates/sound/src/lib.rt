@@ -6,11 +6,12 @@
 #![tactic(auto, unfolding(meaning::specs::Description::breaks1, meaning::specs::Description::breaks2, meaning::specs::Description::breaks3, meaning::specs::Description::breaks4, meaning::specs::Description::breaks5, meaning::specs::Description::is_table00, meaning::specs::Description::is_data_order, meaning::specs::Description::misplaced, meaning::specs::Description::inside, meaning::specs::Description::lowest_broken, crate::specs::Walk::noted))]
 
 ghost use Rattle.std.specs.Prelude.{◌≡◌, ◌&&◌, ◌+◌, ◌<◌, ◌≤◌, length, get_or, if◌then◌else◌};
+ghost use Rattle.meaning.specs.Basics.{◌<?◌};
 ghost use Rattle.meaning.specs.Ranges.{FieldsRange};
 ghost use Rattle.meaning.specs.Description.{item_count, is_table, nests, is_dimension, is_table_named, is_table00, is_data_order, misplaced, count, inside, table_given, breaks1, breaks2, breaks3, breaks4, breaks5, breaks6, breaks7, lowest_broken, check_reply};
 ghost use Rattle.sound.specs.Walk.{There, Known, noted, Before, JudgedAs, CheckedAs};
 
-use basics::{both, either, wide};
+use basics::wide;
 use items::{Cursor, Read, nests};
 use meaning::{Fields, Kind, Refusal, Round, Verdict};
 
@@ -37,10 +38,7 @@ fn is_dimension(f: Fields) -> bool
 fn is_table_named(f: Fields, manufacturer: u32, number: u32) -> bool
     ensures { result ≡ is_table_named f manufacturer number }
 {
-    both(
-        both(is_table(f), f.manufacturer == manufacturer),
-        f.number == number,
-    )
+    is_table(f) && f.manufacturer == manufacturer && f.number == number
 }
 
 // WHAT EARLIER ITEMS GAVE
@@ -71,14 +69,15 @@ fn table_given(d: &[u8], end: usize, manufacturer: u32, number: u32) -> bool
     requires { end ≤ item_count d.now }
     ensures { result ≡ table_given d.now end manufacturer number }
 {
-    let mut found = false;
     let mut place = Cursor::first();
     for _ in 0..end {
         let read = place.read(d);
-        found = either(is_table_named(read.fields, manufacturer, number), found);
+        if is_table_named(read.fields, manufacturer, number) {
+            return true;
+        }
         place = read.next;
     }
-    found
+    false
 }
 
 // THE RULES: item i, which is f with r round it, breaks them
@@ -91,37 +90,27 @@ fn breaks2(f: Fields) -> bool
 fn is_table00(f: Fields) -> bool
     ensures { result ≡ is_table00 f }
 {
-    both(is_table_named(f, 0, 0), 0 < f.first)
+    is_table_named(f, 0, 0) && 0 < f.first
 }
 
 fn is_data_order(f: Fields) -> bool
     ensures { result ≡ is_data_order f }
 {
-    both(is_dimension(f), f.octets == 1)
+    is_dimension(f) && f.octets == 1
 }
 
 fn misplaced(f: Fields, r: Round) -> bool
     ensures { result ≡ misplaced f r }
 {
-    either(
-        either(
-            both(r.tables == 0, !is_table(f)),
-            both(0 < r.tables, is_table(f)),
-        ),
-        both(is_dimension(f), 0 < r.nests),
-    )
+    (r.tables == 0 && !is_table(f))
+        || (0 < r.tables && is_table(f))
+        || (is_dimension(f) && 0 < r.nests)
 }
 
 fn breaks3(f: Fields, i: usize, r: Round) -> bool
     ensures { result ≡ breaks3 f i r }
 {
-    either(
-        either(
-            both(i == 0, !is_table00(f)),
-            both(i == 1, !is_data_order(f)),
-        ),
-        misplaced(f, r),
-    )
+    (i == 0 && !is_table00(f)) || (i == 1 && !is_data_order(f)) || misplaced(f, r)
 }
 
 fn breaks4(f: Fields, i: usize, r: Round) -> bool
@@ -134,7 +123,7 @@ fn breaks4(f: Fields, i: usize, r: Round) -> bool
 fn breaks5(f: Fields, r: Round) -> bool
     ensures { result ≡ breaks5 f r }
 {
-    both(nests(f), 3 < r.nests)
+    nests(f) && 3 < r.nests
 }
 
 // Only a TABLE is looked for among the items before it: that search is what grows with the square of
@@ -151,13 +140,20 @@ fn table_twice(d: &[u8], f: Fields, i: usize) -> bool
     false
 }
 
+// Whether the slot that f sets is set already.
+fn slot_taken(f: Fields, slots: &[u8; 64]) -> bool
+    requires { FieldsRange f × (length slots.now ≡ 64) }
+    ensures { result ≡ (is_dimension f && 0 <? get_or slots.now f.sets 0) }
+{
+    let sets = f.sets;
+    is_dimension(f) && 0 < octets_of_slot(slots, sets)
+}
+
 fn breaks6(d: &[u8], f: Fields, i: usize, slots: &[u8; 64]) -> bool
     requires { There d.now i × FieldsRange f × Known d.now i slots.now }
     ensures { result ≡ breaks6 d.now f i }
 {
-    let sets = f.sets;
-    let slot_twice = both(is_dimension(f), 0 < octets_of_slot(slots, sets));
-    either(table_twice(d, f, i), slot_twice)
+    table_twice(d, f, i) || slot_taken(f, slots)
 }
 
 fn breaks7(d: &[u8], f: Fields, i: usize, slots: &[u8; 64]) -> bool
@@ -165,7 +161,7 @@ fn breaks7(d: &[u8], f: Fields, i: usize, slots: &[u8; 64]) -> bool
     ensures { result ≡ breaks7 d.now f i }
 {
     let slot = f.slot;
-    both(0 < slot, 8 * octets_of_slot(slots, slot) < f.low + f.width)
+    0 < slot && 8 * octets_of_slot(slots, slot) < f.low + f.width
 }
 
 // Of the rules 2 to 7, each broken or not, the lowest that is broken; 0 for none.
@@ -290,7 +286,7 @@ fn breaks1(d: &[u8]) -> bool
     ensures { result ≡ breaks1 d.now }
 {
     let n = d.len();
-    either(either(n == 0, 2048 < n), 0 < n % 4)
+    n == 0 || 2048 < n || 0 < n % 4
 }
 
 // Whether a description is sound. Nothing is asked of its octets.
