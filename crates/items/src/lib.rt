@@ -79,12 +79,6 @@ fn referring(kind: Kind, flags: bool, first: u32, second: u32, word: u32) -> Fie
     }
 }
 
-fn if_formed(formed: bool, fields: Fields) -> Fields
-    ensures { result ≡ (if formed then fields else malformed) }
-{
-    if formed { fields } else { Fields::MALFORMED }
-}
-
 fn table_of(word: u32) -> Fields
     ensures { result ≡ table_of word }
 {
@@ -102,53 +96,50 @@ fn uint_of(word: u32) -> Fields
     ensures { result ≡ uint_of word }
 {
     let code = bits(27, 26, word);
-    if_formed(
-        code < 3 && bits(19, 0, word) == 0,
-        own_octets(
-            Kind::Uint,
-            bits(25, 20, word) as usize,
-            octets_of_code(code),
-        ),
-    )
+    if code < 3 && bits(19, 0, word) == 0 {
+        let sets = bits(25, 20, word) as usize;
+        return own_octets(Kind::Uint, sets, octets_of_code(code));
+    }
+    Fields::MALFORMED
 }
 
 fn block_of(word: u32) -> Fields
     ensures { result ≡ block_of word }
 {
     let octets = bits(27, 16, word);
-    if_formed(
-        0 < octets && bits(15, 0, word) == 0,
-        own_octets(Kind::Block, 0, octets as usize),
-    )
+    if 0 < octets && bits(15, 0, word) == 0 {
+        return own_octets(Kind::Block, 0, octets as usize);
+    }
+    Fields::MALFORMED
 }
 
 fn set_of(word: u32) -> Fields
     ensures { result ≡ set_of word }
 {
-    if_formed(
-        names_slot(word) && bits(10, 0, word) == 0,
-        referring(Kind::Set, bits(11, 11, word) == 1, 0, 0, word),
-    )
+    if names_slot(word) && bits(10, 0, word) == 0 {
+        return referring(Kind::Set, bits(11, 11, word) == 1, 0, 0, word);
+    }
+    Fields::MALFORMED
 }
 
 fn array_of(word: u32) -> Fields
     ensures { result ≡ array_of word }
 {
     let items = bits(11, 0, word);
-    if_formed(
-        names_slot(word) && 0 < items,
-        referring(Kind::Array, false, items, 0, word),
-    )
+    if names_slot(word) && 0 < items {
+        return referring(Kind::Array, false, items, 0, word);
+    }
+    Fields::MALFORMED
 }
 
 fn if_of(word: u32) -> Fields
     ensures { result ≡ if_of word }
 {
     let yes = bits(11, 6, word);
-    if_formed(
-        names_slot(word) && 0 < yes,
-        referring(Kind::If, false, yes, bits(5, 0, word), word),
-    )
+    if names_slot(word) && 0 < yes {
+        return referring(Kind::If, false, yes, bits(5, 0, word), word);
+    }
+    Fields::MALFORMED
 }
 
 // What an item says, from its word.

@@ -164,44 +164,30 @@ fn breaks7(d: &[u8], f: Fields, i: usize, slots: &[u8; 64]) -> bool
     0 < slot && 8 * octets_of_slot(slots, slot) < f.low + f.width
 }
 
-// Of the rules 2 to 7, each broken or not, the lowest that is broken; 0 for none.
-fn lowest(two: bool, three: bool, four: bool, five: bool, six: bool, seven: bool) -> u32
-    ensures { result ≡ (if two then 2 else if three then 3 else if four then 4 else if five then 5 else if six then 6 else if seven then 7 else 0) }
-{
-    if two {
-        return 2;
-    }
-    if three {
-        return 3;
-    }
-    if four {
-        return 4;
-    }
-    if five {
-        return 5;
-    }
-    if six {
-        return 6;
-    }
-    if seven {
-        return 7;
-    }
-    0
-}
-
 // The lowest number of the rules that item i breaks, 0 for none.
 fn lowest_broken(d: &[u8], f: Fields, i: usize, r: Round, slots: &[u8; 64]) -> u32
     requires { There d.now i × FieldsRange f × Known d.now i slots.now }
     ensures { result ≡ lowest_broken d.now f i r }
 {
-    lowest(
-        breaks2(f),
-        breaks3(f, i, r),
-        breaks4(f, i, r),
-        breaks5(f, r),
-        breaks6(d, f, i, slots),
-        breaks7(d, f, i, slots),
-    )
+    if breaks2(f) {
+        return 2;
+    }
+    if breaks3(f, i, r) {
+        return 3;
+    }
+    if breaks4(f, i, r) {
+        return 4;
+    }
+    if breaks5(f, r) {
+        return 5;
+    }
+    if breaks6(d, f, i, slots) {
+        return 6;
+    }
+    if breaks7(d, f, i, slots) {
+        return 7;
+    }
+    0
 }
 
 // THE CHECK
