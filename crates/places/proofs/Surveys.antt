@@ -1,5 +1,6 @@
 -- Tables laid one after another: those laid and those left come to the whole image, at the start, after each table and at the end; and what is asked for is
 -- found among those laid. Assumes nothing.
+use Rattle.std.specs.Prelude.{None}
 use Prim.Native.Nat.{ℕ, zero, suc, ◌+◌, ◌-◌, ◌<◌, ◌≤◌, min}
 use mathlib.Core.Path.{◌≡◌, refl, ◌∙◌, ap, ap₂, sym, subst, fun_ext}
 use mathlib.Core.Logic.{inl, inr}
@@ -35,8 +36,6 @@ use Rattle.laying.proofs.Rising.{RisesBody, rises_body}
 use Rattle.laying.proofs.Steps.{tables_none, tables_step}
 use Rattle.laying.proofs.Tops.{passed_sound, fit_body, table_one}
 use Rattle.laying.proofs.Rows.{first_none_right, first_assoc}
-use Rattle.places.specs.declared.rows.Stands.{Stands}
-use Rattle.places.specs.declared.rows.Stands.TheVariants.{Nowhere, There}
 use Rattle.places.specs.declared.survey.Answer.{Answer}
 use Rattle.places.specs.declared.survey.Asked.{Asked}
 use Rattle.places.specs.declared.survey.Standing.{Standing}
@@ -47,12 +46,11 @@ use Rattle.places.specs.declared.survey.TableName.{TableName}
 use Rattle.places.specs.declared.walk.Aim.{Aim}
 use Rattle.places.specs.declared.walk.Walk.{Walk}
 use Rattle.places.specs.Measuring.{numbers_in}
-use Rattle.places.specs.Rows.{levels, saying, cut_row, alone, first_by}
+use Rattle.places.specs.Rows.{alone}
 use Rattle.places.specs.Surveying.{table_found, is_first, seat_in, first_standing, held_in, held_after, verdict_of, StandsAs, before_all, Surveyed, TableReady, TableAs, refused_by, AnswerAs}
 use Rattle.places.specs.Walking.{WalkEnds, Ends, WalkBodyReady, WalksBody}
 use Rattle.places.proofs.Held.{holds_append}
-use Rattle.places.proofs.RowLaws.{as_none}
-use Rattle.meaning.proofs.Either.{clash}
+use Rattle.places.proofs.RowLaws.{as_none, first_case, said_none, said_some}
 
 -- WHERE THINGS ARE
 -- the first of two that is found
@@ -90,32 +88,13 @@ seat_more n ts h i p l = rw (named_more _ _ ts (seat_of h i p l)) (go (table_nam
     go (some t) = refl
     go none = one (h.manufacturer =? n.manufacturer && h.number =? n.number)
 
--- a row of the code that is none says none, and one that is some comes before any other
-said_none : (L : List def.Array) (r : def.Row) → saying Nowhere L ≡ cut_row r → r ≡ no_row
-unfolding saying cut_row
-said_none L (row p n rest) e = clash (cc)
-said_none L no_row e = refl
-
-said_some : (p : ℕ) (x : Stands) (L : List def.Array) (r q : def.Row) → saying x L ≡ cut_row r → (x ≡ Nowhere → ⊥) → first_row (onward p r) q ≡ onward p r
-unfolding saying cut_row first_row onward
-said_some p x L (row o n rest) q e other = refl
-said_some p Nowhere L no_row q e other = absurd (other refl)
-said_some p (There o n) L no_row q e other = clash (cc)
-
 -- which of two rows stands
 standing_first : (a b : Standing) (r q : def.Row) → StandsAs a r → StandsAs b q → StandsAs (first_standing a b) (first_row r q)
-unfolding first_by first_row onward
-standing_first a b r q h g = go a.row.stands h.row_as.says
-  where
-    L : List def.Array
-    L = levels 0 a.row.arrays.depth a.row.arrays.counts a.row.arrays.strides
-
-    stays : (x : Stands) → saying x L ≡ cut_row h.in_table → (x ≡ Nowhere → ⊥) → StandsAs a (first_row r q)
-    stays x e other = record { in_table = h.in_table; is = rw h.is (said_some a.start.0 x L h.in_table q e other); row_as = h.row_as; early = h.early }
-
-    go : (x : Stands) → saying x L ≡ cut_row h.in_table → StandsAs (first_by x a b) (first_row r q)
-    go Nowhere e = record { in_table = g.in_table; is = rw (h.is, said_none L h.in_table e) g.is; row_as = g.row_as; early = g.early }
-    go (There p n) e = stays (There p n) e (λ z. clash (cc))
+unfolding first_row onward
+standing_first a b r q h g =
+    first_case (λ (x : Standing). StandsAs x (first_row r q)) a.row.stands a b
+    (λ z. record { in_table = g.in_table; is = rw (h.is, said_none _ h.in_table (rw z at h.row_as.says)) g.is; row_as = g.row_as; early = g.early })
+    (λ z. record { in_table = h.in_table; is = rw h.is (said_some a.start.0 _ _ h.in_table q h.row_as.says z); row_as = h.row_as; early = h.early })
 
 -- OCTETS OF DIMENSIONS. n octets from offset o on of the table of that name, among tables and elements that end by p; then a table from p to x, with elements ps
 module _ (n : TableName) (o l p : ℕ) (ts : List Seat) (es ps : List Placed) (h : Fields) (i x : ℕ) (order : p ≤ x)
@@ -184,7 +163,7 @@ pub set_out : (d img : List ℕ) (q : Asked) (p z : ℕ) → p ≡ 0 → z ≡ 0
       next = record { at = z };
       first = No;
       second = No;
-      element = record { start = record { 0 = p }; row = alone Nowhere };
+      element = record { start = record { 0 = p }; row = alone None };
       held = false;
       verdict = Verdict.Passed;
     })
@@ -288,7 +267,7 @@ module _ (d img : List ℕ) (q : Asked) (s : Survey) (ready : TableReady d img q
 
   -- the walk before it, at the item after the table's own
   abbrev sets_off : (next octets : ℕ) → Walk
-  sets_off next octets = record { numbers = s.numbers; octets = record { 0 = octets }; row = alone Nowhere; held = false; next = record { at = next }; short = false }
+  sets_off next octets = record { numbers = s.numbers; octets = record { 0 = octets }; row = alone None; held = false; next = record { at = next }; short = false }
 
   pub table_ready : (next octets first : ℕ) → next ≡ at + 1 → octets ≡ 0 → first ≡ f.first → WalkBodyReady d img aim (sets_off next octets) first 4
   table_ready next octets first e z i =

@@ -1,14 +1,12 @@
 -- ROWS AS THE CODE HAS THEM: four places for the ARRAYs round an element and their number, offsets and strides cut at 65,536. Assumes nothing.
-use Rattle.std.specs.Prelude.{ℕ, zero, suc, ◌+◌, ◌*◌, ◌≤◌, min, ◌≡◌, true, false, List, [], ◌∷◌, length, get_or, replicate, take, if◌then◌else◌}
+use Rattle.std.specs.Prelude.{ℕ, zero, suc, ◌+◌, ◌*◌, ◌≤◌, min, ◌≡◌, List, [], ◌∷◌, Option, Some, None, length, get_or, replicate, take, if◌then◌else◌}
 use Rattle.laying.specs.Rows.{Array, row, no_row, Spot, spot, absent}
 use Rattle.laying.specs.Rows as def
 use Rattle.places.specs.declared.rows.Arrays.{Arrays}
 use Rattle.meaning.specs.Basics.{◌=?◌, ◌<?◌}
 use Rattle.meaning.specs.declared.ElementName.{ElementName}
-use Rattle.places.specs.declared.rows.Reach.{Reach}
+use Rattle.places.specs.declared.rows.Extent.{Extent}
 use Rattle.places.specs.declared.rows.Row.{Row}
-use Rattle.places.specs.declared.rows.Stands.{Stands}
-use Rattle.places.specs.declared.rows.Stands.TheVariants.{Nowhere, There}
 
 -- a size, cut past every image
 abbrev pub cut : ℕ → ℕ
@@ -23,9 +21,9 @@ abbrev pub arrays_of : Arrays → List Array
 arrays_of a = levels 0 a.depth a.counts a.strides
 
 -- what a row of the code says
-unfoldable pub saying : Stands → List Array → def.Row
-saying Nowhere rest = no_row
-saying (There p n) rest = row p n rest
+unfoldable pub saying : Option Extent → List Array → def.Row
+saying None rest = no_row
+saying (Some e) rest = row e.first e.length rest
 
 abbrev pub said : Row → def.Row
 said c = saying c.stands (arrays_of c.arrays)
@@ -51,19 +49,19 @@ pub record RowAs (k : ℕ) (c : Row) (r : def.Row) : Type 0 where
   pub few : Few k c.arrays
 
 -- WHAT THE FUNCTIONS ON ROWS GIVE
-abbrev pub alone : Stands → Row
+abbrev pub alone : Option Extent → Row
 alone x = record { stands = x; arrays = record { depth = 0; counts = replicate 4 0; strides = replicate 4 0 } }
 
-unfoldable pub first_by : {A : Type 0} → Stands → A → A → A
-first_by Nowhere a b = b
-first_by (There p n) a b = a
+unfoldable pub first_by : {A : Type 0} → Option Extent → A → A → A
+first_by None a b = b
+first_by (Some e) a b = a
 
 abbrev pub first_of : Row → Row → Row
 first_of a b = first_by a.stands a b
 
-unfoldable pub moved_by : (by : ℕ) → Stands → Stands
-moved_by k Nowhere = Nowhere
-moved_by k (There p n) = There (cut (cut k + cut p)) n
+unfoldable pub moved_by : (by : ℕ) → Option Extent → Option Extent
+moved_by k None = None
+moved_by k (Some e) = Some (record { first = cut (cut k + cut e.first); length = e.length })
 
 abbrev pub onward_by : (by : ℕ) → Row → Row
 onward_by k c = record { stands = moved_by k c.stands; arrays = c.arrays }
@@ -79,25 +77,23 @@ with_array c w r = record {
 }
 
 -- WHERE AN ELEMENT IS, by the code's row: as `spot_in`, with every sum cut
-abbrev pub not_reached : Reach
-not_reached = record { found = false; octet = 0 }
+unfoldable pub reach_in : (octet : ℕ) → List Array → (subscripts : List ℕ) → Option ℕ
+reach_in p [] [] = Some p
+reach_in p [] (x ∷ xs) = None
+reach_in p (a ∷ rest) [] = None
+reach_in p (a ∷ rest) (x ∷ xs) = if x <? a.count then reach_in (cut (p + cut (x * a.stride))) rest xs else None
 
-unfoldable pub reach_in : (octet : ℕ) → List Array → (subscripts : List ℕ) → Reach
-reach_in p [] [] = record { found = true; octet = p }
-reach_in p [] (x ∷ xs) = not_reached
-reach_in p (a ∷ rest) [] = not_reached
-reach_in p (a ∷ rest) (x ∷ xs) = if x <? a.count then reach_in (cut (p + cut (x * a.stride))) rest xs else not_reached
-
-unfoldable pub reached_by : (first : ℕ) → Arrays → ElementName → Reach
-reached_by p a q = if q.count =? a.depth then reach_in (cut p) (arrays_of a) (take q.count q.subscripts) else not_reached
+unfoldable pub reached_by : (first : ℕ) → Arrays → ElementName → Option ℕ
+reached_by p a q = if q.count =? a.depth then reach_in (cut p) (arrays_of a) (take q.count q.subscripts) else None
 
 -- the place of an element of that length, where it is reached
-unfoldable pub spot_at : Reach → (length : ℕ) → Spot
-spot_at r n = if r.found then spot r.octet n else absent
+unfoldable pub spot_at : (octet : Option ℕ) → (length : ℕ) → Spot
+spot_at (Some p) n = spot p n
+spot_at None n = absent
 
-unfoldable pub spot_from : Stands → Arrays → ElementName → Spot
-spot_from Nowhere a q = absent
-spot_from (There p n) a q = spot_at (reached_by p a q) n
+unfoldable pub spot_from : Option Extent → Arrays → ElementName → Spot
+spot_from None a q = absent
+spot_from (Some e) a q = spot_at (reached_by e.first a q) e.length
 
 unfoldable pub spot_by : Row → ElementName → Spot
 spot_by c q = spot_from c.stands c.arrays q

@@ -1,5 +1,5 @@
 -- THE WHOLE IMAGE: what laying the tables one after another promises, by what laying out comes to. Assumes nothing.
-use Rattle.std.specs.Prelude.{ℕ, ◌+◌, ◌-◌, ◌<◌, ◌≤◌, min, ◌≡◌, Bool, false, ◌&&◌, List, ◌++◌, length, replicate, if◌then◌else◌}
+use Rattle.std.specs.Prelude.{ℕ, ◌+◌, ◌-◌, ◌<◌, ◌≤◌, min, ◌≡◌, Bool, false, ◌&&◌, None, List, ◌++◌, length, replicate, if◌then◌else◌}
 use Rattle.std.proofs.Math.Option.{Option, some, none}
 use Rattle.meaning.specs.Basics.{◌=?◌, ◌≤?◌}
 use Rattle.meaning.specs.declared.Fields.{Fields}
@@ -16,7 +16,6 @@ use Rattle.laying.specs.Rows as def
 use Rattle.laying.specs.Slots.{Matches}
 use Rattle.laying.specs.Sound.{Known, SoundTables}
 use Rattle.offsets.specs.declared.TableStart.{TableStart}
-use Rattle.places.specs.declared.rows.Stands.TheVariants.{Nowhere}
 use Rattle.places.specs.declared.survey.Answer.{Answer}
 use Rattle.places.specs.declared.survey.Asked.{Asked}
 use Rattle.places.specs.declared.survey.Standing.{Standing}
@@ -124,7 +123,7 @@ refused_by r = record {
   numbers = replicate 64 0;
   first = No;
   second = No;
-  element = record { start = record { 0 = 0 }; row = alone Nowhere };
+  element = record { start = record { 0 = 0 }; row = alone None };
   held = false;
 }
 

@@ -21,7 +21,7 @@ ghost use Rattle.places.specs.Opening.{found_by, nothing_asked, refusal_or, foun
 
 use meaning::{ElementName, Place, Refusal, Reply, Verdict};
 use offsets::{ImageOffset, TableOffset, TableStart};
-use rows::{Stands, reached};
+use rows::{Extent, reached};
 use survey::{Asked, Standing, TableFound, TableName, open_image};
 use why::{suits, why_none};
 
@@ -53,6 +53,7 @@ pub enum ElementFound {
 }
 
 // Where the element of that name stands, by its item's row, if it suits what is asked.
+#[tactic(auto, unfolding(crate::specs::Opening::found_by, crate::specs::Opening::spot_found, crate::specs::Rows::spot_by, crate::specs::Rows::spot_from, crate::specs::Rows::spot_at))]
 fn found_by(element: Standing, name: ElementName, suits: bool) -> ElementFound
     requires { Few 4 element.row.arrays }
     ensures { (result ≡ found_by suits element name) × (length name.subscripts ≡ 4) }
@@ -65,17 +66,14 @@ fn found_by(element: Standing, name: ElementName, suits: bool) -> ElementFound
         return ElementFound::Missing;
     }
     match stands {
-        Stands::Nowhere => ElementFound::Missing,
-        Stands::There { first, length } => {
-            let at = reached(first, arrays, name);
-            if at.found {
-                return ElementFound::Here {
-                    start: start.in_image(TableOffset::new(at.octet)),
-                    length,
-                };
-            }
-            ElementFound::Missing
-        }
+        Some(Extent { first, length }) => match reached(first, arrays, name) {
+            Some(octet) => ElementFound::Here {
+                start: start.in_image(TableOffset::new(octet)),
+                length,
+            },
+            None => ElementFound::Missing,
+        },
+        None => ElementFound::Missing,
     }
 }
 

@@ -16,22 +16,22 @@ pub struct Arrays {
     pub strides: [u32; 4],
 }
 
-// Whether an element's item stands here, and where its first element does.
+// Where the first element of an item stands, and how long it is.
 #[derive(Clone, Copy)]
-pub enum Stands {
-    Nowhere,
-    There { first: usize, length: usize },
+pub struct Extent {
+    pub first: usize,
+    pub length: usize,
 }
 
-// What is found for an element's item, with the ARRAYs round it.
+// What is found for an element's item, with the ARRAYs round it; none if it doesn't stand here.
 #[derive(Clone, Copy)]
 pub struct Row {
-    pub stands: Stands,
+    pub stands: Option<Extent>,
     pub arrays: Arrays,
 }
 
 // A row with no ARRAYs.
-pub(crate) fn alone(stands: Stands) -> Row
+pub(crate) fn alone(stands: Option<Extent>) -> Row
     ensures { result ≡ alone stands }
 {
     Row {
@@ -45,16 +45,13 @@ pub(crate) fn alone(stands: Stands) -> Row
 }
 
 // The one of the two that is a row.
+#[tactic(auto, unfolding(crate::specs::Rows::first_by))]
 pub(crate) fn first_row(a: Row, b: Row) -> Row
     ensures { result ≡ first_of a b }
 {
-    let stands = a.stands;
-    match stands {
-        Stands::Nowhere => b,
-        Stands::There {
-            first: _,
-            length: _,
-        } => a,
+    match a.stands {
+        Some(_) => a,
+        None => b,
     }
 }
 
@@ -66,20 +63,19 @@ pub(crate) fn cut(size: usize) -> usize
 }
 
 // So many octets further on.
+#[tactic(auto, unfolding(crate::specs::Rows::moved_by))]
 pub(crate) fn onward(by: usize, row: Row) -> Row
     ensures { result ≡ onward_by by row }
 {
-    let stands = row.stands;
-    let arrays = row.arrays;
-    match stands {
-        Stands::Nowhere => row,
-        Stands::There { first, length } => Row {
-            stands: Stands::There {
+    match row.stands {
+        Some(Extent { first, length }) => Row {
+            stands: Some(Extent {
                 first: cut(cut(by) + cut(first)),
                 length,
-            },
-            arrays,
+            }),
+            ..row
         },
+        None => row,
     }
 }
 
@@ -102,40 +98,27 @@ pub(crate) fn in_array(count: usize, stride: usize, row: Row) -> Row
     }
 }
 
-// Whether an element of some subscripts stands there, and at which octet.
-#[derive(Clone, Copy)]
-pub struct Reach {
-    pub found: bool,
-    pub octet: usize,
-}
-
-// Where the element of these subscripts stands: one for each ARRAY, each below its count.
-pub(crate) fn reached(first: usize, arrays: Arrays, name: ElementName) -> Reach
+// Where the element of these subscripts stands: one for each ARRAY, each below its count; none if they are others.
+pub(crate) fn reached(first: usize, arrays: Arrays, name: ElementName) -> Option<usize>
     requires { Few 4 arrays × (length name.subscripts ≡ 4) }
     ensures { result ≡ reached_by first arrays name }
 {
-    let depth = arrays.depth;
-    let counts = arrays.counts;
-    let strides = arrays.strides;
+    let Arrays {
+        depth,
+        counts,
+        strides,
+    } = arrays;
     let subscripts = name.subscripts;
     if name.count != depth {
-        return Reach {
-            found: false,
-            octet: 0,
-        };
+        return None;
     }
     let mut octet = cut(first);
-    let mut j = 0usize;
-    while j < depth {
+    for j in 0..depth {
         let subscript = subscripts[j];
         if counts[j] as usize <= subscript {
-            return Reach {
-                found: false,
-                octet: 0,
-            };
+            return None;
         }
         octet = cut(octet + cut(subscript * strides[j] as usize));
-        j += 1;
     }
-    Reach { found: true, octet }
+    Some(octet)
 }

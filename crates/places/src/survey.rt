@@ -6,7 +6,7 @@ ghost use Rattle.meaning.specs.Layout.{lay_out};
 ghost use Rattle.meaning.specs.Refusals.{open_laid, open_image};
 ghost use Rattle.places.specs.Surveying.{is_first, seat_in, first_standing, held_after, verdict_of, refused_by, TableReady, TableAs, SurveyReady, AnswerAs};
 
-use crate::rows::{Row, Stands, alone};
+use crate::rows::{Row, alone};
 use crate::walk::{Aim, Walk, walk_body};
 use basics::{both, ends_within};
 use items::Cursor;
@@ -107,17 +107,13 @@ fn seat(before: TableFound, this: bool, item: usize, start: TableStart, length: 
 }
 
 // The one of the two that is a row.
+#[tactic(auto, unfolding(crate::specs::Rows::first_by))]
 fn first_standing(before: Standing, now: Standing) -> Standing
     ensures { result ≡ first_standing before now }
 {
-    let row = before.row;
-    let stands = row.stands;
-    match stands {
-        Stands::Nowhere => now,
-        Stands::There {
-            first: _,
-            length: _,
-        } => before,
+    match before.row.stands {
+        Some(_) => before,
+        None => now,
     }
 }
 
@@ -179,7 +175,7 @@ fn survey_table(d: &[u8], image: &[u8], asked: Asked, s: Survey) -> Survey
     let before = Walk {
         numbers,
         octets: TableOffset::new(0),
-        row: alone(Stands::Nowhere),
+        row: alone(None),
         held: false,
         next,
         short: false,
@@ -215,7 +211,7 @@ fn refused(r: Refusal) -> Answer
         second: TableFound::No,
         element: Standing {
             start: TableStart::first(),
-            row: alone(Stands::Nowhere),
+            row: alone(None),
         },
         held: false,
     }
@@ -237,7 +233,7 @@ fn survey_image(d: &[u8], image: &[u8], asked: Asked) -> Answer
         second: TableFound::No,
         element: Standing {
             start,
-            row: alone(Stands::Nowhere),
+            row: alone(None),
         },
         held: false,
         verdict: Verdict::Passed,

@@ -14,30 +14,12 @@ pub returns-then-name-depth : goal.returns-then-name-depth
 returns-then-name-depth c = reached_not _ _ _ c.if-name-depth.true
 
 pub loop-j-init : goal.loop-j-init
-loop-j-init c = (omega arith, omega (arith, c.cut-octet.ensures), rw c.cut-octet.ensures)
-
-pub offset_bounds-subscripts-j : goal.offset_bounds-subscripts-j
-offset_bounds-subscripts-j c = omega arith
-
-pub bounds-subscripts-j : goal.bounds-subscripts-j
-bounds-subscripts-j c = omega arith
-
-pub offset_bounds-counts-j : goal.offset_bounds-counts-j
-offset_bounds-counts-j c = omega arith
-
-pub bounds-counts-j : goal.bounds-counts-j
-bounds-counts-j c = omega arith
+loop-j-init c = (omega (arith, c.cut-octet.ensures), rw c.cut-octet.ensures)
 
 pub returns-then-counts-j : goal.returns-then-counts-j
 returns-then-counts-j c =
-    left_past _ _ _ _ _ _ c.loop-j-test.true (omega arith) c.if-counts-j.true ∙ c.loop-j.invariant.2
+    left_past _ _ _ _ _ _ c.loop-j-test.true (omega arith) c.if-counts-j.true ∙ c.loop-j.invariant.1
     ∙ reached_all _ _ _ c.if-name-depth.false
-
-pub offset_bounds-strides-j : goal.offset_bounds-strides-j
-offset_bounds-strides-j c = omega arith
-
-pub bounds-strides-j : goal.bounds-strides-j
-bounds-strides-j c = omega arith
 
 pub overflow_cast-strides : goal.overflow_cast-strides
 overflow_cast-strides c =
@@ -52,22 +34,12 @@ overflow_mul-subscript c =
     let w : get_or c.args.arrays.strides c.loop-j.j 0 ≤ 4294967295 = omega arith in
     omega (arith, mul-le-mul x w)
 
-pub overflow_add-octet : goal.overflow_add-octet
-overflow_add-octet c = omega (arith, c.cut.ensures)
-
-pub overflow_add-j : goal.overflow_add-j
-overflow_add-j c = omega arith
-
-pub loop-j-smaller : goal.loop-j-smaller
-loop-j-smaller c = omega arith
-
 pub loop-j-preserved : goal.loop-j-preserved
 loop-j-preserved c = (
-  omega arith,
   omega (arith, c.cut-octet-in-loop-j.ensures),
   rw (c.cut-octet-in-loop-j.ensures, c.cut.ensures)
-      (left_next _ _ _ _ _ _ c.loop-j-test.true (omega arith) c.if-counts-j.false ∙ c.loop-j.invariant.2),
+      (left_next _ _ _ _ _ _ c.loop-j-test.true (omega arith) c.if-counts-j.false ∙ c.loop-j.invariant.1),
 )
 
 pub returns : goal.returns
-returns c = left_none _ _ _ _ _ _ (omega arith) ∙ c.loop-j.invariant.2 ∙ reached_all _ _ _ c.if-name-depth.false
+returns c = left_none _ _ _ _ _ _ (omega arith) ∙ c.loop-j.invariant.1 ∙ reached_all _ _ _ c.if-name-depth.false
