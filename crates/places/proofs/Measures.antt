@@ -26,7 +26,7 @@ use Rattle.laying.proofs.Steps.{body_none, body_step}
 use Rattle.places.specs.declared.measure.Sized.{Sized}
 use Rattle.places.specs.declared.measure.Span.{Span}
 use Rattle.places.specs.Measuring.{numbers_in, inner_of, leaf_span, joined, array_span, node_in, SpanAs, BodyReady, ItemReady, BodyAs, ItemAs, Going}
-use Rattle.places.specs.Rows.{cut, levels, saying, cut_arrays, cut_row, RowAs, alone}
+use Rattle.places.specs.Rows.{cut, saying, cut_arrays, cut_row, RowAs, alone}
 use Rattle.places.proofs.Numbers.{cut_mul}
 use Rattle.places.proofs.RowLaws.{as_none, as_wider, as_first, as_onward, as_array}
 
@@ -174,7 +174,7 @@ module _ (d numbers : List ℕ) (at k i : ℕ) (ready : ItemReady d numbers at k
 
   -- a UINT, BLOCK or SET
   pub leaf_measured : nests f ≡ false → SpanAs k (leaf_span f x at i) (item_size (node_in k d at) w) (item_row (node_in k d at) w i)
-  unfolding item_size item_row leaf_span saying cut_row cut_arrays levels
+  unfolding item_size item_row leaf_span saying cut_row cut_arrays
   leaf_measured other = rw (leaf_is (inner_at k d) d at (nested f) other ready.fit) (record { size_is = refl; row_as = go (at =? i) })
     where
       go : (b : Bool) → RowAs k (alone (if b then Some (record { first = 0; length = leaf_octets f x }) else None)) (if b then row 0 (leaf_octets f x) [] else no_row)

@@ -1,11 +1,11 @@
 -- Where an element is, by the code's row: what is left after some ARRAYs, and that the place is the definition's where that lies in an image. Assumes nothing.
 use Rattle.std.specs.Prelude.{Option, Some, None, if◌then◌else◌}
-use Prim.Native.Nat.{ℕ, zero, suc, ◌+◌, ◌-◌, ◌*◌, ◌<◌, ◌≤◌}
+use Prim.Native.Nat.{ℕ, suc, ◌+◌, ◌*◌, ◌<◌, ◌≤◌}
 use mathlib.Core.Path.{◌≡◌, refl, ◌∙◌, ap, sym}
 use mathlib.Core.Bool.{Bool, true, false}
-use mathlib.Core.List.{List, [], ◌∷◌}
+use mathlib.Core.List.{List, [], ◌∷◌, map}
 use borrow.Author.Tests.{eqb-true, eqb-false, eq-eqb, ne_eqb, lt-ltb, le-ltb, leb-true, leb-false}
-use lib.ListN.{length, get_or, take}
+use lib.ListN.{length, length-map, get_or, take}
 use lib.Seq.{slice, slice-cons, slice_empty, length-take-le}
 use native.Mathlib.Numerals.{add-one}
 use native.Mathlib.Omega.{arith}
@@ -15,33 +15,35 @@ use Rattle.laying.specs.Rows.{Array, row, no_row, Spot, spot, absent, spot_in, r
 use Rattle.laying.specs.Rows as def
 use Rattle.places.specs.declared.rows.Arrays.{Arrays}
 use Rattle.places.specs.declared.rows.Extent.{Extent}
+use Rattle.places.specs.declared.rows.Level.{Level}
 use Rattle.places.specs.declared.rows.Row.{Row}
-use Rattle.places.specs.Rows.{cut, levels, arrays_of, saying, said, cut_arrays, cut_row, Few, RowAs, reach_in, reached_by, spot_at, spot_from, spot_by}
+use Rattle.places.specs.Rows.{cut, array_of, arrays_of, no_level, saying, said, cut_arrays, cut_row, Few, RowAs, reach_in, reached_by, spot_at, spot_from, spot_by}
 use Rattle.places.proofs.Numbers.{cut_mul}
 
 -- WHAT IS LEFT, of k ARRAYs, from ARRAY j on and octet o: one step, where the subscript is below the count or isn't, and none
-abbrev pub left_at : (o j k : ℕ) → (counts strides subscripts : List ℕ) → Option ℕ
-left_at o j k cs ws xs = reach_in o (levels j (k - j) cs ws) (slice j k xs)
+abbrev pub left_at : (o j k : ℕ) → (levels : List Level) → (subscripts : List ℕ) → Option ℕ
+left_at o j k ls xs = reach_in o (map array_of (slice j k ls)) (slice j k xs)
 
-pub left_next : (o j k : ℕ) (cs ws xs : List ℕ) → j < k → k ≤ length xs → get_or xs j 0 < get_or cs j 0
-    → left_at (cut (o + cut (get_or xs j 0 * get_or ws j 0))) (j + 1) k cs ws xs ≡ left_at o j k cs ws xs
-unfolding levels reach_in
-left_next o j k cs ws xs l h b =
-    let e : k - j ≡ suc (k - (j + 1)) = omega arith in rw (e, slice-cons j k xs 0 l h, add-one j, lt-ltb (get_or xs j 0) (get_or cs j 0) b)
+module _ (o j k : ℕ) (ls : List Level) (xs : List ℕ) (l : j < k) (here : k ≤ length ls) (there : k ≤ length xs) where
+  pub left_next : get_or xs j 0 < (get_or ls j no_level).count
+      → left_at (cut (o + cut (get_or xs j 0 * (get_or ls j no_level).stride))) (j + 1) k ls xs ≡ left_at o j k ls xs
+  unfolding reach_in
+  left_next b =
+      rw (slice-cons j k ls no_level l here, slice-cons j k xs 0 l there, add-one j, lt-ltb (get_or xs j 0) (get_or ls j no_level).count b)
 
-pub left_past : (o j k : ℕ) (cs ws xs : List ℕ) → j < k → k ≤ length xs → get_or cs j 0 ≤ get_or xs j 0 → None ≡ left_at o j k cs ws xs
-unfolding levels reach_in
-left_past o j k cs ws xs l h b =
-    let e : k - j ≡ suc (k - (j + 1)) = omega arith in rw (e, slice-cons j k xs 0 l h, le-ltb (get_or xs j 0) (get_or cs j 0) b)
+  pub left_past : (get_or ls j no_level).count ≤ get_or xs j 0 → None ≡ left_at o j k ls xs
+  unfolding reach_in
+  left_past b =
+      rw (slice-cons j k ls no_level l here, slice-cons j k xs 0 l there, le-ltb (get_or xs j 0) (get_or ls j no_level).count b)
 
-pub left_none : (o j k : ℕ) (cs ws xs : List ℕ) → j ≡ k → Some o ≡ left_at o j k cs ws xs
-unfolding levels reach_in
-left_none o j k cs ws xs e = let z : k - k ≡ 0 = omega arith in rw (e, z, slice_empty k xs)
+pub left_none : (o j k : ℕ) (ls : List Level) (xs : List ℕ) → j ≡ k → Some o ≡ left_at o j k ls xs
+unfolding reach_in
+left_none o j k ls xs e = rw (e, slice_empty k ls, slice_empty k xs)
 
 pub reached_all : (p : ℕ) (a : Arrays) (q : ElementName) → q.count ≡ a.depth
-    → left_at (cut p) 0 a.depth a.counts a.strides q.subscripts ≡ reached_by p a q
+    → left_at (cut p) 0 a.depth a.levels q.subscripts ≡ reached_by p a q
 unfolding reached_by
-reached_all p a q e = let z : a.depth - 0 ≡ a.depth = omega arith in rw (z, e, eq-eqb a.depth a.depth refl)
+reached_all p a q e = rw (e, eq-eqb a.depth a.depth refl)
 
 pub reached_not : (p : ℕ) (a : Arrays) (q : ElementName) → (q.count ≡ a.depth → ⊥) → None ≡ reached_by p a q
 unfolding reached_by
@@ -52,12 +54,12 @@ if_same : {A : Type 0} (b : Bool) (x : A) → (if b then x else x) ≡ x
 if_same true x = refl
 if_same false x = refl
 
-reach_unequal : (p j k : ℕ) (cs ws xs : List ℕ) → (k ≡ length xs → ⊥) → reach_in p (levels j k cs ws) xs ≡ None
-unfolding levels reach_in
-reach_unequal p j zero cs ws [] h = absurd (h refl)
-reach_unequal p j zero cs ws (x ∷ xs) h = refl
-reach_unequal p j (suc k) cs ws [] h = refl
-reach_unequal p j (suc k) cs ws (x ∷ xs) h = rw (reach_unequal (cut (p + cut (x * get_or ws j 0))) (j + 1) k cs ws xs (λ e. h (ap suc e)), if_same)
+reach_unequal : (p : ℕ) (arrays : List Array) (xs : List ℕ) → (length arrays ≡ length xs → ⊥) → reach_in p arrays xs ≡ None
+unfolding reach_in
+reach_unequal p [] [] h = absurd (h refl)
+reach_unequal p [] (x ∷ xs) h = refl
+reach_unequal p (a ∷ rest) [] h = refl
+reach_unequal p (a ∷ rest) (x ∷ xs) h = rw (reach_unequal (cut (p + cut (x * a.stride))) rest xs (λ e. h (ap suc e)), if_same)
 
 reached_few : (p : ℕ) (a : Arrays) (q : ElementName) → Few 4 a → length q.subscripts ≡ 4
     → reached_by p a q ≡ (if q.count ≤? 4 then reach_in (cut p) (arrays_of a) (take q.count q.subscripts) else None)
@@ -72,7 +74,8 @@ reached_few p a q few four = go (q.count =? a.depth) (q.count ≤? 4) refl refl
     go false true e f =
         let l : q.count ≤ 4 = leb-true _ _ f in
         let n : length (take q.count q.subscripts) ≡ q.count = length-take-le q.count q.subscripts (omega arith) in
-        sym (reach_unequal _ 0 a.depth _ _ _ (λ d. eqb-false q.count a.depth e (omega arith)))
+        let m : length (arrays_of a) ≡ a.depth = length-map (take a.depth a.levels) array_of ∙ length-take-le a.depth a.levels (omega (arith, few.depth, few.levels)) in
+        sym (reach_unequal _ (arrays_of a) _ (λ d. eqb-false q.count a.depth e (omega arith)))
 
 -- THE PLACE, where it lies in an image: cutting changes nothing
 abbrev InImage : Spot → Type 0

@@ -1,24 +1,24 @@
 -- ROWS AS THE CODE HAS THEM: four places for the ARRAYs round an element and their number, offsets and strides cut at 65,536. Assumes nothing.
-use Rattle.std.specs.Prelude.{ℕ, zero, suc, ◌+◌, ◌*◌, ◌≤◌, min, ◌≡◌, List, [], ◌∷◌, Option, Some, None, length, get_or, replicate, take, if◌then◌else◌}
+use Rattle.std.specs.Prelude.{ℕ, ◌+◌, ◌*◌, ◌≤◌, min, ◌≡◌, List, [], ◌∷◌, map, Option, Some, None, length, get_or, replicate, take, if◌then◌else◌}
 use Rattle.laying.specs.Rows.{Array, row, no_row, Spot, spot, absent}
 use Rattle.laying.specs.Rows as def
 use Rattle.places.specs.declared.rows.Arrays.{Arrays}
 use Rattle.meaning.specs.Basics.{◌=?◌, ◌<?◌}
 use Rattle.meaning.specs.declared.ElementName.{ElementName}
 use Rattle.places.specs.declared.rows.Extent.{Extent}
+use Rattle.places.specs.declared.rows.Level.{Level}
 use Rattle.places.specs.declared.rows.Row.{Row}
 
 -- a size, cut past every image
 abbrev pub cut : ℕ → ℕ
 cut n = min n 65536
 
--- so many counts with their strides, from place j on
-unfoldable pub levels : (j depth : ℕ) → (counts strides : List ℕ) → List Array
-levels j zero cs ws = []
-levels j (suc k) cs ws = record { count = get_or cs j 0; stride = get_or ws j 0 } ∷ levels (j + 1) k cs ws
+-- an ARRAY as the code has it
+abbrev pub array_of : Level → Array
+array_of l = record { count = l.count; stride = l.stride }
 
 abbrev pub arrays_of : Arrays → List Array
-arrays_of a = levels 0 a.depth a.counts a.strides
+arrays_of a = map array_of (take a.depth a.levels)
 
 -- what a row of the code says
 unfoldable pub saying : Option Extent → List Array → def.Row
@@ -40,8 +40,7 @@ cut_row no_row = no_row
 -- at most so many ARRAYs, in four places
 pub record Few (k : ℕ) (a : Arrays) : Type 0 where
   pub depth : a.depth ≤ k
-  pub counts : length a.counts ≡ 4
-  pub strides : length a.strides ≡ 4
+  pub levels : length a.levels ≡ 4
 
 -- the code's row says r, cut
 pub record RowAs (k : ℕ) (c : Row) (r : def.Row) : Type 0 where
@@ -49,8 +48,11 @@ pub record RowAs (k : ℕ) (c : Row) (r : def.Row) : Type 0 where
   pub few : Few k c.arrays
 
 -- WHAT THE FUNCTIONS ON ROWS GIVE
+abbrev pub no_level : Level
+no_level = record { count = 0; stride = 0 }
+
 abbrev pub alone : Option Extent → Row
-alone x = record { stands = x; arrays = record { depth = 0; counts = replicate 4 0; strides = replicate 4 0 } }
+alone x = record { stands = x; arrays = record { depth = 0; levels = replicate 4 no_level } }
 
 unfoldable pub first_by : {A : Type 0} → Option Extent → A → A → A
 first_by None a b = b
@@ -71,8 +73,7 @@ with_array c w r = record {
   stands = r.stands;
   arrays = record {
     depth = r.arrays.depth + 1;
-    counts = c ∷ get_or r.arrays.counts 0 0 ∷ get_or r.arrays.counts 1 0 ∷ get_or r.arrays.counts 2 0 ∷ [];
-    strides = w ∷ get_or r.arrays.strides 0 0 ∷ get_or r.arrays.strides 1 0 ∷ get_or r.arrays.strides 2 0 ∷ [];
+    levels = record { count = c; stride = w } ∷ get_or r.arrays.levels 0 no_level ∷ get_or r.arrays.levels 1 no_level ∷ get_or r.arrays.levels 2 no_level ∷ [];
   };
 }
 

@@ -7,13 +7,18 @@ ghost use Rattle.places.specs.Rows.{cut, Few, alone, first_of, onward_by, with_a
 use basics::least;
 use meaning::ElementName;
 
-// The ARRAYs round an element, outside in: how many there are, and of each its count and stride.
-// Places past the depth mean nothing.
+// An ARRAY round an element: its count, and how far its elements stand apart.
+#[derive(Clone, Copy)]
+pub struct Level {
+    pub count: u32,
+    pub stride: u32,
+}
+
+// The ARRAYs round an element, outside in, and how many there are. Places past the depth mean nothing.
 #[derive(Clone, Copy)]
 pub struct Arrays {
     pub depth: usize,
-    pub counts: [u32; 4],
-    pub strides: [u32; 4],
+    pub levels: [Level; 4],
 }
 
 // Where the first element of an item stands, and how long it is.
@@ -38,8 +43,10 @@ pub(crate) fn alone(stands: Option<Extent>) -> Row
         stands,
         arrays: Arrays {
             depth: 0,
-            counts: [0u32; 4],
-            strides: [0u32; 4],
+            levels: [Level {
+                count: 0,
+                stride: 0,
+            }; 4],
         },
     }
 }
@@ -84,17 +91,17 @@ pub(crate) fn in_array(count: usize, stride: usize, row: Row) -> Row
     requires { (count < 4294967296) × (stride ≤ 65536) × Few 3 row.arrays }
     ensures { result ≡ with_array count stride row }
 {
-    let stands = row.stands;
-    let inner = row.arrays;
-    let counts = inner.counts;
-    let strides = inner.strides;
+    let Arrays { depth, levels } = row.arrays;
+    let outer = Level {
+        count: count as u32,
+        stride: stride as u32,
+    };
     Row {
-        stands,
         arrays: Arrays {
-            depth: inner.depth + 1,
-            counts: [count as u32, counts[0], counts[1], counts[2]],
-            strides: [stride as u32, strides[0], strides[1], strides[2]],
+            depth: depth + 1,
+            levels: [outer, levels[0], levels[1], levels[2]],
         },
+        ..row
     }
 }
 
@@ -103,22 +110,19 @@ pub(crate) fn reached(first: usize, arrays: Arrays, name: ElementName) -> Option
     requires { Few 4 arrays × (length name.subscripts ≡ 4) }
     ensures { result ≡ reached_by first arrays name }
 {
-    let Arrays {
-        depth,
-        counts,
-        strides,
-    } = arrays;
+    let Arrays { depth, levels } = arrays;
     let subscripts = name.subscripts;
     if name.count != depth {
         return None;
     }
     let mut octet = cut(first);
     for j in 0..depth {
+        let Level { count, stride } = levels[j];
         let subscript = subscripts[j];
-        if counts[j] as usize <= subscript {
+        if count as usize <= subscript {
             return None;
         }
-        octet = cut(octet + cut(subscript * strides[j] as usize));
+        octet = cut(octet + cut(subscript * stride as usize));
     }
     Some(octet)
 }
