@@ -2,12 +2,12 @@
 use Rattle.std.specs.Prelude.{Option, Some, None, if◌then◌else◌}
 use Prim.Native.Nat.{ℕ, suc, ◌+◌, ◌*◌, ◌<◌, ◌≤◌}
 use mathlib.Core.Path.{◌≡◌, refl, ◌∙◌, ap, sym}
+use mathlib.Core.Logic.{◌⊎◌, inl, inr}
 use mathlib.Core.Bool.{Bool, true, false}
 use mathlib.Core.List.{List, [], ◌∷◌, map}
 use borrow.Author.Tests.{eqb-true, eqb-false, eq-eqb, ne_eqb, lt-ltb, le-ltb, leb-true, leb-false}
-use lib.ListN.{length, length-map, get_or, take}
-use lib.Seq.{slice, slice-cons, slice_empty, length-take-le}
-use native.Mathlib.Numerals.{add-one}
+use lib.ListN.{length, length-map, take}
+use lib.Seq.{length-take-le}
 use native.Mathlib.Omega.{arith}
 use Rattle.meaning.specs.Basics.{◌=?◌, ◌<?◌, ◌≤?◌}
 use Rattle.meaning.specs.declared.ElementName.{ElementName}
@@ -17,33 +17,33 @@ use Rattle.places.specs.declared.rows.Arrays.{Arrays}
 use Rattle.places.specs.declared.rows.Extent.{Extent}
 use Rattle.places.specs.declared.rows.Level.{Level}
 use Rattle.places.specs.declared.rows.Row.{Row}
-use Rattle.places.specs.Rows.{cut, array_of, arrays_of, no_level, saying, said, cut_arrays, cut_row, Few, RowAs, reach_in, reached_by, spot_at, spot_from, spot_by}
+use Rattle.places.specs.Rows.{cut, array_of, arrays_of, saying, said, cut_arrays, cut_row, Few, RowAs, reach_in, reached_by, spot_at, spot_from, spot_by}
 use Rattle.places.proofs.Numbers.{cut_mul}
 
--- WHAT IS LEFT, of k ARRAYs, from ARRAY j on and octet o: one step, where the subscript is below the count or isn't, and none
-abbrev pub left_at : (o j k : ℕ) → (levels : List Level) → (subscripts : List ℕ) → Option ℕ
-left_at o j k ls xs = reach_in o (map array_of (slice j k ls)) (slice j k xs)
+-- WHAT IS LEFT of the ARRAYs and the subscripts, from octet o on: one step, where the subscript is below the count or isn't
+abbrev pub left_at : (o : ℕ) → List Level → (subscripts : List ℕ) → Option ℕ
+left_at o ls xs = reach_in o (map array_of ls) (take (length ls) xs)
 
-module _ (o j k : ℕ) (ls : List Level) (xs : List ℕ) (l : j < k) (here : k ≤ length ls) (there : k ≤ length xs) where
-  pub left_next : get_or xs j 0 < (get_or ls j no_level).count
-      → left_at (cut (o + cut (get_or xs j 0 * (get_or ls j no_level).stride))) (j + 1) k ls xs ≡ left_at o j k ls xs
+module _ (o : ℕ) (a : Level) (ls : List Level) (x : ℕ) (xs : List ℕ) where
+  pub left_next : x < a.count → left_at (cut (o + cut (x * a.stride))) ls xs ≡ left_at o (a ∷ ls) (x ∷ xs)
   unfolding reach_in
-  left_next b =
-      rw (slice-cons j k ls no_level l here, slice-cons j k xs 0 l there, add-one j, lt-ltb (get_or xs j 0) (get_or ls j no_level).count b)
+  left_next b = rw (lt-ltb x a.count b)
 
-  pub left_past : (get_or ls j no_level).count ≤ get_or xs j 0 → None ≡ left_at o j k ls xs
+  pub left_past : a.count ≤ x → None ≡ left_at o (a ∷ ls) (x ∷ xs)
   unfolding reach_in
-  left_past b =
-      rw (slice-cons j k ls no_level l here, slice-cons j k xs 0 l there, le-ltb (get_or xs j 0) (get_or ls j no_level).count b)
+  left_past b = rw (le-ltb x a.count b)
 
-pub left_none : (o j k : ℕ) (ls : List Level) (xs : List ℕ) → j ≡ k → Some o ≡ left_at o j k ls xs
+-- and none, where one of the two comes to its end
+pub left_none : (o : ℕ) (ls : List Level) (xs : List ℕ) → (ls ≡ []) ⊎ (xs ≡ []) → length ls ≤ length xs → Some o ≡ left_at o ls xs
 unfolding reach_in
-left_none o j k ls xs e = rw (e, slice_empty k ls, slice_empty k xs)
+left_none o [] xs e l = refl
+left_none o (a ∷ ls) xs (inl e) l = absurd (omega (arith, ap length e))
+left_none o (a ∷ ls) xs (inr e) l = absurd (omega (arith, ap length e))
 
-pub reached_all : (p : ℕ) (a : Arrays) (q : ElementName) → q.count ≡ a.depth
-    → left_at (cut p) 0 a.depth a.levels q.subscripts ≡ reached_by p a q
+pub reached_all : (p : ℕ) (a : Arrays) (q : ElementName) → a.depth ≤ length a.levels → q.count ≡ a.depth
+    → left_at (cut p) (take a.depth a.levels) q.subscripts ≡ reached_by p a q
 unfolding reached_by
-reached_all p a q e = rw (e, eq-eqb a.depth a.depth refl)
+reached_all p a q l e = rw (length-take-le a.depth a.levels l, e, eq-eqb a.depth a.depth refl)
 
 pub reached_not : (p : ℕ) (a : Arrays) (q : ElementName) → (q.count ≡ a.depth → ⊥) → None ≡ reached_by p a q
 unfolding reached_by

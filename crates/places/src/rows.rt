@@ -111,18 +111,15 @@ pub(crate) fn reached(first: usize, arrays: Arrays, name: ElementName) -> Option
     ensures { result ≡ reached_by first arrays name }
 {
     let Arrays { depth, levels } = arrays;
-    let subscripts = name.subscripts;
     if name.count != depth {
         return None;
     }
     let mut octet = cut(first);
-    for j in 0..depth {
-        let Level { count, stride } = levels[j];
-        let subscript = subscripts[j];
-        if count as usize <= subscript {
+    for (level, subscript) in levels[..depth].iter().zip(name.subscripts.iter()) {
+        if level.count as usize <= *subscript {
             return None;
         }
-        octet = cut(octet + cut(subscript * stride as usize));
+        octet = cut(octet + cut(*subscript * level.stride as usize));
     }
     Some(octet)
 }
