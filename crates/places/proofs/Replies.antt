@@ -1,5 +1,5 @@
 -- What one walk tells is what the replies say: the total, where two tables are, where an element is, which table a range lies in. Assumes nothing.
-use Rattle.std.specs.Prelude.{if◌then◌else◌}
+use Rattle.std.specs.Prelude.{Some, None, Ok, Err, if◌then◌else◌}
 use Prim.Native.Nat.{ℕ, ◌+◌, ◌≤◌, min}
 use mathlib.Core.Path.{◌≡◌, refl, ◌∙◌, ap, sym, subst}
 use mathlib.Core.Bool.{Bool, true, false}
@@ -25,16 +25,13 @@ use Rattle.laying.proofs.LaidOut.{elements_end, total_inside}
 use Rattle.laying.proofs.Opened.{Opens, Came, opens, refuses, came, opened_image}
 use Rattle.laying.proofs.Reaches.{row_says}
 use Rattle.laying.proofs.Spots.{further, row_onward}
-use Rattle.offsets.specs.declared.ImageOffset.{ImageOffset}
-use Rattle.offsets.specs.declared.TableStart.{TableStart}
-use Rattle.places.specs.declared.ElementFound.{ElementFound}
-use Rattle.places.specs.declared.ElementFound.TheVariants.{Missing, Here}
-use Rattle.places.specs.declared.Ranged.{Ranged}
+use Rattle.places.specs.declared.ElementSpot.{ElementSpot}
+use Rattle.places.specs.declared.RangeTable.{RangeTable}
 use Rattle.places.specs.declared.survey.Answer.{Answer}
 use Rattle.places.specs.declared.survey.Asked.{Asked}
 use Rattle.places.specs.declared.survey.Standing.{Standing}
-use Rattle.places.specs.declared.survey.TableFound.{TableFound}
-use Rattle.places.specs.declared.survey.TableFound.TheVariants.{No, Yes}
+use Rattle.places.specs.declared.survey.TableSpot.{TableSpot}
+use Rattle.places.specs.Found.{FoundTable, FoundElement, FoundRange}
 use Rattle.places.specs.Opening.{spot_found, found_by, place_or, refusal_or, found_place, range_of, range_in}
 use Rattle.places.specs.Measuring.{numbers_in}
 use Rattle.places.specs.Rows.{Few}
@@ -155,45 +152,48 @@ module _ (d img : List ℕ) (q : Asked) (r : Answer) (a : AnswerAs d img q r (op
             rw (opened_image o, h.passed, ← h.numbers) (element_is o _ (suits number d name) name r.element four (rw same at h.element))
         go (refuses y e) = let h : AnswerAs d img q r (refused y) = subst (AnswerAs d img q r) e a in rw (e, h)
 
-    module _ {suited : Bool} (suiting : suited ≡ suits number d name) {found : ElementFound} (is : (found ≡ found_by suited r.element name) × (length name.subscripts ≡ 4)) where
+    module _ {suited : Bool} (suiting : suited ≡ suits number d name) {found : FoundElement} (is : (found ≡ found_by suited r.element name) × (length name.subscripts ≡ 4)) where
       pub element_refused : (x : Refusal) → r.verdict ≡ Verdict.Refused x → Place.Refused x ≡ element_place_in number d name (open_image d img)
       unfolding refusal_or
       element_refused x e = sym (rw e) ∙ element_told is.1
 
-      pub element_here : (s : ImageOffset) (l : ℕ) → r.verdict ≡ Verdict.Passed → found ≡ Here s l → Place.At s l ≡ element_place_in number d name (open_image d img)
+      pub element_here : (e : ElementSpot) → r.verdict ≡ Verdict.Passed → found ≡ Some e → Place.At e.start e.length ≡ element_place_in number d name (open_image d img)
       unfolding refusal_or place_or
-      element_here s l e h = sym (rw (e, ← suiting, ← is.0, h)) ∙ element_told is.1
+      element_here x e h = sym (rw (e, ← suiting, ← is.0, h)) ∙ element_told is.1
 
-      pub element_missing : {why : Refusal} → why ≡ why_none number d (numbers_in r.numbers) name → r.verdict ≡ Verdict.Passed → found ≡ Missing
+      pub element_missing : {why : Refusal} → why ≡ why_none number d (numbers_in r.numbers) name → r.verdict ≡ Verdict.Passed → found ≡ None
           → Place.Refused why ≡ element_place_in number d name (open_image d img)
       unfolding refusal_or place_or
       element_missing w e h = sym (rw (e, ← suiting, ← is.0, h, ← w)) ∙ element_told is.1
 
   -- THE RANGE
   -- by the table found
-  abbrev ranged : TableFound → (held : Bool) → Ranged
-  ranged No b = Ranged.Refused no_table
-  ranged (Yes i s l) b = Ranged.In i s l b
+  abbrev in_range : TableSpot → (held : Bool) → RangeTable
+  in_range t b = record { item = t.item; start = t.start; length = t.length; held = b }
+
+  abbrev ranged : FoundTable → (held : Bool) → FoundRange
+  ranged None b = Err no_table
+  ranged (Some t) b = Ok (in_range t b)
 
   range_found : (X : Option Seat) (es : List Placed) → r.first ≡ table_found X → r.held ≡ held_in q.from.0 q.octets X es
       → ranged r.first r.held ≡ range_of q.from.0 q.octets X es
   unfolding range_of table_found
-  range_found none es e h = ap (λ (z : TableFound). ranged z r.held) e
-  range_found (some t) es e h = ap (λ (z : TableFound). ranged z r.held) e ∙ ap (λ (b : Bool). Ranged.In t.item (record { 0 = t.start }) t.size b) h
+  range_found none es e h = ap (λ (z : FoundTable). ranged z r.held) e
+  range_found (some t) es e h = ap (λ (z : FoundTable). ranged z r.held) e ∙ ap (λ (b : Bool). Ok (in_range (record { item = t.item; start = record { 0 = t.start }; length = t.size }) b)) h
 
   range_in_lem : (o : Opened) → AnswerAs d img q r o
-      → ((x : Refusal) → r.verdict ≡ Verdict.Refused x → Ranged.Refused x ≡ range_in q.first.manufacturer q.first.number q.from q.octets o)
+      → ((x : Refusal) → r.verdict ≡ Verdict.Refused x → Err x ≡ range_in q.first.manufacturer q.first.number q.from q.octets o)
       × (r.verdict ≡ Verdict.Passed → ranged r.first r.held ≡ range_in q.first.manufacturer q.first.number q.from q.octets o)
   unfolding range_in
   range_in_lem (opened ts es s n) h = ((λ x e. clash (cc h.passed)), λ e. range_found _ es h.first h.held)
   range_in_lem (refused y) h = ((λ x e. cc), λ e. clash (cc))
 
-  pub range_refused : (x : Refusal) → r.verdict ≡ Verdict.Refused x → Ranged.Refused x ≡ range_in q.first.manufacturer q.first.number q.from q.octets (open_image d img)
+  pub range_refused : (x : Refusal) → r.verdict ≡ Verdict.Refused x → Err x ≡ range_in q.first.manufacturer q.first.number q.from q.octets (open_image d img)
   range_refused = (range_in_lem (open_image d img) a).0
 
-  pub range_none : r.verdict ≡ Verdict.Passed → r.first ≡ No → Ranged.Refused no_table ≡ range_in q.first.manufacturer q.first.number q.from q.octets (open_image d img)
-  range_none e g = ap (λ (z : TableFound). ranged z r.held) (sym g) ∙ (range_in_lem (open_image d img) a).1 e
+  pub range_none : r.verdict ≡ Verdict.Passed → r.first ≡ None → Err no_table ≡ range_in q.first.manufacturer q.first.number q.from q.octets (open_image d img)
+  range_none e g = ap (λ (z : FoundTable). ranged z r.held) (sym g) ∙ (range_in_lem (open_image d img) a).1 e
 
-  pub range_told : r.verdict ≡ Verdict.Passed → (i : ℕ) (s : TableStart) (l : ℕ) → r.first ≡ Yes i s l
-      → Ranged.In i s l r.held ≡ range_in q.first.manufacturer q.first.number q.from q.octets (open_image d img)
-  range_told e i s l g = ap (λ (z : TableFound). ranged z r.held) (sym g) ∙ (range_in_lem (open_image d img) a).1 e
+  pub range_told : r.verdict ≡ Verdict.Passed → (t : TableSpot) → r.first ≡ Some t
+      → Ok (in_range t r.held) ≡ range_in q.first.manufacturer q.first.number q.from q.octets (open_image d img)
+  range_told e t g = ap (λ (z : FoundTable). ranged z r.held) (sym g) ∙ (range_in_lem (open_image d img) a).1 e

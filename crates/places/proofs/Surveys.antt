@@ -1,6 +1,6 @@
 -- Tables laid one after another: those laid and those left come to the whole image, at the start, after each table and at the end; and what is asked for is
 -- found among those laid. Assumes nothing.
-use Rattle.std.specs.Prelude.{None}
+use Rattle.std.specs.Prelude.{Some, None}
 use Prim.Native.Nat.{ℕ, zero, suc, ◌+◌, ◌-◌, ◌<◌, ◌≤◌, min}
 use mathlib.Core.Path.{◌≡◌, refl, ◌∙◌, ap, ap₂, sym, subst, fun_ext}
 use mathlib.Core.Logic.{inl, inr}
@@ -40,11 +40,11 @@ use Rattle.places.specs.declared.survey.Answer.{Answer}
 use Rattle.places.specs.declared.survey.Asked.{Asked}
 use Rattle.places.specs.declared.survey.Standing.{Standing}
 use Rattle.places.specs.declared.survey.Survey.{Survey}
-use Rattle.places.specs.declared.survey.TableFound.{TableFound}
-use Rattle.places.specs.declared.survey.TableFound.TheVariants.{No, Yes}
 use Rattle.places.specs.declared.survey.TableName.{TableName}
+use Rattle.places.specs.declared.survey.TableSpot.{TableSpot}
 use Rattle.places.specs.declared.walk.Aim.{Aim}
 use Rattle.places.specs.declared.walk.Walk.{Walk}
+use Rattle.places.specs.Found.{FoundTable}
 use Rattle.places.specs.Measuring.{numbers_in}
 use Rattle.places.specs.Rows.{alone}
 use Rattle.places.specs.Surveying.{table_found, is_first, seat_in, first_standing, held_in, held_after, verdict_of, StandsAs, before_all, Surveyed, TableReady, TableAs, refused_by, AnswerAs}
@@ -73,18 +73,22 @@ named_more m k (u ∷ ts) t = go (u.manufacturer =? m && u.number =? k) (named_m
 abbrev seat_of : Fields → (i p l : ℕ) → Seat
 seat_of h i p l = record { item = i; manufacturer = h.manufacturer; number = h.number; start = p; size = l }
 
+-- and as the code has it
+abbrev spot_of : (i p l : ℕ) → TableSpot
+spot_of i p l = record { item = i; start = record { 0 = p }; length = l }
+
 seat_more : (n : TableName) (ts : List Seat) (h : Fields) (i p l : ℕ)
     → table_found (table_named n.manufacturer n.number (ts ++ (seat_of h i p l ∷ [])))
-    ≡ seat_in (table_found (table_named n.manufacturer n.number ts)) (is_first (table_found (table_named n.manufacturer n.number ts)) h n) i (record { 0 = p }) l
+    ≡ seat_in (table_found (table_named n.manufacturer n.number ts)) (is_first (table_found (table_named n.manufacturer n.number ts)) h n) (spot_of i p l)
 unfolding table_named first_seat table_found is_first seat_in
 seat_more n ts h i p l = rw (named_more _ _ ts (seat_of h i p l)) (go (table_named n.manufacturer n.number ts))
   where
-    one : (b : Bool) → table_found (cond {A = Option Seat} b (some (seat_of h i p l)) none) ≡ cond b (Yes i (record { 0 = p }) l) No
+    one : (b : Bool) → table_found (cond {A = Option Seat} b (some (seat_of h i p l)) none) ≡ cond b (Some (spot_of i p l)) None
     one true = refl
     one false = refl
 
     go : (x : Option Seat) → table_found (first_seat x (table_named n.manufacturer n.number (seat_of h i p l ∷ [])))
-        ≡ seat_in (table_found x) (is_first (table_found x) h n) i (record { 0 = p }) l
+        ≡ seat_in (table_found x) (is_first (table_found x) h n) (spot_of i p l)
     go (some t) = refl
     go none = one (h.manufacturer =? n.manufacturer && h.number =? n.number)
 
@@ -161,8 +165,8 @@ pub set_out : (d img : List ℕ) (q : Asked) (p z : ℕ) → p ≡ 0 → z ≡ 0
       numbers = replicate 64 0;
       start = record { 0 = p };
       next = record { at = z };
-      first = No;
-      second = No;
+      first = None;
+      second = None;
       element = record { start = record { 0 = p }; row = alone None };
       held = false;
       verdict = Verdict.Passed;
@@ -305,8 +309,8 @@ module _ (d img : List ℕ) (q : Asked) (s : Survey) (ready : TableReady d img q
 
   module _ (w : Walk) (next octets first : ℕ) (ne : next ≡ at + 1) (oe : octets ≡ 0) (fe : first ≡ f.first) (walks : WalksBody d img aim (sets_off next octets) first 4 w) (r : Survey)
       (numbers : r.numbers ≡ w.numbers) (start : r.start.0 ≡ min (s.start.0 + w.octets.0) 18446744073709551615) (goes : r.next.at ≡ min (next + first) 18446744073709551615)
-      (seat : r.first ≡ seat_in s.first (is_first s.first f q.first) at s.start w.octets.0)
-      (other : r.second ≡ seat_in s.second (is_first s.second f q.second) at s.start w.octets.0)
+      (seat : r.first ≡ seat_in s.first (is_first s.first f q.first) (spot_of at s.start.0 w.octets.0))
+      (other : r.second ≡ seat_in s.second (is_first s.second f q.second) (spot_of at s.start.0 w.octets.0))
       (element : r.element ≡ first_standing s.element (record { start = s.start; row = w.row }))
       (held : r.held ≡ held_after s.held (is_first s.first f q.first) (q.from.0 + q.octets ≤? w.octets.0) w.held)
       (verdict : r.verdict ≡ verdict_of s.start.0 w) where
@@ -338,7 +342,7 @@ module _ (d img : List ℕ) (q : Asked) (s : Survey) (ready : TableReady d img q
         verdict ∙ rw (e, m)
 
     -- what is told of the octets asked about, with this table
-    abbrev tells : TableFound → (before : Bool) → (length : ℕ) → (held : Bool) → Bool
+    abbrev tells : FoundTable → (before : Bool) → (length : ℕ) → (held : Bool) → Bool
     tells z b l c = held_after b (is_first z f q.first) (q.from.0 + q.octets ≤? l) c
 
     laid_on : (ps : List Placed) (t : Slots) (x : ℕ) → lay_body body img false g.slots s.start.0 ≡ laid ps t x → WalkEnds aim no_row false w row_here ps t x
@@ -371,13 +375,13 @@ module _ (d img : List ℕ) (q : Asked) (s : Survey) (ready : TableReady d img q
           elements_end = rw st (every_append (λ u. u.start + u.size ≤ x) g.elements ps
               (every_map (λ u. u.start + u.size ≤ s.start.0) _ (λ u h. omega (arith, fill.order)) g.elements g.elements_end)
               (every_map (Lies s.start.0 x) _ (λ u h. h.ends) ps fill.lies));
-          first = seat ∙ ap₂ (λ (z : TableFound) (l : ℕ). seat_in z (is_first z f q.first) at s.start l) g.first sz
+          first = seat ∙ ap₂ (λ (z : FoundTable) (l : ℕ). seat_in z (is_first z f q.first) (spot_of at s.start.0 l)) g.first sz
               ∙ sym (seat_more q.first g.seats f at s.start.0 (x - s.start.0));
-          second = other ∙ ap₂ (λ (z : TableFound) (l : ℕ). seat_in z (is_first z f q.second) at s.start l) g.second sz
+          second = other ∙ ap₂ (λ (z : FoundTable) (l : ℕ). seat_in z (is_first z f q.second) (spot_of at s.start.0 l)) g.second sz
               ∙ sym (seat_more q.second g.seats f at s.start.0 (x - s.start.0));
           element = subst (λ (z : Standing). StandsAs z (first_row g.row row_here)) (sym element) (standing_first s.element _ g.row row_here g.element
               (record { in_table = e.row_is.in_table; is = e.row_is.is; row_as = e.row_is.row_as; early = omega (arith, g.inside, ready.ready.small) }));
-          held = held ∙ ap₂ (λ (z : TableFound) (b : Bool). tells z b w.octets.0 w.held) g.first g.held
+          held = held ∙ ap₂ (λ (z : FoundTable) (b : Bool). tells z b w.octets.0 w.held) g.first g.held
               ∙ ap₂ (λ (l : ℕ) (b : Bool). tells (table_found (table_named q.first.manufacturer q.first.number g.seats))
               (held_in q.from.0 q.octets (table_named q.first.manufacturer q.first.number g.seats) g.elements) l b) sz e.holds
               ∙ sym (held_more q.first q.from.0 q.octets s.start.0 g.seats g.elements ps f at x

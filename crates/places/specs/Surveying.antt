@@ -1,5 +1,5 @@
 -- THE WHOLE IMAGE: what laying the tables one after another promises, by what laying out comes to. Assumes nothing.
-use Rattle.std.specs.Prelude.{ℕ, ◌+◌, ◌-◌, ◌<◌, ◌≤◌, min, ◌≡◌, Bool, false, ◌&&◌, None, List, ◌++◌, length, replicate, if◌then◌else◌}
+use Rattle.std.specs.Prelude.{ℕ, ◌+◌, ◌-◌, ◌<◌, ◌≤◌, min, ◌≡◌, Bool, false, ◌&&◌, Some, None, List, ◌++◌, length, replicate, if◌then◌else◌}
 use Rattle.std.proofs.Math.Option.{Option, some, none}
 use Rattle.meaning.specs.Basics.{◌=?◌, ◌≤?◌}
 use Rattle.meaning.specs.declared.Fields.{Fields}
@@ -15,31 +15,30 @@ use Rattle.laying.specs.Rows.{first_row, onward, walk_tables, row_of}
 use Rattle.laying.specs.Rows as def
 use Rattle.laying.specs.Slots.{Matches}
 use Rattle.laying.specs.Sound.{Known, SoundTables}
-use Rattle.offsets.specs.declared.TableStart.{TableStart}
 use Rattle.places.specs.declared.survey.Answer.{Answer}
 use Rattle.places.specs.declared.survey.Asked.{Asked}
 use Rattle.places.specs.declared.survey.Standing.{Standing}
 use Rattle.places.specs.declared.survey.Survey.{Survey}
-use Rattle.places.specs.declared.survey.TableFound.{TableFound}
-use Rattle.places.specs.declared.survey.TableFound.TheVariants.{No, Yes}
 use Rattle.places.specs.declared.survey.TableName.{TableName}
+use Rattle.places.specs.declared.survey.TableSpot.{TableSpot}
 use Rattle.places.specs.declared.walk.Walk.{Walk}
+use Rattle.places.specs.Found.{FoundTable}
 use Rattle.places.specs.Measuring.{numbers_in}
 use Rattle.places.specs.Rows.{RowAs, alone, first_by}
 
 -- WHAT IS FOUND
 -- a table found: its item, where it starts, how long it is
-unfoldable pub table_found : Option Seat → TableFound
-table_found none = No
-table_found (some t) = Yes t.item (record { 0 = t.start }) t.size
+unfoldable pub table_found : Option Seat → FoundTable
+table_found none = None
+table_found (some t) = Some (record { item = t.item; start = record { 0 = t.start }; length = t.size })
 
 -- a table is the one of that name, and none was found before
-unfoldable pub is_first : TableFound → Fields → TableName → Bool
-is_first No h n = h.manufacturer =? n.manufacturer && h.number =? n.number
-is_first (Yes i s l) h n = false
+unfoldable pub is_first : FoundTable → Fields → TableName → Bool
+is_first None h n = h.manufacturer =? n.manufacturer && h.number =? n.number
+is_first (Some t) h n = false
 
-unfoldable pub seat_in : (before : TableFound) → (this : Bool) → (item : ℕ) → TableStart → (length : ℕ) → TableFound
-seat_in before this i s n = if this then Yes i s n else before
+unfoldable pub seat_in : (before : FoundTable) → (this : Bool) → TableSpot → FoundTable
+seat_in before this t = if this then Some t else before
 
 abbrev pub first_standing : Standing → Standing → Standing
 first_standing a b = first_by a.row.stands a b
@@ -121,8 +120,8 @@ refused_by r = record {
   verdict = Verdict.Refused r;
   total = 0;
   numbers = replicate 64 0;
-  first = No;
-  second = No;
+  first = None;
+  second = None;
   element = record { start = record { 0 = 0 }; row = alone None };
   held = false;
 }

@@ -22,7 +22,7 @@ ghost use Rattle.places.specs.Opening.{found_by, nothing_asked, refusal_or, foun
 use meaning::{ElementName, Place, Refusal, Reply, Verdict};
 use offsets::{ImageOffset, TableOffset, TableStart};
 use rows::{Extent, reached};
-use survey::{Asked, Standing, TableFound, TableName, open_image};
+use survey::{Asked, Standing, TableName, TableSpot, open_image};
 use why::{suits, why_none};
 
 // Where two tables are.
@@ -33,48 +33,38 @@ pub struct Places {
 }
 
 // A table that a range may lie in: its item, where it starts, how long it is, and whether the range
-// lies in it and holds an octet of a dimension; or why there is none.
+// lies in it and holds an octet of a dimension.
 #[derive(Clone, Copy)]
-pub enum Ranged {
-    In {
-        item: usize,
-        start: TableStart,
-        length: usize,
-        held: bool,
-    },
-    Refused(Refusal),
+pub struct RangeTable {
+    pub item: usize,
+    pub start: TableStart,
+    pub length: usize,
+    pub held: bool,
 }
 
-// An element where it stands, or none.
+// Where an element is, and how long.
 #[derive(Clone, Copy)]
-pub enum ElementFound {
-    Missing,
-    Here { start: ImageOffset, length: usize },
+pub struct ElementSpot {
+    pub start: ImageOffset,
+    pub length: usize,
 }
 
 // Where the element of that name stands, by its item's row, if it suits what is asked.
 #[tactic(auto, unfolding(crate::specs::Opening::found_by, crate::specs::Opening::spot_found, crate::specs::Rows::spot_by, crate::specs::Rows::spot_from, crate::specs::Rows::spot_at))]
-fn found_by(element: Standing, name: ElementName, suits: bool) -> ElementFound
+fn found_by(element: Standing, name: ElementName, suits: bool) -> Option<ElementSpot>
     requires { Few 4 element.row.arrays }
     ensures { (result ≡ found_by suits element name) × (length name.subscripts ≡ 4) }
 {
-    let start = element.start;
-    let row = element.row;
-    let stands = row.stands;
-    let arrays = row.arrays;
     if !suits {
-        return ElementFound::Missing;
+        return None;
     }
-    match stands {
-        Some(Extent { first, length }) => match reached(first, arrays, name) {
-            Some(octet) => ElementFound::Here {
-                start: start.in_image(TableOffset::new(octet)),
-                length,
-            },
-            None => ElementFound::Missing,
-        },
-        None => ElementFound::Missing,
-    }
+    let Standing { start, row } = element;
+    let Extent { first, length } = row.stands?;
+    let octet = reached(first, row.arrays, name)?;
+    Some(ElementSpot {
+        start: start.in_image(TableOffset::new(octet)),
+        length,
+    })
 }
 
 // The verdict's refusal, or else the place given.
@@ -88,19 +78,16 @@ fn refusal_or(verdict: Verdict, place: Place) -> Place
 }
 
 // Where the table found is, or none.
-fn place_of_table(table: TableFound) -> Place
+#[tactic(auto, unfolding(crate::specs::Opening::found_place))]
+fn place_of_table(table: Option<TableSpot>) -> Place
     ensures { result ≡ found_place table }
 {
     match table {
-        TableFound::No => Place::Refused(Refusal::NO_TABLE),
-        TableFound::Yes {
-            item: _,
-            start,
-            length,
-        } => Place::At {
+        Some(TableSpot { start, length, .. }) => Place::At {
             start: start.in_image(TableOffset::new(0)),
             length,
         },
+        None => Place::Refused(Refusal::NO_TABLE),
     }
 }
 
@@ -144,10 +131,8 @@ fn place_or_why(description: &[u8], image: &[u8], name: ElementName, number: boo
     match verdict {
         Verdict::Refused(r) => Place::Refused(r),
         Verdict::Passed => match found {
-            ElementFound::Here { start, length } => Place::At { start, length },
-            ElementFound::Missing => {
-                Place::Refused(why_none(description, numbers, name, number))
-            }
+            Some(ElementSpot { start, length }) => Place::At { start, length },
+            None => Place::Refused(why_none(description, numbers, name, number)),
         },
     }
 }
@@ -238,7 +223,7 @@ pub fn range_in(
     number: u32,
     from: TableOffset,
     octets: usize,
-) -> Ranged
+) -> Result<RangeTable, Refusal>
     ensures { result ≡ range_in manufacturer number from octets (open_image description.now image.now) }
 {
     let nothing = nothing_asked();
@@ -257,19 +242,21 @@ pub fn range_in(
     let verdict = answer.verdict;
     let table = answer.first;
     match verdict {
-        Verdict::Refused(r) => Ranged::Refused(r),
+        Verdict::Refused(r) => Err(r),
         Verdict::Passed => match table {
-            TableFound::No => Ranged::Refused(Refusal::NO_TABLE),
-            TableFound::Yes {
-                item,
-                start,
-                length,
-            } => Ranged::In {
+            Some(
+                TableSpot {
+                    item,
+                    start,
+                    length,
+                },
+            ) => Ok(RangeTable {
                 item,
                 start,
                 length,
                 held: answer.held,
-            },
+            }),
+            None => Err(Refusal::NO_TABLE),
         },
     }
 }

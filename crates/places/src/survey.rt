@@ -13,15 +13,12 @@ use items::Cursor;
 use meaning::{Fields, Refusal, Verdict};
 use offsets::{TableOffset, TableStart};
 
-// A table found: its item, where it starts, how long it is.
+// Where a table is: its item, where it starts, how long it is.
 #[derive(Clone, Copy)]
-pub enum TableFound {
-    No,
-    Yes {
-        item: usize,
-        start: TableStart,
-        length: usize,
-    },
+pub struct TableSpot {
+    pub item: usize,
+    pub start: TableStart,
+    pub length: usize,
 }
 
 // The name of a table.
@@ -57,8 +54,8 @@ pub struct Answer {
     pub verdict: Verdict,
     pub total: usize,
     pub numbers: [u32; 64],
-    pub first: TableFound,
-    pub second: TableFound,
+    pub first: Option<TableSpot>,
+    pub second: Option<TableSpot>,
     pub element: Standing,
     pub held: bool,
 }
@@ -71,37 +68,31 @@ pub struct Survey {
     pub numbers: [u32; 64],
     pub start: TableStart,
     pub next: Cursor,
-    pub first: TableFound,
-    pub second: TableFound,
+    pub first: Option<TableSpot>,
+    pub second: Option<TableSpot>,
     pub element: Standing,
     pub held: bool,
     pub verdict: Verdict,
 }
 
 // Whether a table is the one of that name, and none was found before.
-fn is_first(before: TableFound, h: Fields, name: TableName) -> bool
+#[tactic(auto, unfolding(crate::specs::Surveying::is_first))]
+fn is_first(before: Option<TableSpot>, h: Fields, name: TableName) -> bool
     ensures { result ≡ is_first before h name }
 {
     match before {
-        TableFound::No => both(h.manufacturer == name.manufacturer, h.number == name.number),
-        TableFound::Yes {
-            item: _,
-            start: _,
-            length: _,
-        } => false,
+        Some(_) => false,
+        None => both(h.manufacturer == name.manufacturer, h.number == name.number),
     }
 }
 
 // The table found before, or this one, if it is the one asked for.
-fn seat(before: TableFound, this: bool, item: usize, start: TableStart, length: usize) -> TableFound
-    ensures { result ≡ seat_in before this item start length }
+#[tactic(auto, unfolding(crate::specs::Surveying::seat_in))]
+fn seat(before: Option<TableSpot>, this: bool, table: TableSpot) -> Option<TableSpot>
+    ensures { result ≡ seat_in before this table }
 {
     if this {
-        return TableFound::Yes {
-            item,
-            start,
-            length,
-        };
+        return Some(table);
     }
     before
 }
@@ -119,6 +110,7 @@ fn first_standing(before: Standing, now: Standing) -> Standing
 
 // Whether the octets asked about hold one of a dimension: told by the walk over their table, if they
 // lie in it.
+#[tactic(auto, unfolding(crate::specs::Surveying::held_after))]
 fn held_after(before: bool, this: bool, fits: bool, held: bool) -> bool
     ensures { result ≡ held_after before this fits held }
 {
@@ -129,6 +121,7 @@ fn held_after(before: bool, this: bool, fits: bool, held: bool) -> bool
 }
 
 // Whether the walk over the table at `start` came to its end.
+#[tactic(auto, unfolding(crate::specs::Surveying::verdict_of))]
 fn verdict_of(start: TableStart, w: Walk) -> Verdict
     ensures { result ≡ verdict_of start.0 w }
 {
@@ -185,14 +178,18 @@ fn survey_table(d: &[u8], image: &[u8], asked: Asked, s: Survey) -> Survey
     let length = walked.octets();
     let row = w.row;
     let read_on = w.numbers;
-    let item = place.item();
+    let table = TableSpot {
+        item: place.item(),
+        start,
+        length,
+    };
     let fits = ends_within(from.octets(), octets, length);
     Survey {
         numbers: read_on,
         start: start.after(length),
         next: next.past(h.first),
-        first: seat(one, this, item, start, length),
-        second: seat(two, that, item, start, length),
+        first: seat(one, this, table),
+        second: seat(two, that, table),
         element: first_standing(element, Standing { start, row }),
         held: held_after(s.held, this, fits, w.held),
         verdict: verdict_of(start, w),
@@ -207,8 +204,8 @@ fn refused(r: Refusal) -> Answer
         verdict: Verdict::Refused(r),
         total: 0,
         numbers: [0u32; 64],
-        first: TableFound::No,
-        second: TableFound::No,
+        first: None,
+        second: None,
         element: Standing {
             start: TableStart::first(),
             row: alone(None),
@@ -229,8 +226,8 @@ fn survey_image(d: &[u8], image: &[u8], asked: Asked) -> Answer
         numbers: [0u32; 64],
         start,
         next: place,
-        first: TableFound::No,
-        second: TableFound::No,
+        first: None,
+        second: None,
         element: Standing {
             start,
             row: alone(None),

@@ -10,10 +10,10 @@ pub returns-in-Refused : goal.returns-in-Refused
 returns-in-Refused c =
     element_refused _ _ _ _ c.open_image-answer.ensures _ _ refl c.suits.ensures c.found_by-found.ensures _ c.in-Refused.is
 
-pub returns-in-Here : goal.returns-in-Here
-returns-in-Here c =
-    element_here _ _ _ _ c.open_image-answer.ensures _ _ refl c.suits.ensures c.found_by-found.ensures _ _ c.in-Passed.is c.in-Here.is
+pub returns-in-Some : goal.returns-in-Some
+returns-in-Some c =
+    element_here _ _ _ _ c.open_image-answer.ensures _ _ refl c.suits.ensures c.found_by-found.ensures _ c.in-Passed.is c.in-Some.is
 
-pub returns-in-Missing : goal.returns-in-Missing
-returns-in-Missing c =
-    element_missing _ _ _ _ c.open_image-answer.ensures _ _ refl c.suits.ensures c.found_by-found.ensures c.why_none.ensures c.in-Passed.is c.in-Missing.is
+pub returns-in-None : goal.returns-in-None
+returns-in-None c =
+    element_missing _ _ _ _ c.open_image-answer.ensures _ _ refl c.suits.ensures c.found_by-found.ensures c.why_none.ensures c.in-Passed.is c.in-None.is

@@ -5,8 +5,8 @@ use Rattle.places.proofs.range_in.Goals as goal
 pub returns-in-Refused : goal.returns-in-Refused
 returns-in-Refused c = range_refused _ _ _ _ c.open_image-answer.ensures _ c.in-Refused.is
 
-pub returns-in-No : goal.returns-in-No
-returns-in-No c = range_none _ _ _ _ c.open_image-answer.ensures c.in-Passed.is c.in-No.is
+pub returns-in-None : goal.returns-in-None
+returns-in-None c = range_none _ _ _ _ c.open_image-answer.ensures c.in-Passed.is c.in-None.is
 
-pub returns-in-Yes : goal.returns-in-Yes
-returns-in-Yes c = range_told _ _ _ _ c.open_image-answer.ensures c.in-Passed.is _ _ _ c.in-Yes.is
+pub returns-in-Some : goal.returns-in-Some
+returns-in-Some c = range_told _ _ _ _ c.open_image-answer.ensures c.in-Passed.is _ c.in-Some.is

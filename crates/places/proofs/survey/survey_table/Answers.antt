@@ -17,6 +17,6 @@ returns c =
     let next = next_read _ _ c.requires.more c.read-read.ensures in
     let walks = rw c.alone.ensures at c.walk_body-w.ensures in
     table_as _ _ _ _ c.requires _ _ _ _ next c.new.ensures (ap (λ (f : Fields). f.first) fields) walks _ refl (c.after.ensures ∙ rw c.octets-length.ensures) c.past.ensures
-    (c.seat.ensures ∙ rw (c.is_first-this.ensures, c.item-item.ensures, c.octets-length.ensures, fields))
-    (c.seat-2.ensures ∙ rw (c.is_first-that.ensures, c.item-item.ensures, c.octets-length.ensures, fields)) c.first_standing.ensures
+    (c.seat.ensures ∙ rw (c.is_first-this.ensures, c.item.ensures, c.octets-length.ensures, fields))
+    (c.seat-2.ensures ∙ rw (c.is_first-that.ensures, c.item.ensures, c.octets-length.ensures, fields)) c.first_standing.ensures
     (c.held_after.ensures ∙ rw (c.is_first-this.ensures, c.ends_within-fits.ensures, c.octets.ensures, c.octets-length.ensures, fields)) c.verdict_of.ensures
