@@ -1,10 +1,10 @@
 -- Tables laid one after another: those laid and those left come to the whole image, at the start, after each table and at the end; and what is asked for is
 -- found among those laid. Assumes nothing.
-use Rattle.std.specs.Prelude.{Some, None}
+use Rattle.std.specs.Prelude.{Some, None, Result, Ok, Err}
 use Prim.Native.Nat.{ℕ, zero, suc, ◌+◌, ◌-◌, ◌<◌, ◌≤◌, min}
 use mathlib.Core.Path.{◌≡◌, refl, ◌∙◌, ap, ap₂, sym, subst, fun_ext}
 use mathlib.Core.Logic.{inl, inr}
-use mathlib.Core.Bool.{Bool, true, false, cond, ◌&&◌, false≢true, or-false}
+use mathlib.Core.Bool.{Bool, true, false, cond, ◌&&◌, or-false}
 use mathlib.Core.List.{List, [], ◌∷◌, ◌++◌, append_assoc, append-nil}
 use mathlib.Core.Option.{Option, some, none}
 use lib.ListN.{length, get_or, replicate}
@@ -18,9 +18,10 @@ use Rattle.meaning.specs.Description.{item_count, fields_at, is_table, nested, c
 use Rattle.meaning.specs.Passed.{Passes}
 use Rattle.meaning.specs.Layout.{Body, Tables, no_more, table, table_at, tables_of, tree_of, body_at, Slots, unread, Placed, fault, short, Laid, laid, stopped, lay_body}
 use Rattle.meaning.specs.Layout.{Seat, Layout, laid_out, stopped_at, before, seated, lay_tables, lay_out, table_named, number_of}
-use Rattle.meaning.specs.Numbers.{image_short, image_too_long, no_table}
+use Rattle.meaning.specs.Numbers.{image_short, image_too_long}
 use Rattle.meaning.specs.Refusals.{refused, stop_refusal, open_laid, open_sound, open_image, any_dimension}
 use Rattle.meaning.proofs.Passed.{passed_laws}
+use Rattle.meaning.proofs.Either.{clash}
 use Rattle.laying.specs.Every.{Every}
 use Rattle.laying.specs.Rows.{Array, row, no_row, first_row, onward, row_after, walk_body, walk_tables, row_of}
 use Rattle.laying.specs.Rows as def
@@ -47,7 +48,7 @@ use Rattle.places.specs.declared.walk.Walk.{Walk}
 use Rattle.places.specs.Found.{FoundTable}
 use Rattle.places.specs.Measuring.{numbers_in}
 use Rattle.places.specs.Rows.{alone}
-use Rattle.places.specs.Surveying.{table_found, is_first, seat_in, first_standing, held_in, held_after, verdict_of, StandsAs, before_all, Surveyed, TableReady, TableAs, refused_by, AnswerAs}
+use Rattle.places.specs.Surveying.{table_found, is_first, seat_in, first_standing, held_in, held_after, verdict_of, StandsAs, before_all, Surveyed, TableReady, TableAs, AnswerAs}
 use Rattle.places.specs.Walking.{WalkEnds, Ends, WalkBodyReady, WalksBody}
 use Rattle.places.proofs.Held.{holds_append}
 use Rattle.places.proofs.RowLaws.{as_none, first_case, said_none, said_some}
@@ -169,7 +170,6 @@ pub set_out : (d img : List ℕ) (q : Asked) (p z : ℕ) → p ≡ 0 → z ≡ 0
       second = None;
       element = record { start = record { 0 = p }; row = alone None };
       held = false;
-      verdict = Verdict.Passed;
     })
 unfolding lay_out row_of tree_of number_of octets_of table_named table_found held_in first_row onward Every
 set_out d img q p z e f h =
@@ -214,15 +214,6 @@ table_there d κ at n rest = go (is_table (fields_at d at)) refl ((fields_at d a
     go false e c g f = absurd (rw e at f)
 
 -- ONE TABLE MORE
--- a verdict is passed, or has a refusal
-abbrev is_passed : Verdict → Bool
-is_passed Verdict.Passed = true
-is_passed (Verdict.Refused r) = false
-
-abbrev refusal_of : Verdict → Refusal
-refusal_of Verdict.Passed = no_table
-refusal_of (Verdict.Refused r) = r
-
 module _ (d img : List ℕ) (q : Asked) (s : Survey) (ready : TableReady d img q s) where
   abbrev g : Surveyed d img q s
   g = ready.surveyed
@@ -307,18 +298,9 @@ module _ (d img : List ℕ) (q : Asked) (s : Survey) (ready : TableReady d img q
       g.rows ∙ ap (λ (x : Tables). first_row g.row (walk_tables x img g.slots s.start.0 q.item)) left.is
       ∙ ap (λ (z : Laid). first_row g.row (first_row row_here (row_after z (λ t x. walk_tables rest img t x q.item)))) e
 
-  module _ (w : Walk) (next octets first : ℕ) (ne : next ≡ at + 1) (oe : octets ≡ 0) (fe : first ≡ f.first) (walks : WalksBody d img aim (sets_off next octets) first 4 w) (r : Survey)
-      (numbers : r.numbers ≡ w.numbers) (start : r.start.0 ≡ min (s.start.0 + w.octets.0) 18446744073709551615) (goes : r.next.at ≡ min (next + first) 18446744073709551615)
-      (seat : r.first ≡ seat_in s.first (is_first s.first f q.first) (spot_of at s.start.0 w.octets.0))
-      (other : r.second ≡ seat_in s.second (is_first s.second f q.second) (spot_of at s.start.0 w.octets.0))
-      (element : r.element ≡ first_standing s.element (record { start = s.start; row = w.row }))
-      (held : r.held ≡ held_after s.held (is_first s.first f q.first) (q.from.0 + q.octets ≤? w.octets.0) w.held)
-      (verdict : r.verdict ≡ verdict_of s.start.0 w) where
+  module _ (w : Walk) (next octets first : ℕ) (ne : next ≡ at + 1) (oe : octets ≡ 0) (fe : first ≡ f.first) (walks : WalksBody d img aim (sets_off next octets) first 4 w) where
     few : item_count d ≤ 512
     few = (passed_laws d ready.ready.passes).few
-
-    goes_on : r.next.at ≡ after
-    goes_on = omega (arith, goes, ne, fe, left.few, few)
 
     -- what the walk came to
     ends : Ends aim no_row false w row_here (lay_body body img false g.slots s.start.0)
@@ -331,86 +313,98 @@ module _ (d img : List ℕ) (q : Asked) (s : Survey) (ready : TableReady d img q
     reaches : Reaches (after_body body g.known) (λ i. walk_body body img g.slots s.start.0 i) (lay_body body img false g.slots s.start.0)
     reaches = r_body img d body true 0 (at + 1) after g.slots g.known s.start.0 g.matches sound.0 rises
 
-    verdict_going : w.short ≡ false → r.verdict ≡ Verdict.Passed
+    verdict_going : w.short ≡ false → verdict_of s.start.0 w ≡ Ok tt
     unfolding verdict_of
-    verdict_going e = verdict ∙ rw e
+    verdict_going e = rw e
 
-    verdict_short : w.short ≡ true → r.verdict ≡ Verdict.Refused (image_short w.next.at (s.start.0 + w.octets.0))
+    verdict_short : w.short ≡ true → verdict_of s.start.0 w ≡ Err (image_short w.next.at (s.start.0 + w.octets.0))
     unfolding verdict_of
     verdict_short e =
         let m : min (s.start.0 + w.octets.0) 18446744073709551615 ≡ s.start.0 + w.octets.0 = omega (arith, walks.walked.inside, ready.ready.small) in
-        verdict ∙ rw (e, m)
+        rw (e, m)
 
-    -- what is told of the octets asked about, with this table
-    abbrev tells : FoundTable → (before : Bool) → (length : ℕ) → (held : Bool) → Bool
-    tells z b l c = held_after b (is_first z f q.first) (q.from.0 + q.octets ≤? l) c
-
-    laid_on : (ps : List Placed) (t : Slots) (x : ℕ) → lay_body body img false g.slots s.start.0 ≡ laid ps t x → WalkEnds aim no_row false w row_here ps t x
-        → Matches t (after_body body g.known) → Whole (laid ps t x) → Surveyed d img q r
-    unfolding seated row_after first_row Every
-    laid_on ps t x is e m wh =
-        let t0 : Seat = seat_of f at s.start.0 (x - s.start.0) in
-        let st : r.start.0 ≡ x = start ∙ omega (arith, e.here, walks.walked.inside, ready.ready.small) in
-        let sz : w.octets.0 ≡ x - s.start.0 = omega (arith, e.here) in
-        let same : tables_of d (item_count d - r.next.at) 0 r.next.at ≡ rest = ap (λ (j : ℕ). tables_of d (item_count d - j) 0 j) goes_on in
-        let fill = consecutive_fill (laying_body d img body 0 (at + 1) after rises false g.slots s.start.0 is).consecutive in
-        record {
-          seats = g.seats ++ (t0 ∷ []);
-          elements = g.elements ++ ps;
-          slots = t;
-          known = after_body body g.known;
-          row = first_row g.row row_here;
-          numbers = e.numbers ∙ ap numbers_in (sym numbers);
-          room = rw numbers walks.walked.slots;
-          matches = m;
-          whole = wh ∙ before_one g.seats g.elements t0 ps (lay_tables rest img t x)
-              ∙ ap₂ (λ (a : Tables) (b : ℕ). before_all (g.seats ++ (t0 ∷ [])) (g.elements ++ ps) (lay_tables a img t b)) (sym same) (sym st);
-          rows = rows_are (laid ps t x) is ∙ sym (first_assoc g.row row_here _)
-              ∙ ap₂ (λ (a : Tables) (b : ℕ). first_row (first_row g.row row_here) (walk_tables a img t b q.item)) (sym same) (sym st);
-          sound = subst (SoundTables (after_body body g.known)) (sym same) sound.1;
-          ordered = omega (arith, goes_on, left.few);
-          inside = omega (arith, st, e.here, walks.walked.inside);
-          seats_end = rw st (every_append (λ u. u.start + u.size ≤ x) g.seats (t0 ∷ [])
-              (every_map (λ u. u.start + u.size ≤ s.start.0) _ (λ u h. omega (arith, fill.order)) g.seats g.seats_end) (omega (arith, fill.order), tt));
-          elements_end = rw st (every_append (λ u. u.start + u.size ≤ x) g.elements ps
-              (every_map (λ u. u.start + u.size ≤ s.start.0) _ (λ u h. omega (arith, fill.order)) g.elements g.elements_end)
-              (every_map (Lies s.start.0 x) _ (λ u h. h.ends) ps fill.lies));
-          first = seat ∙ ap₂ (λ (z : FoundTable) (l : ℕ). seat_in z (is_first z f q.first) (spot_of at s.start.0 l)) g.first sz
-              ∙ sym (seat_more q.first g.seats f at s.start.0 (x - s.start.0));
-          second = other ∙ ap₂ (λ (z : FoundTable) (l : ℕ). seat_in z (is_first z f q.second) (spot_of at s.start.0 l)) g.second sz
-              ∙ sym (seat_more q.second g.seats f at s.start.0 (x - s.start.0));
-          element = subst (λ (z : Standing). StandsAs z (first_row g.row row_here)) (sym element) (standing_first s.element _ g.row row_here g.element
-              (record { in_table = e.row_is.in_table; is = e.row_is.is; row_as = e.row_is.row_as; early = omega (arith, g.inside, ready.ready.small) }));
-          held = held ∙ ap₂ (λ (z : FoundTable) (b : Bool). tells z b w.octets.0 w.held) g.first g.held
-              ∙ ap₂ (λ (l : ℕ) (b : Bool). tells (table_found (table_named q.first.manufacturer q.first.number g.seats))
-              (held_in q.from.0 q.octets (table_named q.first.manufacturer q.first.number g.seats) g.elements) l b) sz e.holds
-              ∙ sym (held_more q.first q.from.0 q.octets s.start.0 g.seats g.elements ps f at x
-              fill.order g.seats_end g.elements_end fill.lies);
-        }
-
-    short_here_lem : (ps : List Placed) (i x : ℕ) → Ends aim no_row false w row_here (stopped ps (short i x)) → Whole (stopped ps (short i x))
-        → open_laid (lay_out d img) ≡ refused (refusal_of r.verdict)
+    -- THE IMAGE IS SHORT in this table
+    pub table_stopped : {v : Result (Unit {0}) Refusal} {x : Refusal} → v ≡ verdict_of s.start.0 w → v ≡ Err x → open_laid (lay_out d img) ≡ refused x
     unfolding seated before_all open_laid stop_refusal
-    short_here_lem ps i x e wh = ap open_laid wh ∙ sym (ap (λ (v : Verdict). refused (refusal_of v)) (verdict_short e.0) ∙ rw (e.1, e.2))
-
-    pub table_as : TableAs d img q s r
-    table_as = go (lay_body body img false g.slots s.start.0) refl ends reaches whole_is
+    table_stopped {v} {x} is h = go (lay_body body img false g.slots s.start.0) ends reaches whole_is
       where
-        go : (o : Laid) → lay_body body img false g.slots s.start.0 ≡ o → Ends aim no_row false w row_here o
-            → Reaches (after_body body g.known) (λ i. walk_body body img g.slots s.start.0 i) o → Whole o → TableAs d img q s r
-        go (laid ps t x) is e m wh = record {
-          passed = λ v. (laid_on ps t x is e m.matches wh, omega (arith, goes_on));
-          stopped = λ y v. absurd (false≢true (sym (ap is_passed v) ∙ ap is_passed (verdict_going e.going)));
-        }
-        go (stopped ps (fault z i)) is e m wh = absurd m
-        go (stopped ps (short i x)) is e m wh = record {
-          passed = λ v. absurd (false≢true (sym (ap is_passed (verdict_short e.0)) ∙ ap is_passed v));
-          stopped = λ y v. short_here_lem ps i x e wh ∙ ap (λ (z : Verdict). refused (refusal_of z)) v;
-        }
+        go : (o : Laid) → Ends aim no_row false w row_here o → Reaches (after_body body g.known) (λ i. walk_body body img g.slots s.start.0 i) o → Whole o
+            → open_laid (lay_out d img) ≡ refused x
+        go (laid ps t y) e m wh = let going = verdict_going e.going in clash (cc)
+        go (stopped ps (fault z i)) e m wh = absurd m
+        go (stopped ps (short i y)) e m wh =
+            let short = verdict_short e.0 in
+            let same : image_short w.next.at (s.start.0 + w.octets.0) ≡ x = cc in
+            ap open_laid wh ∙ ap refused (sym (rw (e.1, e.2)) ∙ same)
+
+    -- OR IT IS LAID
+    module _ (r : Survey) (numbers : r.numbers ≡ w.numbers) (start : r.start.0 ≡ min (s.start.0 + w.octets.0) 18446744073709551615) (goes : r.next.at ≡ min (next + first) 18446744073709551615)
+        (seat : r.first ≡ seat_in s.first (is_first s.first f q.first) (spot_of at s.start.0 w.octets.0))
+        (other : r.second ≡ seat_in s.second (is_first s.second f q.second) (spot_of at s.start.0 w.octets.0))
+        (element : r.element ≡ first_standing s.element (record { start = s.start; row = w.row }))
+        (held : r.held ≡ held_after s.held (is_first s.first f q.first) (q.from.0 + q.octets ≤? w.octets.0) w.held) where
+      goes_on : r.next.at ≡ after
+      goes_on = omega (arith, goes, ne, fe, left.few, few)
+
+      -- what is told of the octets asked about, with this table
+      abbrev tells : FoundTable → (before : Bool) → (length : ℕ) → (held : Bool) → Bool
+      tells z b l c = held_after b (is_first z f q.first) (q.from.0 + q.octets ≤? l) c
+
+      laid_on : (ps : List Placed) (t : Slots) (x : ℕ) → lay_body body img false g.slots s.start.0 ≡ laid ps t x → WalkEnds aim no_row false w row_here ps t x
+          → Matches t (after_body body g.known) → Whole (laid ps t x) → Surveyed d img q r
+      unfolding seated row_after first_row Every
+      laid_on ps t x is e m wh =
+          let t0 : Seat = seat_of f at s.start.0 (x - s.start.0) in
+          let st : r.start.0 ≡ x = start ∙ omega (arith, e.here, walks.walked.inside, ready.ready.small) in
+          let sz : w.octets.0 ≡ x - s.start.0 = omega (arith, e.here) in
+          let same : tables_of d (item_count d - r.next.at) 0 r.next.at ≡ rest = ap (λ (j : ℕ). tables_of d (item_count d - j) 0 j) goes_on in
+          let fill = consecutive_fill (laying_body d img body 0 (at + 1) after rises false g.slots s.start.0 is).consecutive in
+          record {
+            seats = g.seats ++ (t0 ∷ []);
+            elements = g.elements ++ ps;
+            slots = t;
+            known = after_body body g.known;
+            row = first_row g.row row_here;
+            numbers = e.numbers ∙ ap numbers_in (sym numbers);
+            room = rw numbers walks.walked.slots;
+            matches = m;
+            whole = wh ∙ before_one g.seats g.elements t0 ps (lay_tables rest img t x)
+                ∙ ap₂ (λ (a : Tables) (b : ℕ). before_all (g.seats ++ (t0 ∷ [])) (g.elements ++ ps) (lay_tables a img t b)) (sym same) (sym st);
+            rows = rows_are (laid ps t x) is ∙ sym (first_assoc g.row row_here _)
+                ∙ ap₂ (λ (a : Tables) (b : ℕ). first_row (first_row g.row row_here) (walk_tables a img t b q.item)) (sym same) (sym st);
+            sound = subst (SoundTables (after_body body g.known)) (sym same) sound.1;
+            ordered = omega (arith, goes_on, left.few);
+            inside = omega (arith, st, e.here, walks.walked.inside);
+            seats_end = rw st (every_append (λ u. u.start + u.size ≤ x) g.seats (t0 ∷ [])
+                (every_map (λ u. u.start + u.size ≤ s.start.0) _ (λ u h. omega (arith, fill.order)) g.seats g.seats_end) (omega (arith, fill.order), tt));
+            elements_end = rw st (every_append (λ u. u.start + u.size ≤ x) g.elements ps
+                (every_map (λ u. u.start + u.size ≤ s.start.0) _ (λ u h. omega (arith, fill.order)) g.elements g.elements_end)
+                (every_map (Lies s.start.0 x) _ (λ u h. h.ends) ps fill.lies));
+            first = seat ∙ ap₂ (λ (z : FoundTable) (l : ℕ). seat_in z (is_first z f q.first) (spot_of at s.start.0 l)) g.first sz
+                ∙ sym (seat_more q.first g.seats f at s.start.0 (x - s.start.0));
+            second = other ∙ ap₂ (λ (z : FoundTable) (l : ℕ). seat_in z (is_first z f q.second) (spot_of at s.start.0 l)) g.second sz
+                ∙ sym (seat_more q.second g.seats f at s.start.0 (x - s.start.0));
+            element = subst (λ (z : Standing). StandsAs z (first_row g.row row_here)) (sym element) (standing_first s.element _ g.row row_here g.element
+                (record { in_table = e.row_is.in_table; is = e.row_is.is; row_as = e.row_is.row_as; early = omega (arith, g.inside, ready.ready.small) }));
+            held = held ∙ ap₂ (λ (z : FoundTable) (b : Bool). tells z b w.octets.0 w.held) g.first g.held
+                ∙ ap₂ (λ (l : ℕ) (b : Bool). tells (table_found (table_named q.first.manufacturer q.first.number g.seats))
+                (held_in q.from.0 q.octets (table_named q.first.manufacturer q.first.number g.seats) g.elements) l b) sz e.holds
+                ∙ sym (held_more q.first q.from.0 q.octets s.start.0 g.seats g.elements ps f at x
+                fill.order g.seats_end g.elements_end fill.lies);
+          }
+
+      pub table_laid : {v : Result (Unit {0}) Refusal} {u : Unit {0}} → v ≡ verdict_of s.start.0 w → v ≡ Ok u → TableAs d img q s (Ok r)
+      table_laid {v} {u} is h = go (lay_body body img false g.slots s.start.0) refl ends reaches whole_is
+        where
+          go : (o : Laid) → lay_body body img false g.slots s.start.0 ≡ o → Ends aim no_row false w row_here o
+              → Reaches (after_body body g.known) (λ i. walk_body body img g.slots s.start.0 i) o → Whole o → TableAs d img q s (Ok r)
+          go (laid ps t x) is e m wh = (laid_on ps t x is e m.matches wh, omega (arith, goes_on))
+          go (stopped ps (fault z i)) is e m wh = absurd m
+          go (stopped ps (short i x)) same e m wh = let short = verdict_short e.0 in clash (cc)
 
 -- AT THE END
 pub laid_all : (d img : List ℕ) (q : Asked) (s : Survey) → Surveyed d img q s → item_count d ≤ s.next.at → (total : ℕ) → total ≡ s.start.0
-    → AnswerAs d img q (record { verdict = Verdict.Passed; total = total; numbers = s.numbers; first = s.first; second = s.second; element = s.element; held = s.held }) (open_laid (lay_out d img))
+    → AnswerAs d img q (Ok (record { total = total; numbers = s.numbers; first = s.first; second = s.second; element = s.element; held = s.held })) (open_laid (lay_out d img))
 unfolding lay_tables walk_tables before_all open_laid
 laid_all d img q s g le total e =
     let z : item_count d - s.next.at ≡ 0 = omega arith in
@@ -419,22 +413,22 @@ laid_all d img q s g le total e =
     ∙ ap (λ (x : Tables). before_all g.seats g.elements (lay_tables x img g.slots s.start.0)) none
     ∙ ap₂ (λ (a : List Seat) (b : List Placed). laid_out a b g.slots s.start.0) (append-nil g.seats) (append-nil g.elements) in
     let rows : g.row ≡ row_of d img q.item = sym (g.rows ∙ ap (λ (x : Tables). first_row g.row (walk_tables x img g.slots s.start.0 q.item)) none ∙ first_none_right g.row) in
-    rw w (record { passed = refl; total = e; numbers = g.numbers; first = g.first; second = g.second; element = subst (StandsAs s.element) rows g.element; held = g.held })
+    rw w (record { total = e; numbers = g.numbers; first = g.first; second = g.second; element = subst (StandsAs s.element) rows g.element; held = g.held })
 
 -- 1 TO 9 COME FIRST
-module _ (d img : List ℕ) (q : Asked) (r : Answer) where
-  pub opened_refused : (x : Refusal) → check_reply d ≡ Verdict.Refused x → r ≡ refused_by x → AnswerAs d img q r (open_image d img)
+module _ (d img : List ℕ) (q : Asked) where
+  pub opened_refused : (x : Refusal) → check_reply d ≡ Verdict.Refused x → AnswerAs d img q (Err x) (open_image d img)
   unfolding open_image open_sound
-  opened_refused x e h = rw e h
+  opened_refused x e = rw e
 
-  pub opened_long : check_reply d ≡ Verdict.Passed → 65535 < length img → r ≡ refused_by image_too_long → AnswerAs d img q r (open_image d img)
+  pub opened_long : check_reply d ≡ Verdict.Passed → 65535 < length img → AnswerAs d img q (Err image_too_long) (open_image d img)
   unfolding open_image open_sound
-  opened_long e l h = rw (e, lt-ltb 65535 (length img) l) h
+  opened_long e l = rw (e, lt-ltb 65535 (length img) l)
 
-  pub opened_laid : check_reply d ≡ Verdict.Passed → length img ≤ 65535 → AnswerAs d img q r (open_laid (lay_out d img)) → AnswerAs d img q r (open_image d img)
+  pub opened_laid : (r : Result Answer Refusal) → check_reply d ≡ Verdict.Passed → length img ≤ 65535 → AnswerAs d img q r (open_laid (lay_out d img)) → AnswerAs d img q r (open_image d img)
   unfolding open_image open_sound
-  opened_laid e l h = rw (e, le-ltb 65535 (length img) l) h
+  opened_laid r e l h = rw (e, le-ltb 65535 (length img) l) h
 
   -- the refusal that laying out comes to
-  pub laid_refused : (x : Refusal) → open_laid (lay_out d img) ≡ refused x → r ≡ refused_by x → AnswerAs d img q r (open_laid (lay_out d img))
-  laid_refused x e h = rw e h
+  pub laid_refused : (x : Refusal) → open_laid (lay_out d img) ≡ refused x → AnswerAs d img q (Err x) (open_laid (lay_out d img))
+  laid_refused x e = rw e

@@ -4,7 +4,6 @@ use Rattle.std.proofs.Math.Option.{Option, some, none}
 use Rattle.meaning.specs.declared.ElementName.{ElementName}
 use Rattle.meaning.specs.declared.Place.{Place}
 use Rattle.meaning.specs.declared.Refusal.{Refusal}
-use Rattle.meaning.specs.declared.Verdict.{Verdict}
 use Rattle.meaning.specs.Layout.{Seat, Placed, table_named}
 use Rattle.meaning.specs.Numbers.{no_table}
 use Rattle.meaning.specs.Refusals.{Opened, opened, refused}
@@ -42,11 +41,6 @@ place_or why (Some e) = Place.At e.start e.length
 place_or why None = Place.Refused why
 
 -- WHERE A TABLE IS
--- the verdict's refusal, or else the place given
-unfoldable pub refusal_or : Verdict → Place → Place
-refusal_or Verdict.Passed p = p
-refusal_or (Verdict.Refused r) p = Place.Refused r
-
 -- where the table found is, or none
 unfoldable pub found_place : FoundTable → Place
 found_place None = Place.Refused no_table

@@ -17,12 +17,12 @@ mod why;
 ghost use Rattle.std.specs.Prelude.{◌≡◌, length};
 ghost use Rattle.meaning.specs.Refusals.{layout_reply, table_place_reply, element_place_in, element_place_reply, integer_place_reply, open_image};
 ghost use Rattle.places.specs.Rows.{Few};
-ghost use Rattle.places.specs.Opening.{found_by, nothing_asked, refusal_or, found_place, range_in};
+ghost use Rattle.places.specs.Opening.{found_by, nothing_asked, found_place, range_in};
 
-use meaning::{ElementName, Place, Refusal, Reply, Verdict};
+use meaning::{ElementName, Place, Refusal, Reply};
 use offsets::{ImageOffset, TableOffset, TableStart};
 use rows::{Extent, reached};
-use survey::{Asked, Standing, TableName, TableSpot, open_image};
+use survey::{Answer, Asked, Standing, TableName, TableSpot, open_image};
 use why::{suits, why_none};
 
 // Where two tables are.
@@ -67,16 +67,6 @@ fn found_by(element: Standing, name: ElementName, suits: bool) -> Option<Element
     })
 }
 
-// The verdict's refusal, or else the place given.
-fn refusal_or(verdict: Verdict, place: Place) -> Place
-    ensures { result ≡ refusal_or verdict place }
-{
-    match verdict {
-        Verdict::Refused(r) => Place::Refused(r),
-        Verdict::Passed => place,
-    }
-}
-
 // Where the table found is, or none.
 #[tactic(auto, unfolding(crate::specs::Opening::found_place))]
 fn place_of_table(table: Option<TableSpot>) -> Place
@@ -112,28 +102,23 @@ fn nothing_asked() -> Asked
 fn place_or_why(description: &[u8], image: &[u8], name: ElementName, number: bool) -> Place
     ensures { result ≡ element_place_in number description.now name (open_image description.now image.now) }
 {
-    let nothing = nothing_asked();
-    let first = nothing.first;
-    let second = nothing.second;
-    let from = nothing.from;
     let asked = Asked {
-        first,
-        second,
         item: name.item,
-        from,
-        octets: 0,
+        ..nothing_asked()
     };
-    let answer = open_image(description, image, asked);
-    let verdict = answer.verdict;
-    let element = answer.element;
-    let numbers = answer.numbers;
-    let found = found_by(element, name, suits(description, name, number));
-    match verdict {
-        Verdict::Refused(r) => Place::Refused(r),
-        Verdict::Passed => match found {
-            Some(ElementSpot { start, length }) => Place::At { start, length },
-            None => Place::Refused(why_none(description, numbers, name, number)),
-        },
+    match open_image(description, image, asked) {
+        Err(r) => Place::Refused(r),
+        Ok(answer) => {
+            let Answer {
+                numbers,
+                element,
+                ..
+            } = answer;
+            match found_by(element, name, suits(description, name, number)) {
+                Some(ElementSpot { start, length }) => Place::At { start, length },
+                None => Place::Refused(why_none(description, numbers, name, number)),
+            }
+        }
     }
 }
 
@@ -142,11 +127,9 @@ fn place_or_why(description: &[u8], image: &[u8], name: ElementName, number: boo
 pub fn layout(description: &[u8], image: &[u8]) -> Reply
     ensures { result ≡ layout_reply description.now image.now }
 {
-    let answer = open_image(description, image, nothing_asked());
-    let verdict = answer.verdict;
-    match verdict {
-        Verdict::Refused(r) => Reply::Refused(r),
-        Verdict::Passed => Reply::Total(answer.total),
+    match open_image(description, image, nothing_asked()) {
+        Err(r) => Reply::Refused(r),
+        Ok(answer) => Reply::Total(answer.total),
     }
 }
 
@@ -161,8 +144,6 @@ pub fn table_places(
 ) -> Places
     ensures { (result.first ≡ table_place_reply description.now image.now manufacturer number) × (result.second ≡ table_place_reply description.now image.now other_manufacturer other_number) }
 {
-    let nothing = nothing_asked();
-    let from = nothing.from;
     let asked = Asked {
         first: TableName {
             manufacturer,
@@ -172,17 +153,17 @@ pub fn table_places(
             manufacturer: other_manufacturer,
             number: other_number,
         },
-        item: 0,
-        from,
-        octets: 0,
+        ..nothing_asked()
     };
-    let answer = open_image(description, image, asked);
-    let verdict = answer.verdict;
-    let one = answer.first;
-    let two = answer.second;
-    Places {
-        first: refusal_or(verdict, place_of_table(one)),
-        second: refusal_or(verdict, place_of_table(two)),
+    match open_image(description, image, asked) {
+        Err(r) => Places {
+            first: Place::Refused(r),
+            second: Place::Refused(r),
+        },
+        Ok(Answer { first, second, .. }) => Places {
+            first: place_of_table(first),
+            second: place_of_table(second),
+        },
     }
 }
 
@@ -226,37 +207,25 @@ pub fn range_in(
 ) -> Result<RangeTable, Refusal>
     ensures { result ≡ range_in manufacturer number from octets (open_image description.now image.now) }
 {
-    let nothing = nothing_asked();
-    let second = nothing.second;
     let asked = Asked {
         first: TableName {
             manufacturer,
             number,
         },
-        second,
-        item: 0,
         from,
         octets,
+        ..nothing_asked()
     };
-    let answer = open_image(description, image, asked);
-    let verdict = answer.verdict;
-    let table = answer.first;
-    match verdict {
-        Verdict::Refused(r) => Err(r),
-        Verdict::Passed => match table {
-            Some(
-                TableSpot {
-                    item,
-                    start,
-                    length,
-                },
-            ) => Ok(RangeTable {
-                item,
-                start,
-                length,
-                held: answer.held,
-            }),
-            None => Err(Refusal::NO_TABLE),
-        },
-    }
+    let Answer { first, held, .. } = open_image(description, image, asked)?;
+    let TableSpot {
+        item,
+        start,
+        length,
+    } = first.ok_or(Refusal::NO_TABLE)?;
+    Ok(RangeTable {
+        item,
+        start,
+        length,
+        held,
+    })
 }

@@ -4,7 +4,7 @@
 ghost use Rattle.std.specs.Prelude.{◌≡◌};
 ghost use Rattle.meaning.specs.Layout.{lay_out};
 ghost use Rattle.meaning.specs.Refusals.{open_laid, open_image};
-ghost use Rattle.places.specs.Surveying.{is_first, seat_in, first_standing, held_after, verdict_of, refused_by, TableReady, TableAs, SurveyReady, AnswerAs};
+ghost use Rattle.places.specs.Surveying.{is_first, seat_in, first_standing, held_after, verdict_of, TableReady, TableAs, SurveyReady, AnswerAs};
 
 use crate::rows::{Row, alone};
 use crate::walk::{Aim, Walk, walk_body};
@@ -46,12 +46,10 @@ pub struct Standing {
     pub row: Row,
 }
 
-// The image opened, or refused by 1 to 9: the total, the numbers of the slots, where the tables asked
-// for are, the row of the item, and whether those octets lie in the first table and hold one of a
-// dimension.
+// The image opened: the total, the numbers of the slots, where the tables asked for are, the row of the
+// item, and whether those octets lie in the first table and hold one of a dimension.
 #[derive(Clone, Copy)]
 pub struct Answer {
-    pub verdict: Verdict,
     pub total: usize,
     pub numbers: [u32; 64],
     pub first: Option<TableSpot>,
@@ -61,8 +59,7 @@ pub struct Answer {
 }
 
 // Tables laid one after another: the numbers of the slots, where the next table starts and its item,
-// and what of that asked for is found among those laid. Refused, the image is short in the table
-// before `next`.
+// and what of that asked for is found among those laid.
 #[derive(Clone, Copy)]
 pub struct Survey {
     pub numbers: [u32; 64],
@@ -72,7 +69,6 @@ pub struct Survey {
     pub second: Option<TableSpot>,
     pub element: Standing,
     pub held: bool,
-    pub verdict: Verdict,
 }
 
 // Whether a table is the one of that name, and none was found before.
@@ -120,50 +116,47 @@ fn held_after(before: bool, this: bool, fits: bool, held: bool) -> bool
     before
 }
 
-// Whether the walk over the table at `start` came to its end.
+// Refused, if the walk over the table at `start` didn't come to its end.
 #[tactic(auto, unfolding(crate::specs::Surveying::verdict_of))]
-fn verdict_of(start: TableStart, w: Walk) -> Verdict
+fn verdict_of(start: TableStart, w: Walk) -> Result<(), Refusal>
     ensures { result ≡ verdict_of start.0 w }
 {
     if w.short {
-        let walked = w.octets;
-        let at = w.next;
-        let octet = start.in_image(walked);
-        return Verdict::Refused(Refusal {
+        let octet = start.in_image(w.octets);
+        return Err(Refusal {
             number: 9,
-            item: at.item() as u64,
+            item: w.next.item() as u64,
             octet: octet.octet() as u64,
             depth: 0,
         });
     }
-    Verdict::Passed
+    Ok(())
 }
 
-// The next table laid.
-fn survey_table(d: &[u8], image: &[u8], asked: Asked, s: Survey) -> Survey
+// The next table laid, or the refusal of an image that is short in it.
+fn survey_table(d: &[u8], image: &[u8], asked: Asked, s: Survey) -> Result<Survey, Refusal>
     requires { TableReady d.now image.now asked s }
     ensures { TableAs d.now image.now asked s result }
 {
-    let place = s.next;
+    let Survey {
+        numbers,
+        start,
+        next: place,
+        first,
+        second,
+        element,
+        held,
+    } = s;
     let read = place.read(d);
     let h = read.fields;
     let next = read.next;
-    let start = s.start;
-    let from = asked.from;
-    let numbers = s.numbers;
-    let one = s.first;
-    let two = s.second;
-    let element = s.element;
-    let name = asked.first;
-    let other = asked.second;
-    let octets = asked.octets;
-    let this = is_first(one, h, name);
-    let that = is_first(two, h, other);
+    let this = is_first(first, h, asked.first);
+    let that = is_first(second, h, asked.second);
     let aim = Aim {
         start,
         wanted: asked.item,
-        from,
-        octets,
+        from: asked.from,
+        octets: asked.octets,
     };
     let before = Walk {
         numbers,
@@ -174,58 +167,43 @@ fn survey_table(d: &[u8], image: &[u8], asked: Asked, s: Survey) -> Survey
         short: false,
     };
     let w = walk_body(d, image, aim, before, h.first, 4);
-    let walked = w.octets;
-    let length = walked.octets();
-    let row = w.row;
-    let read_on = w.numbers;
+    verdict_of(start, w)?;
+    let Walk {
+        numbers,
+        octets,
+        row,
+        held: holds,
+        ..
+    } = w;
+    let length = octets.octets();
     let table = TableSpot {
         item: place.item(),
         start,
         length,
     };
-    let fits = ends_within(from.octets(), octets, length);
-    Survey {
-        numbers: read_on,
+    let fits = ends_within(asked.from.octets(), asked.octets, length);
+    Ok(Survey {
+        numbers,
         start: start.after(length),
         next: next.past(h.first),
-        first: seat(one, this, table),
-        second: seat(two, that, table),
+        first: seat(first, this, table),
+        second: seat(second, that, table),
         element: first_standing(element, Standing { start, row }),
-        held: held_after(s.held, this, fits, w.held),
-        verdict: verdict_of(start, w),
-    }
-}
-
-// An answer that is a refusal.
-fn refused(r: Refusal) -> Answer
-    ensures { result ≡ refused_by r }
-{
-    Answer {
-        verdict: Verdict::Refused(r),
-        total: 0,
-        numbers: [0u32; 64],
-        first: None,
-        second: None,
-        element: Standing {
-            start: TableStart::first(),
-            row: alone(None),
-        },
-        held: false,
-    }
+        held: held_after(held, this, fits, holds),
+    })
 }
 
 // All tables laid, one after another from octet 0.
-fn survey_image(d: &[u8], image: &[u8], asked: Asked) -> Answer
+fn survey_image(d: &[u8], image: &[u8], asked: Asked) -> Result<Answer, Refusal>
     requires { SurveyReady d.now image.now }
     ensures { AnswerAs d.now image.now asked result (open_laid (lay_out d.now image.now)) }
 {
     let items = d.len() / 4;
     let start = TableStart::first();
-    let mut place = Cursor::first();
     let mut s = Survey {
         numbers: [0u32; 64],
         start,
-        next: place,
+        next: Cursor::first(),
         first: None,
         second: None,
         element: Standing {
@@ -233,49 +211,40 @@ fn survey_image(d: &[u8], image: &[u8], asked: Asked) -> Answer
             row: alone(None),
         },
         held: false,
-        verdict: Verdict::Passed,
     };
-    while place.item() < items {
-        let later = survey_table(d, image, asked, s);
-        let verdict = later.verdict;
-        match verdict {
-            Verdict::Refused(r) => {
-                return refused(r);
-            }
-            Verdict::Passed => {
-                place = later.next;
-                s = later;
-            }
-        }
+    while s.next.item() < items {
+        s = survey_table(d, image, asked, s)?;
     }
-    let end = s.start;
-    let last = end.in_image(TableOffset::new(0));
-    let first = s.first;
-    let second = s.second;
-    let element = s.element;
-    let numbers = s.numbers;
-    Answer {
-        verdict: Verdict::Passed,
-        total: last.octet(),
+    let Survey {
+        numbers,
+        start,
+        first,
+        second,
+        element,
+        held,
+        ..
+    } = s;
+    let end = start.in_image(TableOffset::new(0));
+    Ok(Answer {
+        total: end.octet(),
         numbers,
         first,
         second,
         element,
-        held: s.held,
-    }
+        held,
+    })
 }
 
 // What one walk tells, to whoever asks. 1 to 9 come first: the description is checked, and the
 // image's length; then the image is laid out.
-pub(crate) fn open_image(d: &[u8], image: &[u8], asked: Asked) -> Answer
+pub(crate) fn open_image(d: &[u8], image: &[u8], asked: Asked) -> Result<Answer, Refusal>
     ensures { AnswerAs d.now image.now asked result (open_image d.now image.now) }
 {
-    let verdict = sound::check(d);
-    match verdict {
-        Verdict::Refused(r) => refused(r),
+    match sound::check(d) {
+        Verdict::Refused(r) => Err(r),
         Verdict::Passed => {
             if 65535 < image.len() {
-                return refused(Refusal::IMAGE_TOO_LONG);
+                return Err(Refusal::IMAGE_TOO_LONG);
             }
             survey_image(d, image, asked)
         }
