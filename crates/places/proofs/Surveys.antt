@@ -18,10 +18,9 @@ use Rattle.meaning.specs.Description.{item_count, fields_at, is_table, nested, c
 use Rattle.meaning.specs.Passed.{Passes}
 use Rattle.meaning.specs.Layout.{Body, Tables, no_more, table, table_at, tables_of, tree_of, body_at, Slots, unread, Placed, fault, short, Laid, laid, stopped, lay_body}
 use Rattle.meaning.specs.Layout.{Seat, Layout, laid_out, stopped_at, before, seated, lay_tables, lay_out, table_named, number_of}
-use Rattle.meaning.specs.Numbers.{image_short, image_too_long}
+use Rattle.meaning.specs.Numbers.{image_too_long}
 use Rattle.meaning.specs.Refusals.{refused, stop_refusal, open_laid, open_sound, open_image, any_dimension}
 use Rattle.meaning.proofs.Passed.{passed_laws}
-use Rattle.meaning.proofs.Either.{clash}
 use Rattle.laying.specs.Every.{Every}
 use Rattle.laying.specs.Rows.{Array, row, no_row, first_row, onward, row_after, walk_body, walk_tables, row_of}
 use Rattle.laying.specs.Rows as def
@@ -48,7 +47,7 @@ use Rattle.places.specs.declared.walk.Walk.{Walk}
 use Rattle.places.specs.Found.{FoundTable}
 use Rattle.places.specs.Measuring.{numbers_in}
 use Rattle.places.specs.Rows.{alone}
-use Rattle.places.specs.Surveying.{table_found, is_first, seat_in, first_standing, held_in, held_after, verdict_of, StandsAs, before_all, Surveyed, TableReady, TableAs, AnswerAs}
+use Rattle.places.specs.Surveying.{table_found, is_first, seat_in, first_standing, held_in, held_after, StandsAs, before_all, Surveyed, TableReady, TableAs, AnswerAs}
 use Rattle.places.specs.Walking.{WalkEnds, Ends, WalkBodyReady, WalksBody}
 use Rattle.places.proofs.Held.{holds_append}
 use Rattle.places.proofs.RowLaws.{as_none, first_case, said_none, said_some}
@@ -262,7 +261,7 @@ module _ (d img : List ℕ) (q : Asked) (s : Survey) (ready : TableReady d img q
 
   -- the walk before it, at the item after the table's own
   abbrev sets_off : (next octets : ℕ) → Walk
-  sets_off next octets = record { numbers = s.numbers; octets = record { 0 = octets }; row = alone None; held = false; next = record { at = next }; short = false }
+  sets_off next octets = record { numbers = s.numbers; octets = record { 0 = octets }; row = alone None; held = false; next = record { at = next } }
 
   pub table_ready : (next octets first : ℕ) → next ≡ at + 1 → octets ≡ 0 → first ≡ f.first → WalkBodyReady d img aim (sets_off next octets) first 4
   table_ready next octets first e z i =
@@ -273,7 +272,6 @@ module _ (d img : List ℕ) (q : Asked) (s : Survey) (ready : TableReady d img q
           deep = omega arith;
           small = ready.ready.small;
           inside = omega (arith, g.inside);
-          going = refl;
           slots = g.room;
         };
         there = omega (arith, left.few);
@@ -298,13 +296,13 @@ module _ (d img : List ℕ) (q : Asked) (s : Survey) (ready : TableReady d img q
       g.rows ∙ ap (λ (x : Tables). first_row g.row (walk_tables x img g.slots s.start.0 q.item)) left.is
       ∙ ap (λ (z : Laid). first_row g.row (first_row row_here (row_after z (λ t x. walk_tables rest img t x q.item)))) e
 
-  module _ (w : Walk) (next octets first : ℕ) (ne : next ≡ at + 1) (oe : octets ≡ 0) (fe : first ≡ f.first) (walks : WalksBody d img aim (sets_off next octets) first 4 w) where
+  module _ (next octets first : ℕ) (ne : next ≡ at + 1) (oe : octets ≡ 0) (fe : first ≡ f.first) where
     few : item_count d ≤ 512
     few = (passed_laws d ready.ready.passes).few
 
     -- what the walk came to
-    ends : Ends aim no_row false w row_here (lay_body body img false g.slots s.start.0)
-    ends =
+    ends : (w : Result Walk Refusal) → WalksBody d img aim (sets_off next octets) first 4 w → Ends aim no_row false w row_here (lay_body body img false g.slots s.start.0)
+    ends w walks =
         let e : s.start.0 + octets ≡ s.start.0 = omega arith in
         let walked : WalksBody d img aim (sets_off (at + 1) octets) f.first 4 w = rw (ne, fe) at walks in
         subst (λ (p : ℕ). Ends aim no_row false w (walk_body body img g.slots p q.item) (lay_body body img false g.slots p)) e
@@ -313,32 +311,19 @@ module _ (d img : List ℕ) (q : Asked) (s : Survey) (ready : TableReady d img q
     reaches : Reaches (after_body body g.known) (λ i. walk_body body img g.slots s.start.0 i) (lay_body body img false g.slots s.start.0)
     reaches = r_body img d body true 0 (at + 1) after g.slots g.known s.start.0 g.matches sound.0 rises
 
-    verdict_going : w.short ≡ false → verdict_of s.start.0 w ≡ Ok tt
-    unfolding verdict_of
-    verdict_going e = rw e
-
-    verdict_short : w.short ≡ true → verdict_of s.start.0 w ≡ Err (image_short w.next.at (s.start.0 + w.octets.0))
-    unfolding verdict_of
-    verdict_short e =
-        let m : min (s.start.0 + w.octets.0) 18446744073709551615 ≡ s.start.0 + w.octets.0 = omega (arith, walks.walked.inside, ready.ready.small) in
-        rw (e, m)
-
     -- THE IMAGE IS SHORT in this table
-    pub table_stopped : {v : Result (Unit {0}) Refusal} {x : Refusal} → v ≡ verdict_of s.start.0 w → v ≡ Err x → open_laid (lay_out d img) ≡ refused x
+    pub table_stopped : {x : Refusal} → WalksBody d img aim (sets_off next octets) first 4 (Err x) → open_laid (lay_out d img) ≡ refused x
     unfolding seated before_all open_laid stop_refusal
-    table_stopped {v} {x} is h = go (lay_body body img false g.slots s.start.0) ends reaches whole_is
+    table_stopped {x} walks = go (lay_body body img false g.slots s.start.0) (ends (Err x) walks) reaches whole_is
       where
-        go : (o : Laid) → Ends aim no_row false w row_here o → Reaches (after_body body g.known) (λ i. walk_body body img g.slots s.start.0 i) o → Whole o
+        go : (o : Laid) → Ends aim no_row false (Err x) row_here o → Reaches (after_body body g.known) (λ i. walk_body body img g.slots s.start.0 i) o → Whole o
             → open_laid (lay_out d img) ≡ refused x
-        go (laid ps t y) e m wh = let going = verdict_going e.going in clash (cc)
+        go (laid ps t y) e m wh = absurd e
         go (stopped ps (fault z i)) e m wh = absurd m
-        go (stopped ps (short i y)) e m wh =
-            let short = verdict_short e.0 in
-            let same : image_short w.next.at (s.start.0 + w.octets.0) ≡ x = cc in
-            ap open_laid wh ∙ ap refused (sym (rw (e.1, e.2)) ∙ same)
+        go (stopped ps (short i y)) e m wh = ap open_laid wh ∙ ap refused (sym e)
 
     -- OR IT IS LAID
-    module _ (r : Survey) (numbers : r.numbers ≡ w.numbers) (start : r.start.0 ≡ min (s.start.0 + w.octets.0) 18446744073709551615) (goes : r.next.at ≡ min (next + first) 18446744073709551615)
+    module _ (w : Walk) (walks : WalksBody d img aim (sets_off next octets) first 4 (Ok w)) (r : Survey) (numbers : r.numbers ≡ w.numbers) (start : r.start.0 ≡ min (s.start.0 + w.octets.0) 18446744073709551615) (goes : r.next.at ≡ min (next + first) 18446744073709551615)
         (seat : r.first ≡ seat_in s.first (is_first s.first f q.first) (spot_of at s.start.0 w.octets.0))
         (other : r.second ≡ seat_in s.second (is_first s.second f q.second) (spot_of at s.start.0 w.octets.0))
         (element : r.element ≡ first_standing s.element (record { start = s.start; row = w.row }))
@@ -393,14 +378,14 @@ module _ (d img : List ℕ) (q : Asked) (s : Survey) (ready : TableReady d img q
                 fill.order g.seats_end g.elements_end fill.lies);
           }
 
-      pub table_laid : {v : Result (Unit {0}) Refusal} {u : Unit {0}} → v ≡ verdict_of s.start.0 w → v ≡ Ok u → TableAs d img q s (Ok r)
-      table_laid {v} {u} is h = go (lay_body body img false g.slots s.start.0) refl ends reaches whole_is
+      pub table_laid : TableAs d img q s (Ok r)
+      table_laid = go (lay_body body img false g.slots s.start.0) refl (ends (Ok w) walks) reaches whole_is
         where
-          go : (o : Laid) → lay_body body img false g.slots s.start.0 ≡ o → Ends aim no_row false w row_here o
+          go : (o : Laid) → lay_body body img false g.slots s.start.0 ≡ o → Ends aim no_row false (Ok w) row_here o
               → Reaches (after_body body g.known) (λ i. walk_body body img g.slots s.start.0 i) o → Whole o → TableAs d img q s (Ok r)
           go (laid ps t x) is e m wh = (laid_on ps t x is e m.matches wh, omega (arith, goes_on))
           go (stopped ps (fault z i)) is e m wh = absurd m
-          go (stopped ps (short i x)) same e m wh = let short = verdict_short e.0 in clash (cc)
+          go (stopped ps (short i x)) is e m wh = absurd e
 
 -- AT THE END
 pub laid_all : (d img : List ℕ) (q : Asked) (s : Survey) → Surveyed d img q s → item_count d ≤ s.next.at → (total : ℕ) → total ≡ s.start.0

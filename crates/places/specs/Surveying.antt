@@ -1,5 +1,5 @@
 -- THE WHOLE IMAGE: what laying the tables one after another promises, by what laying out comes to. Assumes nothing.
-use Rattle.std.specs.Prelude.{ℕ, ◌+◌, ◌-◌, ◌<◌, ◌≤◌, min, ◌≡◌, Bool, false, ◌&&◌, Some, None, Result, Ok, Err, List, ◌++◌, length, if◌then◌else◌}
+use Rattle.std.specs.Prelude.{ℕ, ◌+◌, ◌-◌, ◌<◌, ◌≤◌, ◌≡◌, Bool, false, ◌&&◌, Some, None, Result, Ok, Err, List, ◌++◌, length, if◌then◌else◌}
 use Rattle.std.proofs.Math.Option.{Option, some, none}
 use Rattle.meaning.specs.Basics.{◌=?◌, ◌≤?◌}
 use Rattle.meaning.specs.declared.Fields.{Fields}
@@ -7,7 +7,6 @@ use Rattle.meaning.specs.declared.Refusal.{Refusal}
 use Rattle.meaning.specs.Description.{item_count}
 use Rattle.meaning.specs.Passed.{Passes}
 use Rattle.meaning.specs.Layout.{Placed, Seat, Slots, Layout, laid_out, stopped_at, lay_tables, lay_out, tables_of, table_named, slot_numbers}
-use Rattle.meaning.specs.Numbers.{image_short}
 use Rattle.meaning.specs.Refusals.{Opened, opened, refused, open_laid, any_dimension}
 use Rattle.laying.specs.Every.{Every}
 use Rattle.laying.specs.Rows.{first_row, onward, walk_tables, row_of}
@@ -20,7 +19,6 @@ use Rattle.places.specs.declared.survey.Standing.{Standing}
 use Rattle.places.specs.declared.survey.Survey.{Survey}
 use Rattle.places.specs.declared.survey.TableName.{TableName}
 use Rattle.places.specs.declared.survey.TableSpot.{TableSpot}
-use Rattle.places.specs.declared.walk.Walk.{Walk}
 use Rattle.places.specs.Found.{FoundTable}
 use Rattle.places.specs.Measuring.{numbers_in}
 use Rattle.places.specs.Rows.{RowAs, first_by}
@@ -49,10 +47,6 @@ held_in o n (some t) es = o + n ≤? t.size && any_dimension es (t.start + o) n
 
 unfoldable pub held_after : (before this fits held : Bool) → Bool
 held_after before this fits held = if this then fits && held else before
-
--- refused, if the walk over the table at p didn't come to its end
-unfoldable pub verdict_of : (p : ℕ) → Walk → Result (Unit {0}) Refusal
-verdict_of p w = if w.short then Err (image_short w.next.at (min (p + w.octets.0) 18446744073709551615)) else Ok tt
 
 -- a row of the image, in the table where it stands
 pub record StandsAs (e : Standing) (r : def.Row) : Type 0 where

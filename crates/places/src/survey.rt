@@ -4,7 +4,7 @@
 ghost use Rattle.std.specs.Prelude.{◌≡◌};
 ghost use Rattle.meaning.specs.Layout.{lay_out};
 ghost use Rattle.meaning.specs.Refusals.{open_laid, open_image};
-ghost use Rattle.places.specs.Surveying.{is_first, seat_in, first_standing, held_after, verdict_of, TableReady, TableAs, SurveyReady, AnswerAs};
+ghost use Rattle.places.specs.Surveying.{is_first, seat_in, first_standing, held_after, TableReady, TableAs, SurveyReady, AnswerAs};
 
 use crate::rows::{Row, alone};
 use crate::walk::{Aim, Walk, walk_body};
@@ -116,23 +116,6 @@ fn held_after(before: bool, this: bool, fits: bool, held: bool) -> bool
     before
 }
 
-// Refused, if the walk over the table at `start` didn't come to its end.
-#[tactic(auto, unfolding(crate::specs::Surveying::verdict_of))]
-fn verdict_of(start: TableStart, w: Walk) -> Result<(), Refusal>
-    ensures { result ≡ verdict_of start.0 w }
-{
-    if w.short {
-        let octet = start.in_image(w.octets);
-        return Err(Refusal {
-            number: 9,
-            item: w.next.item() as u64,
-            octet: octet.octet() as u64,
-            depth: 0,
-        });
-    }
-    Ok(())
-}
-
 // The next table laid, or the refusal of an image that is short in it.
 fn survey_table(d: &[u8], image: &[u8], asked: Asked, s: Survey) -> Result<Survey, Refusal>
     requires { TableReady d.now image.now asked s }
@@ -164,10 +147,8 @@ fn survey_table(d: &[u8], image: &[u8], asked: Asked, s: Survey) -> Result<Surve
         row: alone(None),
         held: false,
         next,
-        short: false,
     };
-    let w = walk_body(d, image, aim, before, h.first, 4);
-    verdict_of(start, w)?;
+    let w = walk_body(d, image, aim, before, h.first, 4)?;
     let Walk {
         numbers,
         octets,
