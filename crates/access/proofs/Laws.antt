@@ -1,5 +1,5 @@
 -- What the replies come to, case by case. Assumes nothing.
-use Rattle.std.specs.Prelude.{if◌then◌else◌}
+use Rattle.std.specs.Prelude.{Ok, Err, if◌then◌else◌}
 use Prim.Native.Nat.{ℕ, zero, suc, ◌+◌, ◌-◌, ◌*◌, ◌^◌, ◌/◌, ◌<◌, ◌≤◌, min}
 use mathlib.Core.Path.{◌≡◌, refl, ◌∙◌, ap, sym, subst}
 use mathlib.Core.Bool.{Bool, true, false, not, ◌&&◌, ◌||◌, true≢false}
@@ -12,7 +12,6 @@ use native.Mathlib.Omega.{arith}
 use native.Mathlib.Nat.{pow-le-pow_right, pow-suc, div-eq_of_lt, div-eq-sub-div}
 use lib.Pow.{pow-add}
 use Rattle.offsets.specs.declared.TableOffset.{TableOffset}
-use Rattle.offsets.specs.declared.TableStart.{TableStart}
 use Rattle.meaning.specs.Basics.{◌<?◌, ◌≤?◌, ◌=?◌, octets_in}
 use Rattle.meaning.specs.declared.ElementName.{ElementName}
 use Rattle.meaning.specs.declared.Refusal.{Refusal}
@@ -35,7 +34,8 @@ use Rattle.offsets.specs.declared.ImageOffset.{ImageOffset}
 use Rattle.items.specs.declared.Read.{Read}
 use Rattle.items.specs.Read.{read_at}
 use Rattle.items.proofs.ReadLaws.{fields_read, next_read}
-use Rattle.places.specs.declared.Ranged.{Ranged}
+use Rattle.places.specs.declared.RangeTable.{RangeTable}
+use Rattle.places.specs.Found.{FoundRange}
 use Rattle.places.specs.Opening as ranges
 use Rattle.places.specs.Surveying.{held_in}
 use Rattle.access.specs.declared.Seen.{Seen}
@@ -111,10 +111,11 @@ pub record TableIn (d img : List ℕ) (i p l : ℕ) : Type 0 where
   pub small : length img ≤ 65535
 
 -- the range in the table found, or none
-abbrev pub RangeTold : (description image : List ℕ) → TableOffset → (n : ℕ) → Ranged → Place → Type 0
-RangeTold d img o n (Ranged.Refused x) v = Place.Refused x ≡ v
-RangeTold d img o n (Ranged.In i s l h) v =
-    TableIn d img i s.0 l × (v ≡ (if l <? o.0 + n then Place.Refused outside_table else allowed_by ((fields_at d i).writable =? 1) h (record { 0 = s.0 + o.0 }) n))
+abbrev pub RangeTold : (description image : List ℕ) → TableOffset → (n : ℕ) → FoundRange → Place → Type 0
+RangeTold d img o n (Err x) v = Place.Refused x ≡ v
+RangeTold d img o n (Ok a) v =
+    TableIn d img a.item a.start.0 a.length
+    × (v ≡ (if a.length <? o.0 + n then Place.Refused outside_table else allowed_by ((fields_at d a.item).writable =? 1) a.held (record { 0 = a.start.0 + o.0 }) n))
 
 module _ (d img : List ℕ) (es : List Placed) (o : TableOffset) (n : ℕ) where
   range_none : RangeTold d img o n (ranges.range_of o.0 n none es) (range_of d img es o n none)
@@ -131,7 +132,7 @@ module _ (d img : List ℕ) (es : List Placed) (o : TableOffset) (n : ℕ) where
       go true e = refl
       go false e = rw (held_within o.0 n t es (ltb-false t.size (o.0 + n) e)) (allowed_is d img es t.item (t.start + o.0) n)
 
-module _ (d img : List ℕ) (m k : ℕ) (o : TableOffset) (n : ℕ) (r : Ranged) (is : r ≡ ranges.range_in m k o n (open_image d img)) where
+module _ (d img : List ℕ) (m k : ℕ) (o : TableOffset) (n : ℕ) (r : FoundRange) (is : r ≡ ranges.range_in m k o n (open_image d img)) where
   -- by cases on the image
   told : RangeTold d img o n r (range_place d img m k o n)
   unfolding range_place range_in ranges.range_in seat_place
@@ -150,36 +151,36 @@ module _ (d img : List ℕ) (m k : ℕ) (o : TableOffset) (n : ℕ) (r : Ranged)
           })
 
       go : Came d img → RangeTold d img o n r (range_place d img m k o n)
-      go (refuses x e) = rw e (subst (λ (z : Ranged). RangeTold d img o n z (Place.Refused x)) (sym (is ∙ ap (ranges.range_in m k o n) e)) refl)
+      go (refuses x e) = rw e (subst (λ (z : FoundRange). RangeTold d img o n z (Place.Refused x)) (sym (is ∙ ap (ranges.range_in m k o n) e)) refl)
       go (opens ts es s total h) =
           rw (opened_image h)
-          (subst (λ (z : Ranged). RangeTold d img o n z (range_of d img es o n (table_named m k ts))) (sym (is ∙ ap (ranges.range_in m k o n) (opened_image h)))
+          (subst (λ (z : FoundRange). RangeTold d img o n z (range_of d img es o n (table_named m k ts))) (sym (is ∙ ap (ranges.range_in m k o n) (opened_image h)))
           (in_opened ts es s total h (table_named m k ts) refl))
 
   -- refused, past the table, or allowed there or not
-  pub range_refused : (x : Refusal) → r ≡ Ranged.Refused x → Place.Refused x ≡ range_place d img m k o n
-  range_refused x e = subst (λ (z : Ranged). RangeTold d img o n z (range_place d img m k o n)) e told
+  pub range_refused : (x : Refusal) → r ≡ Err x → Place.Refused x ≡ range_place d img m k o n
+  range_refused x e = subst (λ (z : FoundRange). RangeTold d img o n z (range_place d img m k o n)) e told
 
-  module _ (i : ℕ) (s : TableStart) (l : ℕ) (h : Bool) (e : r ≡ Ranged.In i s l h) where
-    pub table_in : TableIn d img i s.0 l
-    table_in = (subst (λ (z : Ranged). RangeTold d img o n z (range_place d img m k o n)) e told).0
+  module _ (a : RangeTable) (e : r ≡ Ok a) where
+    pub table_in : TableIn d img a.item a.start.0 a.length
+    table_in = (subst (λ (z : FoundRange). RangeTold d img o n z (range_place d img m k o n)) e told).0
 
-    found : range_place d img m k o n ≡ (if l <? o.0 + n then Place.Refused outside_table else allowed_by ((fields_at d i).writable =? 1) h (record { 0 = s.0 + o.0 }) n)
-    found = (subst (λ (z : Ranged). RangeTold d img o n z (range_place d img m k o n)) e told).1
+    found : range_place d img m k o n ≡ (if a.length <? o.0 + n then Place.Refused outside_table else allowed_by ((fields_at d a.item).writable =? 1) a.held (record { 0 = a.start.0 + o.0 }) n)
+    found = (subst (λ (z : FoundRange). RangeTold d img o n z (range_place d img m k o n)) e told).1
 
-    module _ (b : Bool) (within : b ≡ (o.0 + n ≤? l)) where
+    module _ (b : Bool) (within : b ≡ (o.0 + n ≤? a.length)) where
       pub range_past : b ≡ false → Place.Refused outside_table ≡ range_place d img m k o n
-      range_past f = sym (found ∙ rw (lt-ltb l (o.0 + n) (leb-false (o.0 + n) l (sym within ∙ f))))
+      range_past f = sym (found ∙ rw (lt-ltb a.length (o.0 + n) (leb-false (o.0 + n) a.length (sym within ∙ f))))
 
-      pub range_there : b ≡ true → (p : ℕ) → p ≡ s.0 + o.0 → (f : Fields) → f ≡ fields_at d i → allowed_by (f.writable =? 1) h (record { 0 = p }) n ≡ range_place d img m k o n
-      range_there t p g f fe = rw (g, fe) (sym (found ∙ rw (le-ltb l (o.0 + n) (leb-true (o.0 + n) l (sym within ∙ t)))))
+      pub range_there : b ≡ true → (p : ℕ) → p ≡ a.start.0 + o.0 → (f : Fields) → f ≡ fields_at d a.item → allowed_by (f.writable =? 1) a.held (record { 0 = p }) n ≡ range_place d img m k o n
+      range_there t p g f fe = rw (g, fe) (sym (found ∙ rw (le-ltb a.length (o.0 + n) (leb-true (o.0 + n) a.length (sym within ∙ t)))))
 
 -- READING A RANGE: by the place of the table found
-abbrev table_of : Ranged → Place
-table_of (Ranged.Refused x) = Place.Refused x
-table_of (Ranged.In i s l h) = Place.At (record { 0 = s.0 }) l
+abbrev table_of : FoundRange → Place
+table_of (Err x) = Place.Refused x
+table_of (Ok a) = Place.At (record { 0 = a.start.0 }) a.length
 
-module _ (d img : List ℕ) (m k : ℕ) (o : TableOffset) (n : ℕ) (r : Ranged) (is : r ≡ ranges.range_in m k o n (open_image d img)) where
+module _ (d img : List ℕ) (m k : ℕ) (o : TableOffset) (n : ℕ) (r : FoundRange) (is : r ≡ ranges.range_in m k o n (open_image d img)) where
   table_told : table_place_reply d img m k ≡ table_of r
   unfolding table_place_reply table_place_in seat_place ranges.range_in ranges.range_of
   table_told = rw is (go (open_image d img))
@@ -192,18 +193,18 @@ module _ (d img : List ℕ) (m k : ℕ) (o : TableOffset) (n : ℕ) (r : Ranged)
       go (opened ts es s total) = seated (table_named m k ts) es
       go (refused x) = refl
 
-  pub read_refused : (x : Refusal) → r ≡ Ranged.Refused x → Place.Refused x ≡ read_range_reply d img m k o n
+  pub read_refused : (x : Refusal) → r ≡ Err x → Place.Refused x ≡ read_range_reply d img m k o n
   unfolding read_range_reply range_at
   read_refused x e = rw (table_told, e)
 
-  module _ (i : ℕ) (s : TableStart) (l : ℕ) (h : Bool) (e : r ≡ Ranged.In i s l h) (b : Bool) (within : b ≡ (o.0 + n ≤? l)) where
+  module _ (a : RangeTable) (e : r ≡ Ok a) (b : Bool) (within : b ≡ (o.0 + n ≤? a.length)) where
     pub read_past : b ≡ false → Place.Refused outside_table ≡ read_range_reply d img m k o n
     unfolding read_range_reply range_at
-    read_past f = rw (table_told, e, lt-ltb l (o.0 + n) (leb-false (o.0 + n) l (sym within ∙ f)))
+    read_past f = rw (table_told, e, lt-ltb a.length (o.0 + n) (leb-false (o.0 + n) a.length (sym within ∙ f)))
 
-    pub read_there : b ≡ true → (p : ℕ) → p ≡ s.0 + o.0 → Place.At (record { 0 = p }) n ≡ read_range_reply d img m k o n
+    pub read_there : b ≡ true → (p : ℕ) → p ≡ a.start.0 + o.0 → Place.At (record { 0 = p }) n ≡ read_range_reply d img m k o n
     unfolding read_range_reply range_at
-    read_there t p g = rw (table_told, e, le-ltb l (o.0 + n) (leb-true (o.0 + n) l (sym within ∙ t)), g)
+    read_there t p g = rw (table_told, e, le-ltb a.length (o.0 + n) (leb-true (o.0 + n) a.length (sym within ∙ t)), g)
 
 -- WRITING A RANGE, OR A WHOLE TABLE
 -- what fits a table lies in it
@@ -211,8 +212,8 @@ pub lies_in : (e x b : Bool) → b ≡ (e && x) → b ≡ true → e ≡ true
 lies_in true x b w t = refl
 lies_in false x b w t = absurd (true≢false (sym t ∙ w))
 
-module _ (whole : Bool) (d img : List ℕ) (m k : ℕ) (o : TableOffset) (n : ℕ) (r : Ranged) (is : r ≡ ranges.range_in m k o n (open_image d img)) where
-  pub place_refused : (x : Refusal) → r ≡ Ranged.Refused x → Place.Refused x ≡ place_to_write whole d img m k o n
+module _ (whole : Bool) (d img : List ℕ) (m k : ℕ) (o : TableOffset) (n : ℕ) (r : FoundRange) (is : r ≡ ranges.range_in m k o n (open_image d img)) where
+  pub place_refused : (x : Refusal) → r ≡ Err x → Place.Refused x ≡ place_to_write whole d img m k o n
   unfolding place_to_write other_size
   place_refused x e = rw (table_told d img m k o n r is, e) (go whole)
     where
@@ -220,26 +221,26 @@ module _ (whole : Bool) (d img : List ℕ) (m k : ℕ) (o : TableOffset) (n : �
       go true = range_refused d img m k o n r is x e
       go false = range_refused d img m k o n r is x e
 
-  module _ (i : ℕ) (s : TableStart) (l : ℕ) (h : Bool) (e : r ≡ Ranged.In i s l h) (b : Bool) (within : b ≡ ((o.0 + n ≤? l) && (not whole || n =? l))) where
+  module _ (a : RangeTable) (e : r ≡ Ok a) (b : Bool) (within : b ≡ ((o.0 + n ≤? a.length) && (not whole || n =? a.length))) where
     pub place_past : b ≡ false → Place.Refused outside_table ≡ place_to_write whole d img m k o n
     unfolding place_to_write other_size
-    place_past f = rw (table_told d img m k o n r is, e) (go whole (o.0 + n ≤? l) (n =? l) refl (sym within ∙ f))
+    place_past f = rw (table_told d img m k o n r is, e) (go whole (o.0 + n ≤? a.length) (n =? a.length) refl (sym within ∙ f))
       where
-        past : (x : Bool) → (o.0 + n ≤? l) ≡ false → Place.Refused outside_table ≡ (if x then Place.Refused outside_table else range_place d img m k o n)
+        past : (x : Bool) → (o.0 + n ≤? a.length) ≡ false → Place.Refused outside_table ≡ (if x then Place.Refused outside_table else range_place d img m k o n)
         past true g = refl
-        past false g = range_past d img m k o n r is i s l h e _ refl g
+        past false g = range_past d img m k o n r is a e _ refl g
 
-        go : (w x y : Bool) → (o.0 + n ≤? l) ≡ x → (x && (not w || y)) ≡ false → Place.Refused outside_table ≡ (if w && not y then Place.Refused outside_table else range_place d img m k o n)
+        go : (w x y : Bool) → (o.0 + n ≤? a.length) ≡ x → (x && (not w || y)) ≡ false → Place.Refused outside_table ≡ (if w && not y then Place.Refused outside_table else range_place d img m k o n)
         go w false y g z = past (w && not y) g
         go true true true g z = absurd (true≢false z)
         go true true false g z = refl
         go false true y g z = absurd (true≢false z)
 
-    pub place_there : b ≡ true → (p : ℕ) → p ≡ s.0 + o.0 → (f : Fields) → f ≡ fields_at d i → allowed_by (f.writable =? 1) h (record { 0 = p }) n ≡ place_to_write whole d img m k o n
+    pub place_there : b ≡ true → (p : ℕ) → p ≡ a.start.0 + o.0 → (f : Fields) → f ≡ fields_at d a.item → allowed_by (f.writable =? 1) a.held (record { 0 = p }) n ≡ place_to_write whole d img m k o n
     unfolding place_to_write other_size
     place_there t p g f fe =
-        range_there d img m k o n r is i s l h e _ refl (lies_in _ _ b within t) p g f fe
-        ∙ rw (table_told d img m k o n r is, e) (go whole (o.0 + n ≤? l) (n =? l) (sym within ∙ t))
+        range_there d img m k o n r is a e _ refl (lies_in _ _ b within t) p g f fe
+        ∙ rw (table_told d img m k o n r is, e) (go whole (o.0 + n ≤? a.length) (n =? a.length) (sym within ∙ t))
       where
         go : (w x y : Bool) → (x && (not w || y)) ≡ true → range_place d img m k o n ≡ (if w && not y then Place.Refused outside_table else range_place d img m k o n)
         go w false y z = absurd (true≢false (sym z))

@@ -18,7 +18,7 @@ use basics::{both, either, ends_within};
 use items::Cursor;
 use meaning::{ElementName, Fields, Place, Refusal, Reply, Verdict};
 use offsets::{ImageOffset, TableOffset};
-use places::Ranged;
+use places::RangeTable;
 
 // The kind that descriptions give a TABLE.
 const TABLE: u32 = 1;
@@ -102,15 +102,16 @@ fn write_place(
 ) -> Place
     ensures { result ≡ place_to_write whole description.now image.now manufacturer number offset octets }
 {
-    let found = places::range_in(description, image, manufacturer, number, offset, octets);
-    match found {
-        Ranged::Refused(r) => Place::Refused(r),
-        Ranged::In {
-            item,
-            start,
-            length,
-            held,
-        } => {
+    match places::range_in(description, image, manufacturer, number, offset, octets) {
+        Err(r) => Place::Refused(r),
+        Ok(
+            RangeTable {
+                item,
+                start,
+                length,
+                held,
+            },
+        ) => {
             if fits_table(whole, offset.octets(), octets, length) {
                 let seen = around(description, item);
                 let table = seen.fields;
@@ -239,15 +240,9 @@ pub fn range_place(
 ) -> Place
     ensures { result ≡ read_range_reply description.now image.now manufacturer number offset octets }
 {
-    let found = places::range_in(description, image, manufacturer, number, offset, octets);
-    match found {
-        Ranged::Refused(r) => Place::Refused(r),
-        Ranged::In {
-            item: _,
-            start,
-            length,
-            held: _,
-        } => {
+    match places::range_in(description, image, manufacturer, number, offset, octets) {
+        Err(r) => Place::Refused(r),
+        Ok(RangeTable { start, length, .. }) => {
             if ends_within(offset.octets(), octets, length) {
                 return Place::At {
                     start: start.in_image(offset),

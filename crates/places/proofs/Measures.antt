@@ -1,6 +1,6 @@
 -- A body measured item by item: what is measured and what is left come to the whole, at the start, after each item and at the end; and an item is measured by
 -- what it comes to. Assumes nothing.
-use Rattle.std.specs.Prelude.{if◌then◌else◌}
+use Rattle.std.specs.Prelude.{Some, None, if◌then◌else◌}
 use Prim.Native.Nat.{ℕ, zero, suc, ◌+◌, ◌-◌, ◌*◌, ◌<◌, ◌≤◌}
 use mathlib.Core.Path.{◌≡◌, refl, ◌∙◌, ap, ap₂, sym, subst}
 use mathlib.Core.Bool.{Bool, true, false}
@@ -25,9 +25,8 @@ use Rattle.laying.proofs.Rows.{first_none_right, first_assoc, onward_first, onwa
 use Rattle.laying.proofs.Steps.{body_none, body_step}
 use Rattle.places.specs.declared.measure.Sized.{Sized}
 use Rattle.places.specs.declared.measure.Span.{Span}
-use Rattle.places.specs.declared.rows.Stands.TheVariants.{Nowhere, There}
 use Rattle.places.specs.Measuring.{numbers_in, inner_of, leaf_span, joined, array_span, node_in, SpanAs, BodyReady, ItemReady, BodyAs, ItemAs, Going}
-use Rattle.places.specs.Rows.{cut, levels, saying, cut_arrays, cut_row, RowAs, alone}
+use Rattle.places.specs.Rows.{cut, saying, cut_arrays, cut_row, RowAs, alone}
 use Rattle.places.proofs.Numbers.{cut_mul}
 use Rattle.places.proofs.RowLaws.{as_none, as_wider, as_first, as_onward, as_array}
 
@@ -88,7 +87,7 @@ module _ (d numbers : List ℕ) (at n k i : ℕ) where
   left next = body_at k d next (at + n - next)
 
   -- at the start nothing is measured
-  pub started : BodyReady d numbers at n k → Going d numbers at n k i (record { size = 0; row = alone Nowhere }) at
+  pub started : BodyReady d numbers at n k → Going d numbers at n k i (record { size = 0; row = alone None }) at
   unfolding first_row
   started r =
       let e : at + n - at ≡ n = omega arith in
@@ -175,10 +174,10 @@ module _ (d numbers : List ℕ) (at k i : ℕ) (ready : ItemReady d numbers at k
 
   -- a UINT, BLOCK or SET
   pub leaf_measured : nests f ≡ false → SpanAs k (leaf_span f x at i) (item_size (node_in k d at) w) (item_row (node_in k d at) w i)
-  unfolding item_size item_row leaf_span saying cut_row cut_arrays levels
+  unfolding item_size item_row leaf_span saying cut_row cut_arrays
   leaf_measured other = rw (leaf_is (inner_at k d) d at (nested f) other ready.fit) (record { size_is = refl; row_as = go (at =? i) })
     where
-      go : (b : Bool) → RowAs k (alone (if b then There 0 (leaf_octets f x) else Nowhere)) (if b then row 0 (leaf_octets f x) [] else no_row)
+      go : (b : Bool) → RowAs k (alone (if b then Some (record { first = 0; length = leaf_octets f x }) else None)) (if b then row 0 (leaf_octets f x) [] else no_row)
       go true = record { says = refl; few = (as_none k).few }
       go false = as_none k
 

@@ -1,51 +1,51 @@
 -- Where an element is, by the code's row: what is left after some ARRAYs, and that the place is the definition's where that lies in an image. Assumes nothing.
-use Rattle.std.specs.Prelude.{if◌then◌else◌}
-use Prim.Native.Nat.{ℕ, zero, suc, ◌+◌, ◌-◌, ◌*◌, ◌<◌, ◌≤◌}
+use Rattle.std.specs.Prelude.{Option, Some, None, if◌then◌else◌}
+use Prim.Native.Nat.{ℕ, suc, ◌+◌, ◌*◌, ◌<◌, ◌≤◌}
 use mathlib.Core.Path.{◌≡◌, refl, ◌∙◌, ap, sym}
+use mathlib.Core.Logic.{◌⊎◌, inl, inr}
 use mathlib.Core.Bool.{Bool, true, false}
-use mathlib.Core.List.{List, [], ◌∷◌}
+use mathlib.Core.List.{List, [], ◌∷◌, map}
 use borrow.Author.Tests.{eqb-true, eqb-false, eq-eqb, ne_eqb, lt-ltb, le-ltb, leb-true, leb-false}
-use lib.ListN.{length, get_or, take}
-use lib.Seq.{slice, slice-cons, slice_empty, length-take-le}
-use native.Mathlib.Numerals.{add-one}
+use lib.ListN.{length, length-map, take}
+use lib.Seq.{length-take-le}
 use native.Mathlib.Omega.{arith}
 use Rattle.meaning.specs.Basics.{◌=?◌, ◌<?◌, ◌≤?◌}
 use Rattle.meaning.specs.declared.ElementName.{ElementName}
 use Rattle.laying.specs.Rows.{Array, row, no_row, Spot, spot, absent, spot_in, row_spot}
 use Rattle.laying.specs.Rows as def
 use Rattle.places.specs.declared.rows.Arrays.{Arrays}
-use Rattle.places.specs.declared.rows.Reach.{Reach}
+use Rattle.places.specs.declared.rows.Extent.{Extent}
+use Rattle.places.specs.declared.rows.Level.{Level}
 use Rattle.places.specs.declared.rows.Row.{Row}
-use Rattle.places.specs.declared.rows.Stands.{Stands}
-use Rattle.places.specs.declared.rows.Stands.TheVariants.{Nowhere, There}
-use Rattle.places.specs.Rows.{cut, levels, arrays_of, saying, said, cut_arrays, cut_row, Few, RowAs, not_reached, reach_in, reached_by, spot_at, spot_from, spot_by}
+use Rattle.places.specs.Rows.{cut, array_of, arrays_of, saying, said, cut_arrays, cut_row, Few, RowAs, reach_in, reached_by, spot_at, spot_from, spot_by}
 use Rattle.places.proofs.Numbers.{cut_mul}
 
--- WHAT IS LEFT, of k ARRAYs, from ARRAY j on and octet o: one step, where the subscript is below the count or isn't, and none
-abbrev pub left_at : (o j k : ℕ) → (counts strides subscripts : List ℕ) → Reach
-left_at o j k cs ws xs = reach_in o (levels j (k - j) cs ws) (slice j k xs)
+-- WHAT IS LEFT of the ARRAYs and the subscripts, from octet o on: one step, where the subscript is below the count or isn't
+abbrev pub left_at : (o : ℕ) → List Level → (subscripts : List ℕ) → Option ℕ
+left_at o ls xs = reach_in o (map array_of ls) (take (length ls) xs)
 
-pub left_next : (o j k : ℕ) (cs ws xs : List ℕ) → j < k → k ≤ length xs → get_or xs j 0 < get_or cs j 0
-    → left_at (cut (o + cut (get_or xs j 0 * get_or ws j 0))) (j + 1) k cs ws xs ≡ left_at o j k cs ws xs
-unfolding levels reach_in
-left_next o j k cs ws xs l h b =
-    let e : k - j ≡ suc (k - (j + 1)) = omega arith in rw (e, slice-cons j k xs 0 l h, add-one j, lt-ltb (get_or xs j 0) (get_or cs j 0) b)
+module _ (o : ℕ) (a : Level) (ls : List Level) (x : ℕ) (xs : List ℕ) where
+  pub left_next : x < a.count → left_at (cut (o + cut (x * a.stride))) ls xs ≡ left_at o (a ∷ ls) (x ∷ xs)
+  unfolding reach_in
+  left_next b = rw (lt-ltb x a.count b)
 
-pub left_past : (o j k : ℕ) (cs ws xs : List ℕ) → j < k → k ≤ length xs → get_or cs j 0 ≤ get_or xs j 0 → not_reached ≡ left_at o j k cs ws xs
-unfolding levels reach_in
-left_past o j k cs ws xs l h b =
-    let e : k - j ≡ suc (k - (j + 1)) = omega arith in rw (e, slice-cons j k xs 0 l h, le-ltb (get_or xs j 0) (get_or cs j 0) b)
+  pub left_past : a.count ≤ x → None ≡ left_at o (a ∷ ls) (x ∷ xs)
+  unfolding reach_in
+  left_past b = rw (le-ltb x a.count b)
 
-pub left_none : (o j k : ℕ) (cs ws xs : List ℕ) → j ≡ k → record { found = true; octet = o } ≡ left_at o j k cs ws xs
-unfolding levels reach_in
-left_none o j k cs ws xs e = let z : k - k ≡ 0 = omega arith in rw (e, z, slice_empty k xs)
+-- and none, where one of the two comes to its end
+pub left_none : (o : ℕ) (ls : List Level) (xs : List ℕ) → (ls ≡ []) ⊎ (xs ≡ []) → length ls ≤ length xs → Some o ≡ left_at o ls xs
+unfolding reach_in
+left_none o [] xs e l = refl
+left_none o (a ∷ ls) xs (inl e) l = absurd (omega (arith, ap length e))
+left_none o (a ∷ ls) xs (inr e) l = absurd (omega (arith, ap length e))
 
-pub reached_all : (p : ℕ) (a : Arrays) (q : ElementName) → q.count ≡ a.depth
-    → left_at (cut p) 0 a.depth a.counts a.strides q.subscripts ≡ reached_by p a q
+pub reached_all : (p : ℕ) (a : Arrays) (q : ElementName) → a.depth ≤ length a.levels → q.count ≡ a.depth
+    → left_at (cut p) (take a.depth a.levels) q.subscripts ≡ reached_by p a q
 unfolding reached_by
-reached_all p a q e = let z : a.depth - 0 ≡ a.depth = omega arith in rw (z, e, eq-eqb a.depth a.depth refl)
+reached_all p a q l e = rw (length-take-le a.depth a.levels l, e, eq-eqb a.depth a.depth refl)
 
-pub reached_not : (p : ℕ) (a : Arrays) (q : ElementName) → (q.count ≡ a.depth → ⊥) → not_reached ≡ reached_by p a q
+pub reached_not : (p : ℕ) (a : Arrays) (q : ElementName) → (q.count ≡ a.depth → ⊥) → None ≡ reached_by p a q
 unfolding reached_by
 reached_not p a q h = rw (ne_eqb q.count a.depth h)
 
@@ -54,34 +54,35 @@ if_same : {A : Type 0} (b : Bool) (x : A) → (if b then x else x) ≡ x
 if_same true x = refl
 if_same false x = refl
 
-reach_unequal : (p j k : ℕ) (cs ws xs : List ℕ) → (k ≡ length xs → ⊥) → reach_in p (levels j k cs ws) xs ≡ not_reached
-unfolding levels reach_in
-reach_unequal p j zero cs ws [] h = absurd (h refl)
-reach_unequal p j zero cs ws (x ∷ xs) h = refl
-reach_unequal p j (suc k) cs ws [] h = refl
-reach_unequal p j (suc k) cs ws (x ∷ xs) h = rw (reach_unequal (cut (p + cut (x * get_or ws j 0))) (j + 1) k cs ws xs (λ e. h (ap suc e)), if_same)
+reach_unequal : (p : ℕ) (arrays : List Array) (xs : List ℕ) → (length arrays ≡ length xs → ⊥) → reach_in p arrays xs ≡ None
+unfolding reach_in
+reach_unequal p [] [] h = absurd (h refl)
+reach_unequal p [] (x ∷ xs) h = refl
+reach_unequal p (a ∷ rest) [] h = refl
+reach_unequal p (a ∷ rest) (x ∷ xs) h = rw (reach_unequal (cut (p + cut (x * a.stride))) rest xs (λ e. h (ap suc e)), if_same)
 
 reached_few : (p : ℕ) (a : Arrays) (q : ElementName) → Few 4 a → length q.subscripts ≡ 4
-    → reached_by p a q ≡ (if q.count ≤? 4 then reach_in (cut p) (arrays_of a) (take q.count q.subscripts) else not_reached)
+    → reached_by p a q ≡ (if q.count ≤? 4 then reach_in (cut p) (arrays_of a) (take q.count q.subscripts) else None)
 unfolding reached_by
 reached_few p a q few four = go (q.count =? a.depth) (q.count ≤? 4) refl refl
   where
-    go : (b t : Bool) → q.count =? a.depth ≡ b → q.count ≤? 4 ≡ t → (if b then reach_in (cut p) (arrays_of a) (take q.count q.subscripts) else not_reached)
-        ≡ (if t then reach_in (cut p) (arrays_of a) (take q.count q.subscripts) else not_reached)
+    go : (b t : Bool) → q.count =? a.depth ≡ b → q.count ≤? 4 ≡ t → (if b then reach_in (cut p) (arrays_of a) (take q.count q.subscripts) else None)
+        ≡ (if t then reach_in (cut p) (arrays_of a) (take q.count q.subscripts) else None)
     go true true e f = refl
     go false false e f = refl
     go true false e f = absurd (omega (arith, eqb-true q.count a.depth e, leb-false q.count 4 f, few.depth))
     go false true e f =
         let l : q.count ≤ 4 = leb-true _ _ f in
         let n : length (take q.count q.subscripts) ≡ q.count = length-take-le q.count q.subscripts (omega arith) in
-        sym (reach_unequal _ 0 a.depth _ _ _ (λ d. eqb-false q.count a.depth e (omega arith)))
+        let m : length (arrays_of a) ≡ a.depth = length-map (take a.depth a.levels) array_of ∙ length-take-le a.depth a.levels (omega (arith, few.depth, few.levels)) in
+        sym (reach_unequal _ (arrays_of a) _ (λ d. eqb-false q.count a.depth e (omega arith)))
 
 -- THE PLACE, where it lies in an image: cutting changes nothing
 abbrev InImage : Spot → Type 0
 InImage s = (o m : ℕ) → s ≡ spot o m → o ≤ 65535
 
-if_in : (b : Bool) (r : Reach) (s : Spot) (n : ℕ) → (InImage s → spot_at r n ≡ s)
-    → InImage (if b then s else absent) → spot_at (if b then r else not_reached) n ≡ (if b then s else absent)
+if_in : (b : Bool) (r : Option ℕ) (s : Spot) (n : ℕ) → (InImage s → spot_at r n ≡ s)
+    → InImage (if b then s else absent) → spot_at (if b then r else None) n ≡ (if b then s else absent)
 unfolding spot_at
 if_in true r s n h small = h small
 if_in false r s n h small = refl
@@ -106,11 +107,11 @@ said_spot_lem : (c : Row) (q : ElementName) → Few 4 c.arrays → length q.subs
 unfolding spot_by spot_from spot_at saying said_spot
 said_spot_lem c q few four = go c.stands (q.count ≤? 4) refl
   where
-    go : (s : Stands) (t : Bool) → q.count ≤? 4 ≡ t
+    go : (s : Option Extent) (t : Bool) → q.count ≤? 4 ≡ t
         → spot_from s c.arrays q ≡ (if t then said_spot (saying s (arrays_of c.arrays)) (take q.count q.subscripts) else absent)
-    go Nowhere t e = sym (if_same t absent)
-    go (There p n) true e = rw (reached_few p c.arrays q few four, e)
-    go (There p n) false e = rw (reached_few p c.arrays q few four, e)
+    go None t e = sym (if_same t absent)
+    go (Some x) true e = rw (reached_few x.first c.arrays q few four, e)
+    go (Some x) false e = rw (reached_few x.first c.arrays q few four, e)
 
 cut_spot : (r : def.Row) (xs : List ℕ) → InImage (row_spot r xs) → said_spot (cut_row r) xs ≡ row_spot r xs
 unfolding said_spot cut_row row_spot

@@ -1,5 +1,6 @@
 -- What one walk tells is what the replies say: the total, where two tables are, where an element is, which table a range lies in. Assumes nothing.
-use Rattle.std.specs.Prelude.{if◌then◌else◌}
+use Rattle.std.specs.Option.{ok_or}
+use Rattle.std.specs.Prelude.{Some, None, Result, Ok, Err, if◌then◌else◌}
 use Prim.Native.Nat.{ℕ, ◌+◌, ◌≤◌, min}
 use mathlib.Core.Path.{◌≡◌, refl, ◌∙◌, ap, sym, subst}
 use mathlib.Core.Bool.{Bool, true, false}
@@ -12,7 +13,6 @@ use Rattle.meaning.specs.declared.ElementName.{ElementName}
 use Rattle.meaning.specs.declared.Place.{Place}
 use Rattle.meaning.specs.declared.Refusal.{Refusal}
 use Rattle.meaning.specs.declared.Reply.{Reply}
-use Rattle.meaning.specs.declared.Verdict.{Verdict}
 use Rattle.meaning.specs.Causes.{suits, why_none}
 use Rattle.meaning.specs.Layout.{Placed, Seat, Slots, element_named}
 use Rattle.meaning.specs.Numbers.{no_table}
@@ -25,22 +25,19 @@ use Rattle.laying.proofs.LaidOut.{elements_end, total_inside}
 use Rattle.laying.proofs.Opened.{Opens, Came, opens, refuses, came, opened_image}
 use Rattle.laying.proofs.Reaches.{row_says}
 use Rattle.laying.proofs.Spots.{further, row_onward}
-use Rattle.offsets.specs.declared.ImageOffset.{ImageOffset}
-use Rattle.offsets.specs.declared.TableStart.{TableStart}
-use Rattle.places.specs.declared.ElementFound.{ElementFound}
-use Rattle.places.specs.declared.ElementFound.TheVariants.{Missing, Here}
-use Rattle.places.specs.declared.Ranged.{Ranged}
+use Rattle.offsets.specs.declared.TableOffset.{TableOffset}
+use Rattle.places.specs.declared.ElementSpot.{ElementSpot}
+use Rattle.places.specs.declared.RangeTable.{RangeTable}
 use Rattle.places.specs.declared.survey.Answer.{Answer}
 use Rattle.places.specs.declared.survey.Asked.{Asked}
 use Rattle.places.specs.declared.survey.Standing.{Standing}
-use Rattle.places.specs.declared.survey.TableFound.{TableFound}
-use Rattle.places.specs.declared.survey.TableFound.TheVariants.{No, Yes}
-use Rattle.places.specs.Opening.{spot_found, found_by, place_or, refusal_or, found_place, range_of, range_in}
+use Rattle.places.specs.declared.survey.TableSpot.{TableSpot}
+use Rattle.places.specs.Found.{FoundTable, FoundElement, FoundRange}
+use Rattle.places.specs.Opening.{spot_found, found_by, place_or, found_place, range_of, range_in}
 use Rattle.places.specs.Measuring.{numbers_in}
 use Rattle.places.specs.Rows.{Few}
 use Rattle.places.specs.Surveying.{table_found, held_in, StandsAs, AnswerAs}
 use Rattle.places.proofs.Reach.{spot_as}
-use Rattle.places.proofs.RowLaws.{as_none}
 use Rattle.meaning.proofs.Either.{clash}
 
 -- a place in a table, and none
@@ -105,95 +102,108 @@ module _ {d img : List ℕ} {ts : List Seat} {es : List Placed} {s : Slots} {n :
       go true = found_place_lem why p found (row_spot h.in_table xs) told (early q.item xs)
       go false = refl
 
-module _ (d img : List ℕ) (q : Asked) (r : Answer) (a : AnswerAs d img q r (open_image d img)) where
+-- A REFUSAL
+module _ (d img : List ℕ) (x : Refusal) (is_refused : open_image d img ≡ refused x) where
+  pub layout_refused : Reply.Refused x ≡ layout_reply d img
+  unfolding layout_reply layout_in
+  layout_refused = rw is_refused
+
+  pub table_refused : (m k : ℕ) → Place.Refused x ≡ table_place_reply d img m k
+  unfolding table_place_reply table_place_in
+  table_refused m k = rw is_refused
+
+  pub element_refused : (number : Bool) (name : ElementName) → Place.Refused x ≡ element_place_in number d name (open_image d img)
+  unfolding element_place_in
+  element_refused number name = rw is_refused
+
+  pub range_refused : (m k : ℕ) (o : TableOffset) (n : ℕ) → Err x ≡ range_in m k o n (open_image d img)
+  unfolding range_in
+  range_refused m k o n = rw is_refused
+
+module _ (d img : List ℕ) (q : Asked) (r : Answer) (a : AnswerAs d img q (Ok r) (open_image d img)) where
   -- THE TOTAL
-  total_in : (o : Opened) → AnswerAs d img q r o → ((x : Refusal) → r.verdict ≡ Verdict.Refused x → Reply.Refused x ≡ layout_in o) × (r.verdict ≡ Verdict.Passed → Reply.Total r.total ≡ layout_in o)
-  unfolding layout_in
-  total_in (opened ts es s n) h = ((λ x e. clash (cc h.passed)), λ e. rw h.total)
-  total_in (refused y) h = ((λ x e. cc), λ e. clash (cc))
-
-  pub total_refused : (x : Refusal) → r.verdict ≡ Verdict.Refused x → Reply.Refused x ≡ layout_reply d img
-  unfolding layout_reply
-  total_refused = (total_in (open_image d img) a).0
-
-  pub total_passed : r.verdict ≡ Verdict.Passed → Reply.Total r.total ≡ layout_reply d img
-  unfolding layout_reply
-  total_passed = (total_in (open_image d img) a).1
+  pub layout_told : Reply.Total r.total ≡ layout_reply d img
+  unfolding layout_reply layout_in
+  layout_told = go (open_image d img) a
+    where
+      go : (o : Opened) → AnswerAs d img q (Ok r) o → Reply.Total r.total ≡ layout_in o
+      go (opened ts es s n) h = rw h.total
+      go (refused y) h = absurd h
 
   -- THE TABLES
-  tables_in : (o : Opened) → AnswerAs d img q r o
-      → (refusal_or r.verdict (found_place r.first) ≡ table_place_in q.first.manufacturer q.first.number o)
-      × (refusal_or r.verdict (found_place r.second) ≡ table_place_in q.second.manufacturer q.second.number o)
-  unfolding table_place_in refusal_or
-  tables_in (opened ts es s n) h = (rw (h.passed, h.first) (seat_place_lem _), rw (h.passed, h.second) (seat_place_lem _))
-  tables_in (refused y) h = (rw h, rw h)
-
-  pub tables_told : (refusal_or r.verdict (found_place r.first) ≡ table_place_reply d img q.first.manufacturer q.first.number)
-      × (refusal_or r.verdict (found_place r.second) ≡ table_place_reply d img q.second.manufacturer q.second.number)
-  unfolding table_place_reply
-  tables_told = tables_in (open_image d img) a
+  pub tables_told : (found_place r.first ≡ table_place_reply d img q.first.manufacturer q.first.number)
+      × (found_place r.second ≡ table_place_reply d img q.second.manufacturer q.second.number)
+  unfolding table_place_reply table_place_in
+  tables_told = go (open_image d img) a
+    where
+      go : (o : Opened) → AnswerAs d img q (Ok r) o
+          → (found_place r.first ≡ table_place_in q.first.manufacturer q.first.number o) × (found_place r.second ≡ table_place_in q.second.manufacturer q.second.number o)
+      go (opened ts es s n) h = (rw h.first (seat_place_lem _), rw h.second (seat_place_lem _))
+      go (refused y) h = absurd h
 
   -- THE ELEMENT
   pub standing_few : Few 4 r.element.row.arrays
   standing_few = go (open_image d img) a
     where
-      go : (o : Opened) → AnswerAs d img q r o → Few 4 r.element.row.arrays
+      go : (o : Opened) → AnswerAs d img q (Ok r) o → Few 4 r.element.row.arrays
       go (opened ts es s n) h = h.element.row_as.few
-      go (refused y) h = rw h (as_none 4).few
+      go (refused y) h = absurd h
 
   -- by its item's row, or why there is none
   module _ (name : ElementName) (number : Bool) (same : q.item ≡ name.item) where
-    element_told : length name.subscripts ≡ 4 → refusal_or r.verdict (place_or (why_none number d (numbers_in r.numbers) name) (found_by (suits number d name) r.element name))
+    element_told : length name.subscripts ≡ 4 → place_or (why_none number d (numbers_in r.numbers) name) (found_by (suits number d name) r.element name)
         ≡ element_place_in number d name (open_image d img)
-    unfolding element_place_in element_for refusal_or
+    unfolding element_place_in element_for
     element_told four = go (came d img)
       where
-        go : Came d img → refusal_or r.verdict (place_or (why_none number d (numbers_in r.numbers) name) (found_by (suits number d name) r.element name))
+        go : Came d img → place_or (why_none number d (numbers_in r.numbers) name) (found_by (suits number d name) r.element name)
             ≡ element_place_in number d name (open_image d img)
         go (opens ts es s n o) =
-            let h : AnswerAs d img q r (opened ts es s n) = subst (AnswerAs d img q r) (opened_image o) a in
-            rw (opened_image o, h.passed, ← h.numbers) (element_is o _ (suits number d name) name r.element four (rw same at h.element))
-        go (refuses y e) = let h : AnswerAs d img q r (refused y) = subst (AnswerAs d img q r) e a in rw (e, h)
+            let h : AnswerAs d img q (Ok r) (opened ts es s n) = subst (AnswerAs d img q (Ok r)) (opened_image o) a in
+            rw (opened_image o, ← h.numbers) (element_is o _ (suits number d name) name r.element four (rw same at h.element))
+        go (refuses y e) = absurd (subst (AnswerAs d img q (Ok r)) e a)
 
-    module _ {suited : Bool} (suiting : suited ≡ suits number d name) {found : ElementFound} (is : (found ≡ found_by suited r.element name) × (length name.subscripts ≡ 4)) where
-      pub element_refused : (x : Refusal) → r.verdict ≡ Verdict.Refused x → Place.Refused x ≡ element_place_in number d name (open_image d img)
-      unfolding refusal_or
-      element_refused x e = sym (rw e) ∙ element_told is.1
+    module _ {suited : Bool} (suiting : suited ≡ suits number d name) {found : FoundElement} (is : (found ≡ found_by suited r.element name) × (length name.subscripts ≡ 4)) where
+      pub element_here : (e : ElementSpot) → found ≡ Some e → Place.At e.start e.length ≡ element_place_in number d name (open_image d img)
+      unfolding place_or
+      element_here x h = sym (rw (← suiting, ← is.0, h)) ∙ element_told is.1
 
-      pub element_here : (s : ImageOffset) (l : ℕ) → r.verdict ≡ Verdict.Passed → found ≡ Here s l → Place.At s l ≡ element_place_in number d name (open_image d img)
-      unfolding refusal_or place_or
-      element_here s l e h = sym (rw (e, ← suiting, ← is.0, h)) ∙ element_told is.1
-
-      pub element_missing : {why : Refusal} → why ≡ why_none number d (numbers_in r.numbers) name → r.verdict ≡ Verdict.Passed → found ≡ Missing
+      pub element_missing : {why : Refusal} → why ≡ why_none number d (numbers_in r.numbers) name → found ≡ None
           → Place.Refused why ≡ element_place_in number d name (open_image d img)
-      unfolding refusal_or place_or
-      element_missing w e h = sym (rw (e, ← suiting, ← is.0, h, ← w)) ∙ element_told is.1
+      unfolding place_or
+      element_missing w h = sym (rw (← suiting, ← is.0, h, ← w)) ∙ element_told is.1
 
   -- THE RANGE
   -- by the table found
-  abbrev ranged : TableFound → (held : Bool) → Ranged
-  ranged No b = Ranged.Refused no_table
-  ranged (Yes i s l) b = Ranged.In i s l b
+  abbrev in_range : TableSpot → RangeTable
+  in_range t = record { item = t.item; start = t.start; length = t.length; held = r.held }
 
-  range_found : (X : Option Seat) (es : List Placed) → r.first ≡ table_found X → r.held ≡ held_in q.from.0 q.octets X es
-      → ranged r.first r.held ≡ range_of q.from.0 q.octets X es
-  unfolding range_of table_found
-  range_found none es e h = ap (λ (z : TableFound). ranged z r.held) e
-  range_found (some t) es e h = ap (λ (z : TableFound). ranged z r.held) e ∙ ap (λ (b : Bool). Ranged.In t.item (record { 0 = t.start }) t.size b) h
+  abbrev ranged : FoundTable → FoundRange
+  ranged None = Err no_table
+  ranged (Some t) = Ok (in_range t)
 
-  range_in_lem : (o : Opened) → AnswerAs d img q r o
-      → ((x : Refusal) → r.verdict ≡ Verdict.Refused x → Ranged.Refused x ≡ range_in q.first.manufacturer q.first.number q.from q.octets o)
-      × (r.verdict ≡ Verdict.Passed → ranged r.first r.held ≡ range_in q.first.manufacturer q.first.number q.from q.octets o)
-  unfolding range_in
-  range_in_lem (opened ts es s n) h = ((λ x e. clash (cc h.passed)), λ e. range_found _ es h.first h.held)
-  range_in_lem (refused y) h = ((λ x e. cc), λ e. clash (cc))
+  range_is : ranged r.first ≡ range_in q.first.manufacturer q.first.number q.from q.octets (open_image d img)
+  unfolding range_in range_of table_found
+  range_is = go (open_image d img) a
+    where
+      seated : (X : Option Seat) (es : List Placed) → r.first ≡ table_found X → r.held ≡ held_in q.from.0 q.octets X es → ranged r.first ≡ range_of q.from.0 q.octets X es
+      seated none es e h = ap ranged e
+      seated (some t) es e h = ap ranged e ∙ rw h
 
-  pub range_refused : (x : Refusal) → r.verdict ≡ Verdict.Refused x → Ranged.Refused x ≡ range_in q.first.manufacturer q.first.number q.from q.octets (open_image d img)
-  range_refused = (range_in_lem (open_image d img) a).0
+      go : (o : Opened) → AnswerAs d img q (Ok r) o → ranged r.first ≡ range_in q.first.manufacturer q.first.number q.from q.octets o
+      go (opened ts es s n) h = seated _ es h.first h.held
+      go (refused y) h = absurd h
 
-  pub range_none : r.verdict ≡ Verdict.Passed → r.first ≡ No → Ranged.Refused no_table ≡ range_in q.first.manufacturer q.first.number q.from q.octets (open_image d img)
-  range_none e g = ap (λ (z : TableFound). ranged z r.held) (sym g) ∙ (range_in_lem (open_image d img) a).1 e
+  pub range_none : {v : Result TableSpot Refusal} {x : Refusal} → v ≡ ok_or r.first no_table → v ≡ Err x → Err x ≡ range_in q.first.manufacturer q.first.number q.from q.octets (open_image d img)
+  range_none {v} {x} is e = go r.first (sym is ∙ e) ∙ range_is
+    where
+      go : (f : FoundTable) → ok_or f no_table ≡ Err x → Err x ≡ ranged f
+      go None h = let y : no_table ≡ x = cc in rw y
+      go (Some t) h = clash (cc)
 
-  pub range_told : r.verdict ≡ Verdict.Passed → (i : ℕ) (s : TableStart) (l : ℕ) → r.first ≡ Yes i s l
-      → Ranged.In i s l r.held ≡ range_in q.first.manufacturer q.first.number q.from q.octets (open_image d img)
-  range_told e i s l g = ap (λ (z : TableFound). ranged z r.held) (sym g) ∙ (range_in_lem (open_image d img) a).1 e
+  pub range_told : {v : Result TableSpot Refusal} {t : TableSpot} → v ≡ ok_or r.first no_table → v ≡ Ok t → Ok (in_range t) ≡ range_in q.first.manufacturer q.first.number q.from q.octets (open_image d img)
+  range_told {v} {t} is e = go r.first (sym is ∙ e) ∙ range_is
+    where
+      go : (f : FoundTable) → ok_or f no_table ≡ Ok t → Ok (in_range t) ≡ ranged f
+      go None h = clash (cc)
+      go (Some u) h = let y : u ≡ t = cc in rw y

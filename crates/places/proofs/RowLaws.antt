@@ -1,47 +1,50 @@
 -- Rows as the code has them say the rows of the definitions, cut: of none, of the first of two, further on, inside one ARRAY more. Assumes nothing.
+use Rattle.std.specs.Prelude.{Option, Some, None}
 use Prim.Native.Nat.{ℕ, zero, suc, ◌+◌, ◌<◌, ◌≤◌}
 use mathlib.Core.Path.{◌≡◌, refl, ◌∙◌, ap, ap₂, sym}
 use mathlib.Core.List.{List, [], ◌∷◌}
-use lib.ListN.{get_or}
+use lib.ListN.{length, get_or, take}
 use native.Mathlib.Numerals.{add-one}
 use native.Mathlib.Omega.{arith}
-use Rattle.laying.specs.Rows.{row, no_row, first_row, onward, in_array}
+use Rattle.laying.specs.Rows.{Array, row, no_row, first_row, onward, in_array}
 use Rattle.laying.specs.Rows as def
+use Rattle.meaning.proofs.Either.{clash}
 use Rattle.places.specs.declared.rows.Row.{Row}
-use Rattle.places.specs.declared.rows.Stands.{Stands}
-use Rattle.places.specs.declared.rows.Stands.TheVariants.{Nowhere, There}
-use Rattle.places.specs.Rows.{cut, levels, saying, said, cut_arrays, cut_row, Few, RowAs, alone, first_by, first_of, moved_by, onward_by, with_array}
+use Rattle.places.specs.declared.rows.Extent.{Extent}
+use Rattle.places.specs.declared.rows.Level.{Level}
+use Rattle.places.specs.Rows.{cut, arrays_of, no_level, saying, said, cut_arrays, cut_row, Few, RowAs, alone, first_by, first_of, moved_by, onward_by, with_array}
 
 -- no row
-pub as_none : (k : ℕ) → RowAs k (alone Nowhere) no_row
+pub as_none : (k : ℕ) → RowAs k (alone None) no_row
 unfolding saying cut_row
-as_none k = record { says = refl; few = record { depth = omega arith; counts = refl; strides = refl } }
+as_none k = record { says = refl; few = record { depth = omega arith; levels = refl } }
 
 -- with room for more ARRAYs
 pub as_wider : (k m : ℕ) (c : Row) (r : def.Row) → k ≤ m → RowAs k c r → RowAs m c r
-as_wider k m c r l h = record { says = h.says; few = record { depth = omega (arith, h.few.depth); counts = h.few.counts; strides = h.few.strides } }
+as_wider k m c r l h = record { says = h.says; few = record { depth = omega (arith, h.few.depth); levels = h.few.levels } }
 
 -- THE FIRST OF TWO
 said_first : (a b : Row) → said (first_of a b) ≡ first_row (said a) (said b)
 unfolding saying first_by first_row
 said_first a b = go a.stands refl
   where
-    go : (x : Stands) → a.stands ≡ x → said (first_of a b) ≡ first_row (said a) (said b)
-    go Nowhere e = rw e
-    go (There p n) e = rw e
+    go : (x : Option Extent) → a.stands ≡ x → said (first_of a b) ≡ first_row (said a) (said b)
+    go None e = rw e
+    go (Some x) e = rw e
 
 cut_first : (r q : def.Row) → cut_row (first_row r q) ≡ first_row (cut_row r) (cut_row q)
 unfolding cut_row first_row
 cut_first (row p n rest) q = refl
 cut_first no_row q = refl
 
-few_first : (k : ℕ) (a b : Row) → Few k a.arrays → Few k b.arrays → Few k (first_of a b).arrays
+-- what holds of the second if the first is none, and of the first if it is some
+pub first_case : {A : Type 0} (P : A → Type 0) (x : Option Extent) (a b : A) → (x ≡ None → P b) → ((x ≡ None → ⊥) → P a) → P (first_by x a b)
 unfolding first_by
-few_first k a b h g = go a.stands
-  where
-    go : (x : Stands) → Few k (first_by x a b).arrays
-    go Nowhere = g
-    go (There p n) = h
+first_case P None a b on_none on_some = on_none refl
+first_case P (Some e) a b on_none on_some = on_some (λ z. clash (cc))
+
+few_first : (k : ℕ) (a b : Row) → Few k a.arrays → Few k b.arrays → Few k (first_of a b).arrays
+few_first k a b h g = first_case (λ (c : Row). Few k c.arrays) a.stands a b (λ z. g) (λ z. h)
 
 pub as_first : (k : ℕ) (a b : Row) (r q : def.Row) → RowAs k a r → RowAs k b q → RowAs k (first_of a b) (first_row r q)
 as_first k a b r q h g =
@@ -57,10 +60,9 @@ said_onward : (k : ℕ) (c : Row) → said (onward_by k c) ≡ onward_cut k (sai
 unfolding saying moved_by onward_cut
 said_onward k c = go c.stands
   where
-    go : (x : Stands) → saying (moved_by k x) (levels 0 c.arrays.depth c.arrays.counts c.arrays.strides)
-        ≡ onward_cut k (saying x (levels 0 c.arrays.depth c.arrays.counts c.arrays.strides))
-    go Nowhere = refl
-    go (There p n) = refl
+    go : (x : Option Extent) → saying (moved_by k x) (arrays_of c.arrays) ≡ onward_cut k (saying x (arrays_of c.arrays))
+    go None = refl
+    go (Some e) = refl
 
 cut_onward : (k : ℕ) (r : def.Row) → cut_row (onward k r) ≡ onward_cut (cut k) (cut_row r)
 unfolding cut_row onward onward_cut
@@ -72,24 +74,26 @@ as_onward k s c r h = record { says = said_onward (cut s) c ∙ ap (onward_cut (
 
 -- INSIDE ONE ARRAY MORE
 -- of four places the first three are enough for three
-three : (k : ℕ) → k ≤ 3 → (c w : ℕ) (cs ws : List ℕ)
-    → levels 1 k (c ∷ get_or cs 0 0 ∷ get_or cs 1 0 ∷ get_or cs 2 0 ∷ []) (w ∷ get_or ws 0 0 ∷ get_or ws 1 0 ∷ get_or ws 2 0 ∷ []) ≡ levels 0 k cs ws
-unfolding levels
-three zero l c w cs ws = refl
-three (suc zero) l c w cs ws = refl
-three (suc (suc zero)) l c w cs ws = refl
-three (suc (suc (suc zero))) l c w cs ws = refl
-three (suc (suc (suc (suc k)))) l c w cs ws = absurd (omega arith)
+three : (k : ℕ) → k ≤ 3 → (a : Level) (ls : List Level) → length ls ≡ 4
+    → take (k + 1) (a ∷ get_or ls 0 no_level ∷ get_or ls 1 no_level ∷ get_or ls 2 no_level ∷ []) ≡ a ∷ take k ls
+three k l a ls four = rw add-one (go k ls l four)
+  where
+    go : (k : ℕ) (ls : List Level) → k ≤ 3 → length ls ≡ 4
+        → take (suc k) (a ∷ get_or ls 0 no_level ∷ get_or ls 1 no_level ∷ get_or ls 2 no_level ∷ []) ≡ a ∷ take k ls
+    go zero ls l e = refl
+    go (suc zero) (x ∷ ls) l e = refl
+    go (suc (suc zero)) (x ∷ y ∷ ls) l e = refl
+    go (suc (suc (suc zero))) (x ∷ y ∷ z ∷ ls) l e = refl
+    go k ls l e = absurd (omega arith)
 
 said_array : (c w : ℕ) (a : Row) → Few 3 a.arrays → said (with_array c w a) ≡ in_array c w (said a)
-unfolding saying in_array levels
+unfolding saying in_array
 said_array c w a h =
-    rw (add-one a.arrays.depth, three a.arrays.depth h.depth c w a.arrays.counts a.arrays.strides) (go a.stands)
+    rw (three a.arrays.depth h.depth (record { count = c; stride = w }) a.arrays.levels h.levels) (go a.stands)
   where
-    go : (x : Stands) → saying x (record { count = c; stride = w } ∷ levels 0 a.arrays.depth a.arrays.counts a.arrays.strides)
-        ≡ in_array c w (saying x (levels 0 a.arrays.depth a.arrays.counts a.arrays.strides))
-    go Nowhere = refl
-    go (There p n) = refl
+    go : (x : Option Extent) → saying x (record { count = c; stride = w } ∷ arrays_of a.arrays) ≡ in_array c w (saying x (arrays_of a.arrays))
+    go None = refl
+    go (Some e) = refl
 
 cut_array : (c w : ℕ) (r : def.Row) → cut_row (in_array c w r) ≡ in_array c (cut w) (cut_row r)
 unfolding cut_row cut_arrays in_array
@@ -99,7 +103,20 @@ cut_array c w no_row = refl
 pub as_array : (k m c w : ℕ) (a : Row) (r : def.Row) → k < m → m ≤ 4 → RowAs k a r → RowAs m (with_array c (cut w) a) (in_array c w r)
 as_array k m c w a r l few h =
     record {
-      says = said_array c (cut w) a (record { depth = omega (arith, h.few.depth); counts = h.few.counts; strides = h.few.strides })
+      says = said_array c (cut w) a (record { depth = omega (arith, h.few.depth); levels = h.few.levels })
           ∙ ap (in_array c (cut w)) h.says ∙ sym (cut_array c w r);
-      few = record { depth = omega (arith, h.few.depth); counts = refl; strides = refl };
+      few = record { depth = omega (arith, h.few.depth); levels = refl };
     }
+
+-- WHAT A ROW SAYS of the row that it stands for
+-- one that is none says none, and one that is some comes before any other
+pub said_none : (L : List Array) (r : def.Row) → saying None L ≡ cut_row r → r ≡ no_row
+unfolding saying cut_row
+said_none L (row p n rest) e = clash (cc)
+said_none L no_row e = refl
+
+pub said_some : (p : ℕ) (x : Option Extent) (L : List Array) (r q : def.Row) → saying x L ≡ cut_row r → (x ≡ None → ⊥) → first_row (onward p r) q ≡ onward p r
+unfolding saying cut_row first_row onward
+said_some p x L (row o n rest) q e other = refl
+said_some p None L no_row q e other = absurd (other refl)
+said_some p (Some o) L no_row q e other = clash (cc)

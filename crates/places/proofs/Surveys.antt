@@ -1,9 +1,10 @@
 -- Tables laid one after another: those laid and those left come to the whole image, at the start, after each table and at the end; and what is asked for is
 -- found among those laid. Assumes nothing.
+use Rattle.std.specs.Prelude.{Some, None, Result, Ok, Err}
 use Prim.Native.Nat.{ℕ, zero, suc, ◌+◌, ◌-◌, ◌<◌, ◌≤◌, min}
 use mathlib.Core.Path.{◌≡◌, refl, ◌∙◌, ap, ap₂, sym, subst, fun_ext}
 use mathlib.Core.Logic.{inl, inr}
-use mathlib.Core.Bool.{Bool, true, false, cond, ◌&&◌, false≢true, or-false}
+use mathlib.Core.Bool.{Bool, true, false, cond, ◌&&◌, or-false}
 use mathlib.Core.List.{List, [], ◌∷◌, ◌++◌, append_assoc, append-nil}
 use mathlib.Core.Option.{Option, some, none}
 use lib.ListN.{length, get_or, replicate}
@@ -17,7 +18,7 @@ use Rattle.meaning.specs.Description.{item_count, fields_at, is_table, nested, c
 use Rattle.meaning.specs.Passed.{Passes}
 use Rattle.meaning.specs.Layout.{Body, Tables, no_more, table, table_at, tables_of, tree_of, body_at, Slots, unread, Placed, fault, short, Laid, laid, stopped, lay_body}
 use Rattle.meaning.specs.Layout.{Seat, Layout, laid_out, stopped_at, before, seated, lay_tables, lay_out, table_named, number_of}
-use Rattle.meaning.specs.Numbers.{image_short, image_too_long, no_table}
+use Rattle.meaning.specs.Numbers.{image_too_long}
 use Rattle.meaning.specs.Refusals.{refused, stop_refusal, open_laid, open_sound, open_image, any_dimension}
 use Rattle.meaning.proofs.Passed.{passed_laws}
 use Rattle.laying.specs.Every.{Every}
@@ -35,24 +36,21 @@ use Rattle.laying.proofs.Rising.{RisesBody, rises_body}
 use Rattle.laying.proofs.Steps.{tables_none, tables_step}
 use Rattle.laying.proofs.Tops.{passed_sound, fit_body, table_one}
 use Rattle.laying.proofs.Rows.{first_none_right, first_assoc}
-use Rattle.places.specs.declared.rows.Stands.{Stands}
-use Rattle.places.specs.declared.rows.Stands.TheVariants.{Nowhere, There}
 use Rattle.places.specs.declared.survey.Answer.{Answer}
 use Rattle.places.specs.declared.survey.Asked.{Asked}
 use Rattle.places.specs.declared.survey.Standing.{Standing}
 use Rattle.places.specs.declared.survey.Survey.{Survey}
-use Rattle.places.specs.declared.survey.TableFound.{TableFound}
-use Rattle.places.specs.declared.survey.TableFound.TheVariants.{No, Yes}
 use Rattle.places.specs.declared.survey.TableName.{TableName}
+use Rattle.places.specs.declared.survey.TableSpot.{TableSpot}
 use Rattle.places.specs.declared.walk.Aim.{Aim}
 use Rattle.places.specs.declared.walk.Walk.{Walk}
+use Rattle.places.specs.Found.{FoundTable}
 use Rattle.places.specs.Measuring.{numbers_in}
-use Rattle.places.specs.Rows.{levels, saying, cut_row, alone, first_by}
-use Rattle.places.specs.Surveying.{table_found, is_first, seat_in, first_standing, held_in, held_after, verdict_of, StandsAs, before_all, Surveyed, TableReady, TableAs, refused_by, AnswerAs}
+use Rattle.places.specs.Rows.{alone}
+use Rattle.places.specs.Surveying.{table_found, is_first, seat_in, first_standing, held_in, held_after, StandsAs, before_all, Surveyed, TableReady, TableAs, AnswerAs}
 use Rattle.places.specs.Walking.{WalkEnds, Ends, WalkBodyReady, WalksBody}
 use Rattle.places.proofs.Held.{holds_append}
-use Rattle.places.proofs.RowLaws.{as_none}
-use Rattle.meaning.proofs.Either.{clash}
+use Rattle.places.proofs.RowLaws.{as_none, first_case, said_none, said_some}
 
 -- WHERE THINGS ARE
 -- the first of two that is found
@@ -75,47 +73,32 @@ named_more m k (u ∷ ts) t = go (u.manufacturer =? m && u.number =? k) (named_m
 abbrev seat_of : Fields → (i p l : ℕ) → Seat
 seat_of h i p l = record { item = i; manufacturer = h.manufacturer; number = h.number; start = p; size = l }
 
+-- and as the code has it
+abbrev spot_of : (i p l : ℕ) → TableSpot
+spot_of i p l = record { item = i; start = record { 0 = p }; length = l }
+
 seat_more : (n : TableName) (ts : List Seat) (h : Fields) (i p l : ℕ)
     → table_found (table_named n.manufacturer n.number (ts ++ (seat_of h i p l ∷ [])))
-    ≡ seat_in (table_found (table_named n.manufacturer n.number ts)) (is_first (table_found (table_named n.manufacturer n.number ts)) h n) i (record { 0 = p }) l
+    ≡ seat_in (table_found (table_named n.manufacturer n.number ts)) (is_first (table_found (table_named n.manufacturer n.number ts)) h n) (spot_of i p l)
 unfolding table_named first_seat table_found is_first seat_in
 seat_more n ts h i p l = rw (named_more _ _ ts (seat_of h i p l)) (go (table_named n.manufacturer n.number ts))
   where
-    one : (b : Bool) → table_found (cond {A = Option Seat} b (some (seat_of h i p l)) none) ≡ cond b (Yes i (record { 0 = p }) l) No
+    one : (b : Bool) → table_found (cond {A = Option Seat} b (some (seat_of h i p l)) none) ≡ cond b (Some (spot_of i p l)) None
     one true = refl
     one false = refl
 
     go : (x : Option Seat) → table_found (first_seat x (table_named n.manufacturer n.number (seat_of h i p l ∷ [])))
-        ≡ seat_in (table_found x) (is_first (table_found x) h n) i (record { 0 = p }) l
+        ≡ seat_in (table_found x) (is_first (table_found x) h n) (spot_of i p l)
     go (some t) = refl
     go none = one (h.manufacturer =? n.manufacturer && h.number =? n.number)
 
--- a row of the code that is none says none, and one that is some comes before any other
-said_none : (L : List def.Array) (r : def.Row) → saying Nowhere L ≡ cut_row r → r ≡ no_row
-unfolding saying cut_row
-said_none L (row p n rest) e = clash (cc)
-said_none L no_row e = refl
-
-said_some : (p : ℕ) (x : Stands) (L : List def.Array) (r q : def.Row) → saying x L ≡ cut_row r → (x ≡ Nowhere → ⊥) → first_row (onward p r) q ≡ onward p r
-unfolding saying cut_row first_row onward
-said_some p x L (row o n rest) q e other = refl
-said_some p Nowhere L no_row q e other = absurd (other refl)
-said_some p (There o n) L no_row q e other = clash (cc)
-
 -- which of two rows stands
 standing_first : (a b : Standing) (r q : def.Row) → StandsAs a r → StandsAs b q → StandsAs (first_standing a b) (first_row r q)
-unfolding first_by first_row onward
-standing_first a b r q h g = go a.row.stands h.row_as.says
-  where
-    L : List def.Array
-    L = levels 0 a.row.arrays.depth a.row.arrays.counts a.row.arrays.strides
-
-    stays : (x : Stands) → saying x L ≡ cut_row h.in_table → (x ≡ Nowhere → ⊥) → StandsAs a (first_row r q)
-    stays x e other = record { in_table = h.in_table; is = rw h.is (said_some a.start.0 x L h.in_table q e other); row_as = h.row_as; early = h.early }
-
-    go : (x : Stands) → saying x L ≡ cut_row h.in_table → StandsAs (first_by x a b) (first_row r q)
-    go Nowhere e = record { in_table = g.in_table; is = rw (h.is, said_none L h.in_table e) g.is; row_as = g.row_as; early = g.early }
-    go (There p n) e = stays (There p n) e (λ z. clash (cc))
+unfolding first_row onward
+standing_first a b r q h g =
+    first_case (λ (x : Standing). StandsAs x (first_row r q)) a.row.stands a b
+    (λ z. record { in_table = g.in_table; is = rw (h.is, said_none _ h.in_table (rw z at h.row_as.says)) g.is; row_as = g.row_as; early = g.early })
+    (λ z. record { in_table = h.in_table; is = rw h.is (said_some a.start.0 _ _ h.in_table q h.row_as.says z); row_as = h.row_as; early = h.early })
 
 -- OCTETS OF DIMENSIONS. n octets from offset o on of the table of that name, among tables and elements that end by p; then a table from p to x, with elements ps
 module _ (n : TableName) (o l p : ℕ) (ts : List Seat) (es ps : List Placed) (h : Fields) (i x : ℕ) (order : p ≤ x)
@@ -182,11 +165,10 @@ pub set_out : (d img : List ℕ) (q : Asked) (p z : ℕ) → p ≡ 0 → z ≡ 0
       numbers = replicate 64 0;
       start = record { 0 = p };
       next = record { at = z };
-      first = No;
-      second = No;
-      element = record { start = record { 0 = p }; row = alone Nowhere };
+      first = None;
+      second = None;
+      element = record { start = record { 0 = p }; row = alone None };
       held = false;
-      verdict = Verdict.Passed;
     })
 unfolding lay_out row_of tree_of number_of octets_of table_named table_found held_in first_row onward Every
 set_out d img q p z e f h =
@@ -231,15 +213,6 @@ table_there d κ at n rest = go (is_table (fields_at d at)) refl ((fields_at d a
     go false e c g f = absurd (rw e at f)
 
 -- ONE TABLE MORE
--- a verdict is passed, or has a refusal
-abbrev is_passed : Verdict → Bool
-is_passed Verdict.Passed = true
-is_passed (Verdict.Refused r) = false
-
-abbrev refusal_of : Verdict → Refusal
-refusal_of Verdict.Passed = no_table
-refusal_of (Verdict.Refused r) = r
-
 module _ (d img : List ℕ) (q : Asked) (s : Survey) (ready : TableReady d img q s) where
   abbrev g : Surveyed d img q s
   g = ready.surveyed
@@ -288,7 +261,7 @@ module _ (d img : List ℕ) (q : Asked) (s : Survey) (ready : TableReady d img q
 
   -- the walk before it, at the item after the table's own
   abbrev sets_off : (next octets : ℕ) → Walk
-  sets_off next octets = record { numbers = s.numbers; octets = record { 0 = octets }; row = alone Nowhere; held = false; next = record { at = next }; short = false }
+  sets_off next octets = record { numbers = s.numbers; octets = record { 0 = octets }; row = alone None; held = false; next = record { at = next } }
 
   pub table_ready : (next octets first : ℕ) → next ≡ at + 1 → octets ≡ 0 → first ≡ f.first → WalkBodyReady d img aim (sets_off next octets) first 4
   table_ready next octets first e z i =
@@ -299,7 +272,6 @@ module _ (d img : List ℕ) (q : Asked) (s : Survey) (ready : TableReady d img q
           deep = omega arith;
           small = ready.ready.small;
           inside = omega (arith, g.inside);
-          going = refl;
           slots = g.room;
         };
         there = omega (arith, left.few);
@@ -324,22 +296,13 @@ module _ (d img : List ℕ) (q : Asked) (s : Survey) (ready : TableReady d img q
       g.rows ∙ ap (λ (x : Tables). first_row g.row (walk_tables x img g.slots s.start.0 q.item)) left.is
       ∙ ap (λ (z : Laid). first_row g.row (first_row row_here (row_after z (λ t x. walk_tables rest img t x q.item)))) e
 
-  module _ (w : Walk) (next octets first : ℕ) (ne : next ≡ at + 1) (oe : octets ≡ 0) (fe : first ≡ f.first) (walks : WalksBody d img aim (sets_off next octets) first 4 w) (r : Survey)
-      (numbers : r.numbers ≡ w.numbers) (start : r.start.0 ≡ min (s.start.0 + w.octets.0) 18446744073709551615) (goes : r.next.at ≡ min (next + first) 18446744073709551615)
-      (seat : r.first ≡ seat_in s.first (is_first s.first f q.first) at s.start w.octets.0)
-      (other : r.second ≡ seat_in s.second (is_first s.second f q.second) at s.start w.octets.0)
-      (element : r.element ≡ first_standing s.element (record { start = s.start; row = w.row }))
-      (held : r.held ≡ held_after s.held (is_first s.first f q.first) (q.from.0 + q.octets ≤? w.octets.0) w.held)
-      (verdict : r.verdict ≡ verdict_of s.start.0 w) where
+  module _ (next octets first : ℕ) (ne : next ≡ at + 1) (oe : octets ≡ 0) (fe : first ≡ f.first) where
     few : item_count d ≤ 512
     few = (passed_laws d ready.ready.passes).few
 
-    goes_on : r.next.at ≡ after
-    goes_on = omega (arith, goes, ne, fe, left.few, few)
-
     -- what the walk came to
-    ends : Ends aim no_row false w row_here (lay_body body img false g.slots s.start.0)
-    ends =
+    ends : (w : Result Walk Refusal) → WalksBody d img aim (sets_off next octets) first 4 w → Ends aim no_row false w row_here (lay_body body img false g.slots s.start.0)
+    ends w walks =
         let e : s.start.0 + octets ≡ s.start.0 = omega arith in
         let walked : WalksBody d img aim (sets_off (at + 1) octets) f.first 4 w = rw (ne, fe) at walks in
         subst (λ (p : ℕ). Ends aim no_row false w (walk_body body img g.slots p q.item) (lay_body body img false g.slots p)) e
@@ -348,86 +311,85 @@ module _ (d img : List ℕ) (q : Asked) (s : Survey) (ready : TableReady d img q
     reaches : Reaches (after_body body g.known) (λ i. walk_body body img g.slots s.start.0 i) (lay_body body img false g.slots s.start.0)
     reaches = r_body img d body true 0 (at + 1) after g.slots g.known s.start.0 g.matches sound.0 rises
 
-    verdict_going : w.short ≡ false → r.verdict ≡ Verdict.Passed
-    unfolding verdict_of
-    verdict_going e = verdict ∙ rw e
-
-    verdict_short : w.short ≡ true → r.verdict ≡ Verdict.Refused (image_short w.next.at (s.start.0 + w.octets.0))
-    unfolding verdict_of
-    verdict_short e =
-        let m : min (s.start.0 + w.octets.0) 18446744073709551615 ≡ s.start.0 + w.octets.0 = omega (arith, walks.walked.inside, ready.ready.small) in
-        verdict ∙ rw (e, m)
-
-    -- what is told of the octets asked about, with this table
-    abbrev tells : TableFound → (before : Bool) → (length : ℕ) → (held : Bool) → Bool
-    tells z b l c = held_after b (is_first z f q.first) (q.from.0 + q.octets ≤? l) c
-
-    laid_on : (ps : List Placed) (t : Slots) (x : ℕ) → lay_body body img false g.slots s.start.0 ≡ laid ps t x → WalkEnds aim no_row false w row_here ps t x
-        → Matches t (after_body body g.known) → Whole (laid ps t x) → Surveyed d img q r
-    unfolding seated row_after first_row Every
-    laid_on ps t x is e m wh =
-        let t0 : Seat = seat_of f at s.start.0 (x - s.start.0) in
-        let st : r.start.0 ≡ x = start ∙ omega (arith, e.here, walks.walked.inside, ready.ready.small) in
-        let sz : w.octets.0 ≡ x - s.start.0 = omega (arith, e.here) in
-        let same : tables_of d (item_count d - r.next.at) 0 r.next.at ≡ rest = ap (λ (j : ℕ). tables_of d (item_count d - j) 0 j) goes_on in
-        let fill = consecutive_fill (laying_body d img body 0 (at + 1) after rises false g.slots s.start.0 is).consecutive in
-        record {
-          seats = g.seats ++ (t0 ∷ []);
-          elements = g.elements ++ ps;
-          slots = t;
-          known = after_body body g.known;
-          row = first_row g.row row_here;
-          numbers = e.numbers ∙ ap numbers_in (sym numbers);
-          room = rw numbers walks.walked.slots;
-          matches = m;
-          whole = wh ∙ before_one g.seats g.elements t0 ps (lay_tables rest img t x)
-              ∙ ap₂ (λ (a : Tables) (b : ℕ). before_all (g.seats ++ (t0 ∷ [])) (g.elements ++ ps) (lay_tables a img t b)) (sym same) (sym st);
-          rows = rows_are (laid ps t x) is ∙ sym (first_assoc g.row row_here _)
-              ∙ ap₂ (λ (a : Tables) (b : ℕ). first_row (first_row g.row row_here) (walk_tables a img t b q.item)) (sym same) (sym st);
-          sound = subst (SoundTables (after_body body g.known)) (sym same) sound.1;
-          ordered = omega (arith, goes_on, left.few);
-          inside = omega (arith, st, e.here, walks.walked.inside);
-          seats_end = rw st (every_append (λ u. u.start + u.size ≤ x) g.seats (t0 ∷ [])
-              (every_map (λ u. u.start + u.size ≤ s.start.0) _ (λ u h. omega (arith, fill.order)) g.seats g.seats_end) (omega (arith, fill.order), tt));
-          elements_end = rw st (every_append (λ u. u.start + u.size ≤ x) g.elements ps
-              (every_map (λ u. u.start + u.size ≤ s.start.0) _ (λ u h. omega (arith, fill.order)) g.elements g.elements_end)
-              (every_map (Lies s.start.0 x) _ (λ u h. h.ends) ps fill.lies));
-          first = seat ∙ ap₂ (λ (z : TableFound) (l : ℕ). seat_in z (is_first z f q.first) at s.start l) g.first sz
-              ∙ sym (seat_more q.first g.seats f at s.start.0 (x - s.start.0));
-          second = other ∙ ap₂ (λ (z : TableFound) (l : ℕ). seat_in z (is_first z f q.second) at s.start l) g.second sz
-              ∙ sym (seat_more q.second g.seats f at s.start.0 (x - s.start.0));
-          element = subst (λ (z : Standing). StandsAs z (first_row g.row row_here)) (sym element) (standing_first s.element _ g.row row_here g.element
-              (record { in_table = e.row_is.in_table; is = e.row_is.is; row_as = e.row_is.row_as; early = omega (arith, g.inside, ready.ready.small) }));
-          held = held ∙ ap₂ (λ (z : TableFound) (b : Bool). tells z b w.octets.0 w.held) g.first g.held
-              ∙ ap₂ (λ (l : ℕ) (b : Bool). tells (table_found (table_named q.first.manufacturer q.first.number g.seats))
-              (held_in q.from.0 q.octets (table_named q.first.manufacturer q.first.number g.seats) g.elements) l b) sz e.holds
-              ∙ sym (held_more q.first q.from.0 q.octets s.start.0 g.seats g.elements ps f at x
-              fill.order g.seats_end g.elements_end fill.lies);
-        }
-
-    short_here_lem : (ps : List Placed) (i x : ℕ) → Ends aim no_row false w row_here (stopped ps (short i x)) → Whole (stopped ps (short i x))
-        → open_laid (lay_out d img) ≡ refused (refusal_of r.verdict)
+    -- THE IMAGE IS SHORT in this table
+    pub table_stopped : {x : Refusal} → WalksBody d img aim (sets_off next octets) first 4 (Err x) → open_laid (lay_out d img) ≡ refused x
     unfolding seated before_all open_laid stop_refusal
-    short_here_lem ps i x e wh = ap open_laid wh ∙ sym (ap (λ (v : Verdict). refused (refusal_of v)) (verdict_short e.0) ∙ rw (e.1, e.2))
-
-    pub table_as : TableAs d img q s r
-    table_as = go (lay_body body img false g.slots s.start.0) refl ends reaches whole_is
+    table_stopped {x} walks = go (lay_body body img false g.slots s.start.0) (ends (Err x) walks) reaches whole_is
       where
-        go : (o : Laid) → lay_body body img false g.slots s.start.0 ≡ o → Ends aim no_row false w row_here o
-            → Reaches (after_body body g.known) (λ i. walk_body body img g.slots s.start.0 i) o → Whole o → TableAs d img q s r
-        go (laid ps t x) is e m wh = record {
-          passed = λ v. (laid_on ps t x is e m.matches wh, omega (arith, goes_on));
-          stopped = λ y v. absurd (false≢true (sym (ap is_passed v) ∙ ap is_passed (verdict_going e.going)));
-        }
-        go (stopped ps (fault z i)) is e m wh = absurd m
-        go (stopped ps (short i x)) is e m wh = record {
-          passed = λ v. absurd (false≢true (sym (ap is_passed (verdict_short e.0)) ∙ ap is_passed v));
-          stopped = λ y v. short_here_lem ps i x e wh ∙ ap (λ (z : Verdict). refused (refusal_of z)) v;
-        }
+        go : (o : Laid) → Ends aim no_row false (Err x) row_here o → Reaches (after_body body g.known) (λ i. walk_body body img g.slots s.start.0 i) o → Whole o
+            → open_laid (lay_out d img) ≡ refused x
+        go (laid ps t y) e m wh = absurd e
+        go (stopped ps (fault z i)) e m wh = absurd m
+        go (stopped ps (short i y)) e m wh = ap open_laid wh ∙ ap refused (sym e)
+
+    -- OR IT IS LAID
+    module _ (w : Walk) (walks : WalksBody d img aim (sets_off next octets) first 4 (Ok w)) (r : Survey) (numbers : r.numbers ≡ w.numbers) (start : r.start.0 ≡ min (s.start.0 + w.octets.0) 18446744073709551615) (goes : r.next.at ≡ min (next + first) 18446744073709551615)
+        (seat : r.first ≡ seat_in s.first (is_first s.first f q.first) (spot_of at s.start.0 w.octets.0))
+        (other : r.second ≡ seat_in s.second (is_first s.second f q.second) (spot_of at s.start.0 w.octets.0))
+        (element : r.element ≡ first_standing s.element (record { start = s.start; row = w.row }))
+        (held : r.held ≡ held_after s.held (is_first s.first f q.first) (q.from.0 + q.octets ≤? w.octets.0) w.held) where
+      goes_on : r.next.at ≡ after
+      goes_on = omega (arith, goes, ne, fe, left.few, few)
+
+      -- what is told of the octets asked about, with this table
+      abbrev tells : FoundTable → (before : Bool) → (length : ℕ) → (held : Bool) → Bool
+      tells z b l c = held_after b (is_first z f q.first) (q.from.0 + q.octets ≤? l) c
+
+      laid_on : (ps : List Placed) (t : Slots) (x : ℕ) → lay_body body img false g.slots s.start.0 ≡ laid ps t x → WalkEnds aim no_row false w row_here ps t x
+          → Matches t (after_body body g.known) → Whole (laid ps t x) → Surveyed d img q r
+      unfolding seated row_after first_row Every
+      laid_on ps t x is e m wh =
+          let t0 : Seat = seat_of f at s.start.0 (x - s.start.0) in
+          let st : r.start.0 ≡ x = start ∙ omega (arith, e.here, walks.walked.inside, ready.ready.small) in
+          let sz : w.octets.0 ≡ x - s.start.0 = omega (arith, e.here) in
+          let same : tables_of d (item_count d - r.next.at) 0 r.next.at ≡ rest = ap (λ (j : ℕ). tables_of d (item_count d - j) 0 j) goes_on in
+          let fill = consecutive_fill (laying_body d img body 0 (at + 1) after rises false g.slots s.start.0 is).consecutive in
+          record {
+            seats = g.seats ++ (t0 ∷ []);
+            elements = g.elements ++ ps;
+            slots = t;
+            known = after_body body g.known;
+            row = first_row g.row row_here;
+            numbers = e.numbers ∙ ap numbers_in (sym numbers);
+            room = rw numbers walks.walked.slots;
+            matches = m;
+            whole = wh ∙ before_one g.seats g.elements t0 ps (lay_tables rest img t x)
+                ∙ ap₂ (λ (a : Tables) (b : ℕ). before_all (g.seats ++ (t0 ∷ [])) (g.elements ++ ps) (lay_tables a img t b)) (sym same) (sym st);
+            rows = rows_are (laid ps t x) is ∙ sym (first_assoc g.row row_here _)
+                ∙ ap₂ (λ (a : Tables) (b : ℕ). first_row (first_row g.row row_here) (walk_tables a img t b q.item)) (sym same) (sym st);
+            sound = subst (SoundTables (after_body body g.known)) (sym same) sound.1;
+            ordered = omega (arith, goes_on, left.few);
+            inside = omega (arith, st, e.here, walks.walked.inside);
+            seats_end = rw st (every_append (λ u. u.start + u.size ≤ x) g.seats (t0 ∷ [])
+                (every_map (λ u. u.start + u.size ≤ s.start.0) _ (λ u h. omega (arith, fill.order)) g.seats g.seats_end) (omega (arith, fill.order), tt));
+            elements_end = rw st (every_append (λ u. u.start + u.size ≤ x) g.elements ps
+                (every_map (λ u. u.start + u.size ≤ s.start.0) _ (λ u h. omega (arith, fill.order)) g.elements g.elements_end)
+                (every_map (Lies s.start.0 x) _ (λ u h. h.ends) ps fill.lies));
+            first = seat ∙ ap₂ (λ (z : FoundTable) (l : ℕ). seat_in z (is_first z f q.first) (spot_of at s.start.0 l)) g.first sz
+                ∙ sym (seat_more q.first g.seats f at s.start.0 (x - s.start.0));
+            second = other ∙ ap₂ (λ (z : FoundTable) (l : ℕ). seat_in z (is_first z f q.second) (spot_of at s.start.0 l)) g.second sz
+                ∙ sym (seat_more q.second g.seats f at s.start.0 (x - s.start.0));
+            element = subst (λ (z : Standing). StandsAs z (first_row g.row row_here)) (sym element) (standing_first s.element _ g.row row_here g.element
+                (record { in_table = e.row_is.in_table; is = e.row_is.is; row_as = e.row_is.row_as; early = omega (arith, g.inside, ready.ready.small) }));
+            held = held ∙ ap₂ (λ (z : FoundTable) (b : Bool). tells z b w.octets.0 w.held) g.first g.held
+                ∙ ap₂ (λ (l : ℕ) (b : Bool). tells (table_found (table_named q.first.manufacturer q.first.number g.seats))
+                (held_in q.from.0 q.octets (table_named q.first.manufacturer q.first.number g.seats) g.elements) l b) sz e.holds
+                ∙ sym (held_more q.first q.from.0 q.octets s.start.0 g.seats g.elements ps f at x
+                fill.order g.seats_end g.elements_end fill.lies);
+          }
+
+      pub table_laid : TableAs d img q s (Ok r)
+      table_laid = go (lay_body body img false g.slots s.start.0) refl (ends (Ok w) walks) reaches whole_is
+        where
+          go : (o : Laid) → lay_body body img false g.slots s.start.0 ≡ o → Ends aim no_row false (Ok w) row_here o
+              → Reaches (after_body body g.known) (λ i. walk_body body img g.slots s.start.0 i) o → Whole o → TableAs d img q s (Ok r)
+          go (laid ps t x) is e m wh = (laid_on ps t x is e m.matches wh, omega (arith, goes_on))
+          go (stopped ps (fault z i)) is e m wh = absurd m
+          go (stopped ps (short i x)) is e m wh = absurd e
 
 -- AT THE END
 pub laid_all : (d img : List ℕ) (q : Asked) (s : Survey) → Surveyed d img q s → item_count d ≤ s.next.at → (total : ℕ) → total ≡ s.start.0
-    → AnswerAs d img q (record { verdict = Verdict.Passed; total = total; numbers = s.numbers; first = s.first; second = s.second; element = s.element; held = s.held }) (open_laid (lay_out d img))
+    → AnswerAs d img q (Ok (record { total = total; numbers = s.numbers; first = s.first; second = s.second; element = s.element; held = s.held })) (open_laid (lay_out d img))
 unfolding lay_tables walk_tables before_all open_laid
 laid_all d img q s g le total e =
     let z : item_count d - s.next.at ≡ 0 = omega arith in
@@ -436,22 +398,22 @@ laid_all d img q s g le total e =
     ∙ ap (λ (x : Tables). before_all g.seats g.elements (lay_tables x img g.slots s.start.0)) none
     ∙ ap₂ (λ (a : List Seat) (b : List Placed). laid_out a b g.slots s.start.0) (append-nil g.seats) (append-nil g.elements) in
     let rows : g.row ≡ row_of d img q.item = sym (g.rows ∙ ap (λ (x : Tables). first_row g.row (walk_tables x img g.slots s.start.0 q.item)) none ∙ first_none_right g.row) in
-    rw w (record { passed = refl; total = e; numbers = g.numbers; first = g.first; second = g.second; element = subst (StandsAs s.element) rows g.element; held = g.held })
+    rw w (record { total = e; numbers = g.numbers; first = g.first; second = g.second; element = subst (StandsAs s.element) rows g.element; held = g.held })
 
 -- 1 TO 9 COME FIRST
-module _ (d img : List ℕ) (q : Asked) (r : Answer) where
-  pub opened_refused : (x : Refusal) → check_reply d ≡ Verdict.Refused x → r ≡ refused_by x → AnswerAs d img q r (open_image d img)
+module _ (d img : List ℕ) (q : Asked) where
+  pub opened_refused : (x : Refusal) → check_reply d ≡ Verdict.Refused x → AnswerAs d img q (Err x) (open_image d img)
   unfolding open_image open_sound
-  opened_refused x e h = rw e h
+  opened_refused x e = rw e
 
-  pub opened_long : check_reply d ≡ Verdict.Passed → 65535 < length img → r ≡ refused_by image_too_long → AnswerAs d img q r (open_image d img)
+  pub opened_long : check_reply d ≡ Verdict.Passed → 65535 < length img → AnswerAs d img q (Err image_too_long) (open_image d img)
   unfolding open_image open_sound
-  opened_long e l h = rw (e, lt-ltb 65535 (length img) l) h
+  opened_long e l = rw (e, lt-ltb 65535 (length img) l)
 
-  pub opened_laid : check_reply d ≡ Verdict.Passed → length img ≤ 65535 → AnswerAs d img q r (open_laid (lay_out d img)) → AnswerAs d img q r (open_image d img)
+  pub opened_laid : (r : Result Answer Refusal) → check_reply d ≡ Verdict.Passed → length img ≤ 65535 → AnswerAs d img q r (open_laid (lay_out d img)) → AnswerAs d img q r (open_image d img)
   unfolding open_image open_sound
-  opened_laid e l h = rw (e, le-ltb 65535 (length img) l) h
+  opened_laid r e l h = rw (e, le-ltb 65535 (length img) l) h
 
   -- the refusal that laying out comes to
-  pub laid_refused : (x : Refusal) → open_laid (lay_out d img) ≡ refused x → r ≡ refused_by x → AnswerAs d img q r (open_laid (lay_out d img))
-  laid_refused x e h = rw e h
+  pub laid_refused : (x : Refusal) → open_laid (lay_out d img) ≡ refused x → AnswerAs d img q (Err x) (open_laid (lay_out d img))
+  laid_refused x e = rw e

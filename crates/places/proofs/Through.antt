@@ -1,10 +1,12 @@
 -- A walk through a body, item by item: what is left of the body leads where the whole does, at the start, after each item, where the image is short, and at the
 -- end. Assumes nothing.
+use Rattle.std.specs.Prelude.{Result, Ok, Err}
 use Prim.Native.Nat.{ℕ, ◌+◌, ◌-◌, ◌<◌, ◌≤◌}
 use mathlib.Core.Path.{◌≡◌, refl, ◌∙◌, ap, ap₂, sym, subst}
-use mathlib.Core.Bool.{Bool, true, false, ◌||◌, or_assoc, or-false, true≢false}
+use mathlib.Core.Bool.{Bool, false, ◌||◌, or_assoc, or-false}
 use mathlib.Core.List.{List}
 use native.Mathlib.Omega.{arith}
+use Rattle.meaning.specs.declared.Refusal.{Refusal}
 use Rattle.meaning.specs.Description.{fields_at, nested}
 use Rattle.meaning.specs.Layout.{Node, Body, more, body_at, Slots, Placed, fault, short, Laid, laid, stopped, also, and_then, lay_body, lay_node}
 use Rattle.meaning.specs.Refusals.{any_dimension}
@@ -24,12 +26,11 @@ use Rattle.places.specs.Walking.{place, WalkEnds, Ends, From, WalkBodyReady, Wal
 use Rattle.places.proofs.Measures.{FirstOf, first_of}
 
 -- ONE AFTER ANOTHER
-module _ (a : Aim) (before : def.Row) (held : Bool) (x : Walk) (R Q : def.Row) (ps : List Placed) (s : Slots) (q : ℕ) (h : WalkEnds a before held x R ps s q) (r : Walk) where
+module _ (a : Aim) (before : def.Row) (held : Bool) (x : Walk) (R Q : def.Row) (ps : List Placed) (s : Slots) (q : ℕ) (h : WalkEnds a before held x R ps s q) where
   -- what follows the elements ps
-  ends_also : (o : Laid) → Ends a (first_row before h.row_is.in_table) x.held r Q o → Ends a before held r (first_row R Q) (also ps o)
-  ends_also (laid qs t p) g =
+  ends_also : (r : Result Walk Refusal) (o : Laid) → Ends a (first_row before h.row_is.in_table) x.held r Q o → Ends a before held r (first_row R Q) (also ps o)
+  ends_also (Ok r) (laid qs t p) g =
       record {
-        going = g.going;
         here = g.here;
         numbers = g.numbers;
         holds = g.holds ∙ rw h.holds (or_assoc held (any_dimension ps _ _) (any_dimension qs _ _) ∙ ap (λ (b : Bool). held || b) (sym (holds_append _ _ ps qs)));
@@ -39,19 +40,22 @@ module _ (a : Aim) (before : def.Row) (held : Bool) (x : Walk) (R Q : def.Row) (
           row_as = rw (← first_assoc before h.row_is.in_table g.row_is.in_table) g.row_is.row_as;
         };
       }
-  ends_also (stopped qs (fault y i)) g = tt
-  ends_also (stopped qs (short i p)) g = g
+  ends_also (Ok r) (stopped qs (fault y i)) g = tt
+  ends_also (Ok r) (stopped qs (short i p)) g = absurd g
+  ends_also (Err e) (laid qs t p) g = absurd g
+  ends_also (Err e) (stopped qs (fault y i)) g = tt
+  ends_also (Err e) (stopped qs (short i p)) g = g
 
--- where a walk is short, nothing follows
-stops_there : (a : Aim) (before : def.Row) (held : Bool) (y : Walk) (R : def.Row) (Q : Slots → ℕ → def.Row) (f : Slots → ℕ → Laid) (o : Laid) → y.short ≡ true
-    → Ends a before held y R o → Ends a before held y (first_row R (row_after o Q)) (and_then o f)
+-- where a walk is refused, nothing follows
+stops_there : (a : Aim) (before : def.Row) (held : Bool) (e : Refusal) (R : def.Row) (Q : Slots → ℕ → def.Row) (f : Slots → ℕ → Laid) (o : Laid)
+    → Ends a before held (Err e) R o → Ends a before held (Err e) (first_row R (row_after o Q)) (and_then o f)
 unfolding and_then
-stops_there a before held y R Q f (laid ps s q) e h = absurd (true≢false (sym e ∙ h.going))
-stops_there a before held y R Q f (stopped ps (fault z i)) e h = tt
-stops_there a before held y R Q f (stopped ps (short i p)) e h = h
+stops_there a before held e R Q f (laid ps s q) h = absurd h
+stops_there a before held e R Q f (stopped ps (fault z i)) h = tt
+stops_there a before held e R Q f (stopped ps (short i p)) h = h
 
 -- what is laid, and what follows it
-then_ends : (a : Aim) (before : def.Row) (held : Bool) (r : Walk) (R : def.Row) (Q : Slots → ℕ → def.Row) (f : Slots → ℕ → Laid) (o : Laid) (ps : List Placed) (t : Slots) (q : ℕ)
+then_ends : (a : Aim) (before : def.Row) (held : Bool) (r : Result Walk Refusal) (R : def.Row) (Q : Slots → ℕ → def.Row) (f : Slots → ℕ → Laid) (o : Laid) (ps : List Placed) (t : Slots) (q : ℕ)
     → o ≡ laid ps t q → Ends a before held r (first_row R (Q t q)) (also ps (f t q)) → Ends a before held r (first_row R (row_after o Q)) (and_then o f)
 unfolding and_then row_after
 then_ends a before held r R Q f o ps t q e h = subst (λ (z : Laid). Ends a before held r (first_row R (row_after z Q)) (and_then z f)) (sym e) h
@@ -66,10 +70,10 @@ record Goes (a : Aim) (before : def.Row) (held : Bool) (y : Walk) (R : def.Row) 
   matches : Matches slots κ
 
 goes : (a : Aim) (before : def.Row) (held : Bool) (y : Walk) (R : def.Row) (κ : Known) (r : ℕ → def.Row) (o : Laid)
-    → y.short ≡ false → Ends a before held y R o → Reaches κ r o → Goes a before held y R κ o
-goes a before held y R κ r (laid ps t q) e h g = record { elements = ps; slots = t; octet = q; is = refl; ends = h; matches = g.matches }
-goes a before held y R κ r (stopped ps (fault z i)) e h g = absurd g
-goes a before held y R κ r (stopped ps (short i p)) e h g = absurd (true≢false (sym h.0 ∙ e))
+    → Ends a before held (Ok y) R o → Reaches κ r o → Goes a before held y R κ o
+goes a before held y R κ r (laid ps t q) h g = record { elements = ps; slots = t; octet = q; is = refl; ends = h; matches = g.matches }
+goes a before held y R κ r (stopped ps (fault z i)) h g = absurd g
+goes a before held y R κ r (stopped ps (short i p)) h g = absurd h
 
 module _ (d img : List ℕ) (a : Aim) (w : Walk) (n depth : ℕ) where
   abbrev end : ℕ
@@ -87,7 +91,7 @@ module _ (d img : List ℕ) (a : Aim) (w : Walk) (n depth : ℕ) where
 
   module _ (x : Walk) (way : OnItsWay d img a w n depth x) where
     -- at the end the walk has come to what the body comes to
-    pub arrives : end ≤ x.next.at → WalksBody d img a w n depth x
+    pub arrives : end ≤ x.next.at → WalksBody d img a w n depth (Ok x)
     unfolding lay_body walk_body onward
     arrives h =
         let z : end - x.next.at ≡ 0 = omega arith in
@@ -95,8 +99,7 @@ module _ (d img : List ℕ) (a : Aim) (w : Walk) (n depth : ℕ) where
           walked = record { inside = way.rest.ready.inside; slots = way.rest.ready.slots };
           ends = λ s κ free before from sound.
               let l = way.leads s κ free before from sound in
-              l.so x (rw (z, body_none depth d x.next.at) (record {
-                going = way.rest.ready.going;
+              l.so (Ok x) (rw (z, body_none depth d x.next.at) (record {
                 here = refl;
                 numbers = l.from.numbers;
                 holds = sym (rw (holds_none) (or-false x.held));
@@ -131,91 +134,92 @@ module _ (d img : List ℕ) (a : Aim) (w : Walk) (n depth : ℕ) where
       rest_fit : FitBody rest
       rest_fit = let e : at + (end - at) - after ≡ end - after = omega (arith, opened.within) in subst (λ (m : ℕ). FitBody (body_at depth d after m)) e opened.rest_fit
 
-      module _ (y : Walk) (item : WalksItem d img a x depth y) where
-        module _ (s : Slots) (κ : Known) (free : Bool) (before : def.Row) (from : From s κ w before) (sound : SoundBody free κ (body_at depth d w.next.at n)) where
-          l : Leads d img a w n depth x s free before
-          l = way.leads s κ free before from sound
+      module _ (s : Slots) (κ : Known) (free : Bool) (before : def.Row) (from : From s κ w before) (sound : SoundBody free κ (body_at depth d w.next.at n)) where
+        l : Leads d img a w n depth x s free before
+        l = way.leads s κ free before from sound
 
-          both : SoundNode free l.known node × SoundBody free (after_node node l.known) rest
-          unfolding SoundBody
-          both = subst (SoundBody free l.known) left_is l.sound
+        both : SoundNode free l.known node × SoundBody free (after_node node l.known) rest
+        unfolding SoundBody
+        both = subst (SoundBody free l.known) left_is l.sound
 
-          -- what the item is laid out to
-          abbrev o : Laid
-          o = lay_node node img false l.slots (place a x)
+        -- what the item is laid out to
+        abbrev o : Laid
+        o = lay_node node img false l.slots (place a x)
 
-          ends : Ends a l.row x.held y (walk_node node img l.slots (place a x) a.wanted) o
-          ends = item.ends l.slots l.known free l.row l.from both.0
+        ends : (r : Result Walk Refusal) → WalksItem d img a x depth r → Ends a l.row x.held r (walk_node node img l.slots (place a x) a.wanted) o
+        ends r item = item.ends l.slots l.known free l.row l.from both.0
 
-          reaches : Reaches (after_node node l.known) (λ i. walk_node node img l.slots (place a x) i) o
-          reaches =
-              r_node img d node free 0 at after l.slots l.known (place a x) l.from.matches both.0
-              (rises_at d depth 0 at (nested (fields_at d at)) at after (omega (arith, way.rest.ready.deep)) (omega (arith, item_ready.there)))
+        reaches : Reaches (after_node node l.known) (λ i. walk_node node img l.slots (place a x) i) o
+        reaches =
+            r_node img d node free 0 at after l.slots l.known (place a x) l.from.matches both.0
+            (rises_at d depth 0 at (nested (fields_at d at)) at after (omega (arith, way.rest.ready.deep)) (omega (arith, item_ready.there)))
 
-          -- from the walk at x to the whole
-          so : (r : Walk) → Ends a l.row x.held r (walk_body (more node rest) img l.slots (place a x) a.wanted) (lay_body (more node rest) img false l.slots (place a x))
-              → Ends a before w.held r (walk_body (body_at depth d w.next.at n) img s (place a w) a.wanted) (lay_body (body_at depth d w.next.at n) img false s (place a w))
-          so r h = l.so r (rw left_is h)
+        -- from the walk at x to the whole
+        so : (r : Result Walk Refusal) → Ends a l.row x.held r (walk_body (more node rest) img l.slots (place a x) a.wanted) (lay_body (more node rest) img false l.slots (place a x))
+            → Ends a before w.held r (walk_body (body_at depth d w.next.at n) img s (place a w) a.wanted) (lay_body (body_at depth d w.next.at n) img false s (place a w))
+        so r h = l.so r (rw left_is h)
 
-        -- where the image is short there, so is the body
-        pub stops : y.short ≡ true → WalksBody d img a w n depth y
+      -- where the image is short there, so is the body
+      pub stops : {e : Refusal} → WalksItem d img a x depth (Err e) → WalksBody d img a w n depth (Err e)
+      unfolding lay_body walk_body
+      stops {e} item =
+          record {
+            walked = tt;
+            ends = λ s κ free before from sound.
+                let k = l s κ free before from sound in
+                so s κ free before from sound (Err e)
+                (stops_there a k.row x.held e (walk_node node img k.slots (place a x) a.wanted) (λ t q. walk_body rest img t q a.wanted) (λ t q. lay_body rest img false t q)
+                (o s κ free before from sound) (ends s κ free before from sound (Err e) item));
+          }
+
+      -- else the walk goes on at the item after it
+      module _ {y : Walk} (item : WalksItem d img a x depth (Ok y)) where
+        pub further : at < y.next.at
+        further = omega (arith, item.moved)
+
+        gone : (s : Slots) (κ : Known) (free : Bool) (before : def.Row) (from : From s κ w before) (sound : SoundBody free κ (body_at depth d w.next.at n))
+            → Goes a (l s κ free before from sound).row x.held y (walk_node node img (l s κ free before from sound).slots (place a x) a.wanted)
+            (after_node node (l s κ free before from sound).known) (o s κ free before from sound)
+        gone s κ free before from sound =
+            goes a _ x.held y _ _ _ (o s κ free before from sound) (ends s κ free before from sound (Ok y) item)
+            (reaches s κ free before from sound)
+
+        same : body_at depth d y.next.at (end - y.next.at) ≡ rest
+        same = ap (λ (j : ℕ). body_at depth d j (end - j)) item.moved
+
+        pub goes_on : OnItsWay d img a w n depth y
         unfolding lay_body walk_body
-        stops e =
+        goes_on =
+            let m = item.moved in
             record {
-              walked = item.walked;
-              ends = λ s κ free before from sound.
-                  so s κ free before from sound y (stops_there a _ x.held y _ _ _ (o s κ free before from sound) e (ends s κ free before from sound));
-            }
-
-        -- else the walk goes on at the item after it
-        module _ (e : y.short ≡ false) where
-          pub further : at < y.next.at
-          further = omega (arith, item.moved e)
-
-          gone : (s : Slots) (κ : Known) (free : Bool) (before : def.Row) (from : From s κ w before) (sound : SoundBody free κ (body_at depth d w.next.at n))
-              → Goes a (l s κ free before from sound).row x.held y (walk_node node img (l s κ free before from sound).slots (place a x) a.wanted)
-              (after_node node (l s κ free before from sound).known) (o s κ free before from sound)
-          gone s κ free before from sound =
-              goes a _ x.held y _ _ _ (o s κ free before from sound) e (ends s κ free before from sound)
-              (reaches s κ free before from sound)
-
-          same : body_at depth d y.next.at (end - y.next.at) ≡ rest
-          same = ap (λ (j : ℕ). body_at depth d j (end - j)) (item.moved e)
-
-          pub goes_on : OnItsWay d img a w n depth y
-          unfolding lay_body walk_body
-          goes_on =
-              let m = item.moved e in
-              record {
-                rest = rw m (record {
-                  ready = record {
-                    few = way.rest.ready.few;
-                    deep = way.rest.ready.deep;
-                    small = way.rest.ready.small;
-                    inside = item.walked.inside;
-                    going = e;
-                    slots = item.walked.slots;
+              rest = rw m (record {
+                ready = record {
+                  few = way.rest.ready.few;
+                  deep = way.rest.ready.deep;
+                  small = way.rest.ready.small;
+                  inside = item.walked.inside;
+                  slots = item.walked.slots;
+                };
+                there = omega (arith, way.rest.there, opened.within);
+                fit = rest_fit;
+              });
+              ordered = omega (arith, m, opened.within);
+              leads = λ s κ free before from sound.
+                  let k = l s κ free before from sound in
+                  let g = gone s κ free before from sound in
+                  let found = first_row k.row g.ends.row_is.in_table in
+                  record {
+                    slots = g.slots;
+                    known = after_node node k.known;
+                    row = found;
+                    from = record { numbers = g.ends.numbers; matches = g.matches; row_as = g.ends.row_is.row_as };
+                    sound = subst (SoundBody free _) (sym same) (both s κ free before from sound).1;
+                    so = λ r h.
+                        so s κ free before from sound r
+                        (then_ends a k.row x.held r _ _ _ _ _ _ _ g.is
+                        (ends_also a k.row x.held y _ (walk_body rest img g.slots g.octet a.wanted) g.elements g.slots g.octet g.ends r
+                        (lay_body rest img false g.slots g.octet)
+                        (subst (λ (p : ℕ). Ends a found y.held r (walk_body rest img g.slots p a.wanted) (lay_body rest img false g.slots p)) g.ends.here
+                        (subst (λ (b : Body). Ends a found y.held r (walk_body b img g.slots (place a y) a.wanted) (lay_body b img false g.slots (place a y))) same h))));
                   };
-                  there = omega (arith, way.rest.there, opened.within);
-                  fit = rest_fit;
-                });
-                ordered = omega (arith, m, opened.within);
-                leads = λ s κ free before from sound.
-                    let k = l s κ free before from sound in
-                    let g = gone s κ free before from sound in
-                    let found = first_row k.row g.ends.row_is.in_table in
-                    record {
-                      slots = g.slots;
-                      known = after_node node k.known;
-                      row = found;
-                      from = record { numbers = g.ends.numbers; matches = g.matches; row_as = g.ends.row_is.row_as };
-                      sound = subst (SoundBody free _) (sym same) (both s κ free before from sound).1;
-                      so = λ r h.
-                          so s κ free before from sound r
-                          (then_ends a k.row x.held r _ _ _ _ _ _ _ g.is
-                          (ends_also a k.row x.held y _ (walk_body rest img g.slots g.octet a.wanted) g.elements g.slots g.octet g.ends r
-                          (lay_body rest img false g.slots g.octet)
-                          (subst (λ (p : ℕ). Ends a found y.held r (walk_body rest img g.slots p a.wanted) (lay_body rest img false g.slots p)) g.ends.here
-                          (subst (λ (b : Body). Ends a found y.held r (walk_body b img g.slots (place a y) a.wanted) (lay_body b img false g.slots (place a y))) same h))));
-                    };
-              }
+            }

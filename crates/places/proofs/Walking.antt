@@ -1,13 +1,15 @@
 -- The item at a walk's place, as the code has it open: what is asked of it, and what the walk comes to past it. Assumes nothing.
+use Rattle.std.specs.Prelude.{Result, Ok, Err}
 use Prim.Native.Nat.{ℕ, ◌+◌, ◌-◌, ◌<◌, ◌≤◌, min}
 use mathlib.Core.Path.{◌≡◌, refl, sym, ◌∙◌}
-use mathlib.Core.Bool.{Bool, true, false, cond, or-true, true≢false}
+use mathlib.Core.Bool.{Bool, true, false, cond, or-true}
 use mathlib.Core.List.{List}
 use lib.Dec.{eqb}
 use lib.ListN.{length, set, length-set}
 use borrow.Author.Tests.{ne_eqb}
 use native.Mathlib.Omega.{arith}
 use Rattle.meaning.specs.declared.Inner.{Inner}
+use Rattle.meaning.specs.declared.Refusal.{Refusal}
 use Rattle.meaning.specs.Description.{fields_at, is_choice, nests, nested}
 use Rattle.meaning.specs.Layout.{branches_in, branches_of, taken, leaf_octets, number_at, value}
 use Rattle.meaning.specs.Ranges.{FieldsRange}
@@ -65,13 +67,13 @@ module _ {d img : List ℕ} {a : Aim} {w : Walk} {k : ℕ} {r : Read} {x : ℕ} 
   valued = (rw o.fields (fields_range d w.next.at), o.few)
 
   -- past a piece, or short there
-  stepped : (piece : Span) (slot : ℕ) {y : Walk} → Comes d img a w k after ready (step_of img a w piece slot after) → y ≡ step_of img a w piece slot after
+  stepped : (piece : Span) (slot : ℕ) {y : Result Walk Refusal} → Comes d img a w k after ready (step_of img a w piece slot after) → y ≡ step_of img a w piece slot after
       → WalksItem d img a w k y
   stepped piece slot comes e =
       rw e
-      (step_case img a w piece slot after (λ (y : Walk). Comes d img a w k after ready y → WalksItem d img a w k y)
-      (λ le c. record { walked = record { inside = omega arith; slots = noted_length _ _ _ _ _ ∙ ready.ready.slots }; moved = λ z. o.past; ends = c })
-      (λ lt c. record { walked = record { inside = ready.ready.inside; slots = ready.ready.slots }; moved = λ z. absurd (true≢false z); ends = c })
+      (step_case img a w piece slot after (λ (y : Result Walk Refusal). Comes d img a w k after ready y → WalksItem d img a w k y)
+      (λ le c. record { walked = record { inside = omega arith; slots = noted_length _ _ _ _ _ ∙ ready.ready.slots }; moved = o.past; ends = c })
+      (λ lt c. record { walked = tt; moved = tt; ends = c })
       comes)
 
   -- A UINT, BLOCK OR SET
@@ -97,7 +99,7 @@ module _ {d img : List ℕ} {a : Aim} {w : Walk} {k : ℕ} {r : Read} {x : ℕ} 
               (λ z. rw (g.owns (omega (arith, g.dimension z))) (omega (arith, g.some_octets z), omega (arith, g.few_octets z)));
         }
 
-    pub leaf_walks : {y : Walk} → y ≡ step_of img a w s r.fields.sets after → WalksItem d img a w k y
+    pub leaf_walks : {y : Result Walk Refusal} → y ≡ step_of img a w s r.fields.sets after → WalksItem d img a w k y
     leaf_walks =
         stepped s r.fields.sets (rw o.fields (leaf_comes d img a w k after ready other s leaf_said))
 
@@ -113,7 +115,7 @@ module _ {d img : List ℕ} {a : Aim} {w : Walk} {k : ℕ} {r : Read} {x : ℕ} 
           dimension = λ z. absurd (omega arith);
         }
 
-    pub array_walks : {y : Walk} → y ≡ step_of img a w s.span 0 after → WalksItem d img a w k y
+    pub array_walks : {y : Result Walk Refusal} → y ≡ step_of img a w s.span 0 after → WalksItem d img a w k y
     array_walks = stepped s.span 0 (array_comes d img a w k after ready (rw o.fields at five) s.span (span_wider ready.ready.deep m.span))
 
   -- A CHOICE
@@ -155,30 +157,23 @@ module _ {d img : List ℕ} {a : Aim} {w : Walk} {k : ℕ} {r : Read} {x : ℕ} 
           deep = omega (arith, h.ready.ready.deep);
           small = h.ready.ready.small;
           inside = h.ready.ready.inside;
-          going = h.ready.ready.going;
           slots = h.ready.ready.slots;
         };
         there = b.there;
         fit = b.fit;
       })
 
-  module _ {inner : Walk} (b : WalksBody d img a before c.items (k - 1) inner) where
-    walked : WalksBody d img a (elsewhere w from) chosen.items (k - 1) inner
-    walked = rw (g.goes, g.takes) at b
+  walked : {inner : Result Walk Refusal} → WalksBody d img a before c.items (k - 1) inner → WalksBody d img a (elsewhere w from) chosen.items (k - 1) inner
+  walked b = rw (g.goes, g.takes) at b
 
-    pub choice_stops : inner.short ≡ true → WalksItem d img a w k inner
-    choice_stops e =
-        record {
-          walked = b.walked;
-          moved = λ z. absurd (true≢false (sym e ∙ z));
-          ends = choice_inside d img a w k after h.ready g.choice from inner starts walked;
-        }
+  pub choice_stops : {x : Refusal} → WalksBody d img a before c.items (k - 1) (Err x) → WalksItem d img a w k (Err x)
+  choice_stops {x} b =
+      record { walked = tt; moved = tt; ends = choice_inside d img a w k after h.ready g.choice from starts (Err x) (walked b) }
 
-    pub choice_walks : {y : Walk} → inner.short ≡ false → y ≡ elsewhere inner after → WalksItem d img a w k y
-    choice_walks e y =
-        rw y
-        (record {
-          walked = record { inside = b.walked.inside; slots = b.walked.slots };
-          moved = λ z. h.item.past;
-          ends = choice_comes d img a w k after h.ready g.choice from inner starts walked e;
-        })
+  pub choice_walks : {inner : Walk} → WalksBody d img a before c.items (k - 1) (Ok inner) → WalksItem d img a w k (Ok (elsewhere inner after))
+  choice_walks {inner} b =
+      record {
+        walked = record { inside = b.walked.inside; slots = b.walked.slots };
+        moved = h.item.past;
+        ends = choice_comes d img a w k after h.ready g.choice from starts inner (walked b);
+      }

@@ -1,7 +1,8 @@
 -- The walk over a table goes as laying out does: over a piece, through the body that a choice takes, and from item to item of a body. Assumes nothing.
+use Rattle.std.specs.Prelude.{Result, Ok}
 use Prim.Native.Nat.{ℕ, zero, suc, ◌+◌, ◌-◌, ◌<◌, ◌≤◌, min, max}
 use mathlib.Core.Path.{◌≡◌, refl, ◌∙◌, ap, sym, subst, fun_ext}
-use mathlib.Core.Bool.{Bool, true, false, cond, ◌&&◌, ◌||◌, true≢false}
+use mathlib.Core.Bool.{Bool, true, false, cond, ◌&&◌, ◌||◌}
 use mathlib.Core.List.{List, [], ◌∷◌}
 use lib.Dec.{eqb, ltb}
 use lib.ListN.{length, get_or, set}
@@ -11,6 +12,7 @@ use native.Mathlib.Omega.{arith}
 use Rattle.meaning.specs.Basics.{◌<?◌}
 use Rattle.meaning.specs.declared.Fields.{Fields}
 use Rattle.meaning.specs.declared.Inner.{Inner}
+use Rattle.meaning.specs.declared.Refusal.{Refusal}
 use Rattle.meaning.specs.Description.{fields_at, is_choice, nests, nested}
 use Rattle.meaning.specs.Layout.{Node, branches_of, taken, body_in, body_at, Slots, holds, set_slot, number_at, Placed, fault, short}
 use Rattle.meaning.specs.Layout.{Laid, laid, stopped, in_image, placed, lay_body, lay_node, Numbers, value, number_of, slot_numbers}
@@ -73,13 +75,12 @@ module _ (img : List ℕ) (a : Aim) (w : Walk) (piece : Span) (k : ℕ) (next : 
       → Ends a before w.held (step_of img a w piece k next) (onward (place a w) r) (in_image false (length img) j (place a w) (laid ps t (place a w + n)))
   unfolding in_image
   piece_ends j ps t e numbers dims =
-      step_case img a w piece k next (λ (x : Walk). Ends a before w.held x (onward (place a w) r) (in_image false (length img) j (place a w) (laid ps t (place a w + n))))
+      step_case img a w piece k next (λ (x : Result Walk Refusal). Ends a before w.held x (onward (place a w) r) (in_image false (length img) j (place a w) (laid ps t (place a w + n))))
       (λ le.
       let z : piece.size ≡ n = omega (arith, said.size_is) in
       let c : cut w.octets.0 ≡ w.octets.0 = omega arith in
       rw (le-leb (place a w + n) (length img) (omega arith))
       (record {
-        going = refl;
         here = omega arith;
         numbers = rw z numbers;
         holds = ap (λ (x : Bool). w.held || x) (rw z (sym (dims (a.start.0 + a.from.0) a.octets ∙ shifted a.start.0 k w.octets.0 n a.from.0 a.octets)));
@@ -92,7 +93,7 @@ module _ (img : List ℕ) (a : Aim) (w : Walk) (piece : Span) (k : ℕ) (next : 
       }))
       (λ lt.
       let l : length img < place a w + n = omega (arith, said.size_is) in
-      rw (lt-leb (place a w + n) (length img) l) (refl, e, refl))
+      rw (lt-leb (place a w + n) (length img) l, e))
 
 -- elements that set no slot hold no octet of a dimension
 unset_free : (ps : List Placed) (p n : ℕ) → Every (λ e. e.slot ≡ 0) ps → any_dimension ps p n ≡ false
@@ -100,12 +101,11 @@ unfolding any_dimension Every
 unset_free [] p n h = refl
 unset_free (e ∷ es) p n h = rw h.0 (unset_free es p n h.1)
 
--- PAST A CHOICE, a walk through its body that isn't short goes on
-past_ends : (a : Aim) (before : def.Row) (held : Bool) (r : Walk) (R : def.Row) (next : Cursor) (o : Laid) → r.short ≡ false → Ends a before held r R o
-    → Ends a before held (elsewhere r next) R o
-past_ends a before held r R next (laid ps s q) e h = record { going = e; here = h.here; numbers = h.numbers; holds = h.holds; row_is = h.row_is }
-past_ends a before held r R next (stopped ps (fault x i)) e h = tt
-past_ends a before held r R next (stopped ps (short i p)) e h = absurd (true≢false (sym h.0 ∙ e))
+-- PAST A CHOICE, a walk through its body goes on
+past_ends : (a : Aim) (before : def.Row) (held : Bool) (r : Walk) (R : def.Row) (next : Cursor) (o : Laid) → Ends a before held (Ok r) R o → Ends a before held (Ok (elsewhere r next)) R o
+past_ends a before held r R next (laid ps s q) h = record { here = h.here; numbers = h.numbers; holds = h.holds; row_is = h.row_is }
+past_ends a before held r R next (stopped ps (fault x i)) h = tt
+past_ends a before held r R next (stopped ps (short i p)) h = absurd h
 
 -- ITEMS, at a walk's place
 module _ (d img : List ℕ) (a : Aim) (w : Walk) (depth : ℕ) (next : Cursor) (ready : WalkItemReady d img a w depth) where
@@ -119,7 +119,7 @@ module _ (d img : List ℕ) (a : Aim) (w : Walk) (depth : ℕ) (next : Cursor) (
   t = node_in depth d at
 
   -- what the walk comes to over this item is r
-  abbrev pub Comes : Walk → Type 0
+  abbrev pub Comes : Result Walk Refusal → Type 0
   Comes r = (s : Slots) (κ : Known) (free : Bool) (before : def.Row) → From s κ w before → SoundNode free κ t
       → Ends a before w.held r (walk_node t img s (place a w) a.wanted) (lay_node t img false s (place a w))
 
@@ -165,17 +165,17 @@ module _ (d img : List ℕ) (a : Aim) (w : Walk) (depth : ℕ) (next : Cursor) (
       rises = rises_at d depth 0 at (nested f) at (at + 1 + nested f) (omega (arith, ready.ready.deep)) (omega (arith, ready.there))
 
   -- A CHOICE, by the body that it takes
-  module _ (choice : is_choice f ≡ true) (from : Cursor) (inner : Walk) where
+  module _ (choice : is_choice f ≡ true) (from : Cursor) where
     abbrev x : ℕ
     x = value (numbers_in w.numbers) f
 
     abbrev c : Inner
     c = taken (branches_of d at) x
 
-    module _ (starts : from.at ≡ at + 1 + c.skip) (h : WalksBody d img a (elsewhere w from) c.items (depth - 1) inner) where
-      pub choice_inside : Comes inner
+    module _ (starts : from.at ≡ at + 1 + c.skip) where
+      pub choice_inside : (inner : Result Walk Refusal) → WalksBody d img a (elsewhere w from) c.items (depth - 1) inner → Comes inner
       unfolding FitNode SoundNode walk_node lay_node
-      choice_inside s κ free before fr sound =
+      choice_inside inner h s κ free before fr sound =
           let arms = branches_of d at in
           let below = inner_at depth d in
           let body = body_at (depth - 1) d (at + 1 + c.skip) c.items in
@@ -189,7 +189,6 @@ module _ (d img : List ℕ) (a : Aim) (w : Walk) (depth : ℕ) (next : Cursor) (
           rw (node, taken_walk below at y arms img s (place a w) a.wanted, value_is s κ f at _ fr.matches h'.0, taken_lay below at y arms img false s (place a w), v, is)
           (rw starts at ends)
 
-      pub choice_comes : inner.short ≡ false → Comes (elsewhere inner next)
-      choice_comes e s κ free before fr sound =
-          past_ends a before w.held inner (walk_node t img s (place a w) a.wanted) next (lay_node t img false s (place a w)) e
-          (choice_inside s κ free before fr sound)
+      pub choice_comes : (inner : Walk) → WalksBody d img a (elsewhere w from) c.items (depth - 1) (Ok inner) → Comes (Ok (elsewhere inner next))
+      choice_comes inner h s κ free before fr sound =
+          past_ends a before w.held inner (walk_node t img s (place a w) a.wanted) next (lay_node t img false s (place a w)) (choice_inside (Ok inner) h s κ free before fr sound)

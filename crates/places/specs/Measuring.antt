@@ -1,5 +1,5 @@
 -- WHAT THE FUNCTIONS THAT MEASURE PROMISE, by sizes and rows. Assumes nothing.
-use Rattle.std.specs.Prelude.{ℕ, ◌+◌, ◌-◌, ◌*◌, ◌≤◌, ◌≡◌, List, length, get_or, if◌then◌else◌}
+use Rattle.std.specs.Prelude.{ℕ, ◌+◌, ◌-◌, ◌*◌, ◌≤◌, ◌≡◌, List, Some, None, length, get_or, if◌then◌else◌}
 use Rattle.meaning.specs.Basics.{◌=?◌}
 use Rattle.meaning.specs.declared.Fields.{Fields}
 use Rattle.meaning.specs.declared.Inner.{Inner}
@@ -12,7 +12,6 @@ use Rattle.laying.specs.Sound.{FitBody, FitNode}
 use Rattle.laying.specs.Tree.{node_at}
 use Rattle.places.specs.declared.measure.Sized.{Sized}
 use Rattle.places.specs.declared.measure.Span.{Span}
-use Rattle.places.specs.declared.rows.Stands.TheVariants.{Nowhere, There}
 use Rattle.places.specs.Rows.{cut, RowAs, alone, first_of, onward_by, with_array}
 
 -- the numbers of the slots, as the code has them
@@ -24,7 +23,7 @@ unfoldable pub inner_of : (description : List ℕ) → Fields → (first value :
 inner_of d f first x = if is_array f then only_body f else taken (branches_in d f first) x
 
 unfoldable pub leaf_span : Fields → (value at i : ℕ) → Span
-leaf_span f x at i = record { size = cut (leaf_octets f x); row = alone (if at =? i then There 0 (leaf_octets f x) else Nowhere) }
+leaf_span f x at i = record { size = cut (leaf_octets f x); row = alone (if at =? i then Some (record { first = 0; length = leaf_octets f x }) else None) }
 
 abbrev pub joined : Span → Span → Span
 joined a b = record { size = cut (a.size + b.size); row = first_of a.row (onward_by a.size b.row) }

@@ -1,22 +1,17 @@
 -- WHAT THE PUBLIC CALLS TELL of an image that is opened. Assumes nothing.
-use Rattle.std.specs.Prelude.{ℕ, ◌+◌, min, Bool, List, if◌then◌else◌}
+use Rattle.std.specs.Prelude.{ℕ, ◌+◌, min, Bool, List, Some, None, Ok, Err, if◌then◌else◌}
 use Rattle.std.proofs.Math.Option.{Option, some, none}
 use Rattle.meaning.specs.declared.ElementName.{ElementName}
 use Rattle.meaning.specs.declared.Place.{Place}
 use Rattle.meaning.specs.declared.Refusal.{Refusal}
-use Rattle.meaning.specs.declared.Verdict.{Verdict}
 use Rattle.meaning.specs.Layout.{Seat, Placed, table_named}
 use Rattle.meaning.specs.Numbers.{no_table}
 use Rattle.meaning.specs.Refusals.{Opened, opened, refused}
 use Rattle.laying.specs.Rows.{Spot, spot, absent}
 use Rattle.offsets.specs.declared.TableOffset.{TableOffset}
-use Rattle.places.specs.declared.ElementFound.{ElementFound}
-use Rattle.places.specs.declared.ElementFound.TheVariants.{Missing, Here}
-use Rattle.places.specs.declared.Ranged.{Ranged}
 use Rattle.places.specs.declared.survey.Asked.{Asked}
 use Rattle.places.specs.declared.survey.Standing.{Standing}
-use Rattle.places.specs.declared.survey.TableFound.{TableFound}
-use Rattle.places.specs.declared.survey.TableFound.TheVariants.{No, Yes}
+use Rattle.places.specs.Found.{FoundTable, FoundElement, FoundRange}
 use Rattle.places.specs.Rows.{spot_by}
 use Rattle.places.specs.Surveying.{held_in}
 
@@ -32,35 +27,30 @@ nothing_asked = record {
 
 -- WHERE AN ELEMENT IS, by its item's row
 -- found at a spot of the table that starts at p; a sum that can't be counted stands at the last number
-unfoldable pub spot_found : (p : ℕ) → Spot → ElementFound
-spot_found p (spot o n) = Here (record { 0 = min (p + o) 18446744073709551615 }) n
-spot_found p absent = Missing
+unfoldable pub spot_found : (p : ℕ) → Spot → FoundElement
+spot_found p (spot o n) = Some (record { start = record { 0 = min (p + o) 18446744073709551615 }; length = n })
+spot_found p absent = None
 
 -- if it suits what is asked
-unfoldable pub found_by : (suits : Bool) → Standing → ElementName → ElementFound
-found_by b e q = if b then spot_found e.start.0 (spot_by e.row q) else Missing
+unfoldable pub found_by : (suits : Bool) → Standing → ElementName → FoundElement
+found_by b e q = if b then spot_found e.start.0 (spot_by e.row q) else None
 
 -- its place, or why there is none
-unfoldable pub place_or : (why : Refusal) → ElementFound → Place
-place_or why (Here p n) = Place.At p n
-place_or why Missing = Place.Refused why
+unfoldable pub place_or : (why : Refusal) → FoundElement → Place
+place_or why (Some e) = Place.At e.start e.length
+place_or why None = Place.Refused why
 
 -- WHERE A TABLE IS
--- the verdict's refusal, or else the place given
-unfoldable pub refusal_or : Verdict → Place → Place
-refusal_or Verdict.Passed p = p
-refusal_or (Verdict.Refused r) p = Place.Refused r
-
 -- where the table found is, or none
-unfoldable pub found_place : TableFound → Place
-found_place No = Place.Refused no_table
-found_place (Yes i s n) = Place.At (record { 0 = s.0 }) n
+unfoldable pub found_place : FoundTable → Place
+found_place None = Place.Refused no_table
+found_place (Some t) = Place.At (record { 0 = t.start.0 }) t.length
 
 -- A RANGE: the table that it may lie in, and whether it lies in it and holds an octet of a dimension
-unfoldable pub range_of : (o n : ℕ) → Option Seat → List Placed → Ranged
-range_of o n none es = Ranged.Refused no_table
-range_of o n (some t) es = Ranged.In t.item (record { 0 = t.start }) t.size (held_in o n (some t) es)
+unfoldable pub range_of : (o n : ℕ) → Option Seat → List Placed → FoundRange
+range_of o n none es = Err no_table
+range_of o n (some t) es = Ok (record { item = t.item; start = record { 0 = t.start }; length = t.size; held = held_in o n (some t) es })
 
-unfoldable pub range_in : (manufacturer number : ℕ) → TableOffset → (n : ℕ) → Opened → Ranged
+unfoldable pub range_in : (manufacturer number : ℕ) → TableOffset → (n : ℕ) → Opened → FoundRange
 range_in m k o n (opened ts es s l) = range_of o.0 n (table_named m k ts) es
-range_in m k o n (refused r) = Ranged.Refused r
+range_in m k o n (refused r) = Err r

@@ -1,31 +1,29 @@
 -- ROWS AS THE CODE HAS THEM: four places for the ARRAYs round an element and their number, offsets and strides cut at 65,536. Assumes nothing.
-use Rattle.std.specs.Prelude.{ℕ, zero, suc, ◌+◌, ◌*◌, ◌≤◌, min, ◌≡◌, true, false, List, [], ◌∷◌, length, get_or, replicate, take, if◌then◌else◌}
+use Rattle.std.specs.Prelude.{ℕ, ◌+◌, ◌*◌, ◌≤◌, min, ◌≡◌, List, [], ◌∷◌, map, Option, Some, None, length, get_or, replicate, take, if◌then◌else◌}
 use Rattle.laying.specs.Rows.{Array, row, no_row, Spot, spot, absent}
 use Rattle.laying.specs.Rows as def
 use Rattle.places.specs.declared.rows.Arrays.{Arrays}
 use Rattle.meaning.specs.Basics.{◌=?◌, ◌<?◌}
 use Rattle.meaning.specs.declared.ElementName.{ElementName}
-use Rattle.places.specs.declared.rows.Reach.{Reach}
+use Rattle.places.specs.declared.rows.Extent.{Extent}
+use Rattle.places.specs.declared.rows.Level.{Level}
 use Rattle.places.specs.declared.rows.Row.{Row}
-use Rattle.places.specs.declared.rows.Stands.{Stands}
-use Rattle.places.specs.declared.rows.Stands.TheVariants.{Nowhere, There}
 
 -- a size, cut past every image
 abbrev pub cut : ℕ → ℕ
 cut n = min n 65536
 
--- so many counts with their strides, from place j on
-unfoldable pub levels : (j depth : ℕ) → (counts strides : List ℕ) → List Array
-levels j zero cs ws = []
-levels j (suc k) cs ws = record { count = get_or cs j 0; stride = get_or ws j 0 } ∷ levels (j + 1) k cs ws
+-- an ARRAY as the code has it
+abbrev pub array_of : Level → Array
+array_of l = record { count = l.count; stride = l.stride }
 
 abbrev pub arrays_of : Arrays → List Array
-arrays_of a = levels 0 a.depth a.counts a.strides
+arrays_of a = map array_of (take a.depth a.levels)
 
 -- what a row of the code says
-unfoldable pub saying : Stands → List Array → def.Row
-saying Nowhere rest = no_row
-saying (There p n) rest = row p n rest
+unfoldable pub saying : Option Extent → List Array → def.Row
+saying None rest = no_row
+saying (Some e) rest = row e.first e.length rest
 
 abbrev pub said : Row → def.Row
 said c = saying c.stands (arrays_of c.arrays)
@@ -42,8 +40,7 @@ cut_row no_row = no_row
 -- at most so many ARRAYs, in four places
 pub record Few (k : ℕ) (a : Arrays) : Type 0 where
   pub depth : a.depth ≤ k
-  pub counts : length a.counts ≡ 4
-  pub strides : length a.strides ≡ 4
+  pub levels : length a.levels ≡ 4
 
 -- the code's row says r, cut
 pub record RowAs (k : ℕ) (c : Row) (r : def.Row) : Type 0 where
@@ -51,19 +48,22 @@ pub record RowAs (k : ℕ) (c : Row) (r : def.Row) : Type 0 where
   pub few : Few k c.arrays
 
 -- WHAT THE FUNCTIONS ON ROWS GIVE
-abbrev pub alone : Stands → Row
-alone x = record { stands = x; arrays = record { depth = 0; counts = replicate 4 0; strides = replicate 4 0 } }
+abbrev pub no_level : Level
+no_level = record { count = 0; stride = 0 }
 
-unfoldable pub first_by : {A : Type 0} → Stands → A → A → A
-first_by Nowhere a b = b
-first_by (There p n) a b = a
+abbrev pub alone : Option Extent → Row
+alone x = record { stands = x; arrays = record { depth = 0; levels = replicate 4 no_level } }
+
+unfoldable pub first_by : {A : Type 0} → Option Extent → A → A → A
+first_by None a b = b
+first_by (Some e) a b = a
 
 abbrev pub first_of : Row → Row → Row
 first_of a b = first_by a.stands a b
 
-unfoldable pub moved_by : (by : ℕ) → Stands → Stands
-moved_by k Nowhere = Nowhere
-moved_by k (There p n) = There (cut (cut k + cut p)) n
+unfoldable pub moved_by : (by : ℕ) → Option Extent → Option Extent
+moved_by k None = None
+moved_by k (Some e) = Some (record { first = cut (cut k + cut e.first); length = e.length })
 
 abbrev pub onward_by : (by : ℕ) → Row → Row
 onward_by k c = record { stands = moved_by k c.stands; arrays = c.arrays }
@@ -73,31 +73,28 @@ with_array c w r = record {
   stands = r.stands;
   arrays = record {
     depth = r.arrays.depth + 1;
-    counts = c ∷ get_or r.arrays.counts 0 0 ∷ get_or r.arrays.counts 1 0 ∷ get_or r.arrays.counts 2 0 ∷ [];
-    strides = w ∷ get_or r.arrays.strides 0 0 ∷ get_or r.arrays.strides 1 0 ∷ get_or r.arrays.strides 2 0 ∷ [];
+    levels = record { count = c; stride = w } ∷ get_or r.arrays.levels 0 no_level ∷ get_or r.arrays.levels 1 no_level ∷ get_or r.arrays.levels 2 no_level ∷ [];
   };
 }
 
 -- WHERE AN ELEMENT IS, by the code's row: as `spot_in`, with every sum cut
-abbrev pub not_reached : Reach
-not_reached = record { found = false; octet = 0 }
+unfoldable pub reach_in : (octet : ℕ) → List Array → (subscripts : List ℕ) → Option ℕ
+reach_in p [] [] = Some p
+reach_in p [] (x ∷ xs) = None
+reach_in p (a ∷ rest) [] = None
+reach_in p (a ∷ rest) (x ∷ xs) = if x <? a.count then reach_in (cut (p + cut (x * a.stride))) rest xs else None
 
-unfoldable pub reach_in : (octet : ℕ) → List Array → (subscripts : List ℕ) → Reach
-reach_in p [] [] = record { found = true; octet = p }
-reach_in p [] (x ∷ xs) = not_reached
-reach_in p (a ∷ rest) [] = not_reached
-reach_in p (a ∷ rest) (x ∷ xs) = if x <? a.count then reach_in (cut (p + cut (x * a.stride))) rest xs else not_reached
-
-unfoldable pub reached_by : (first : ℕ) → Arrays → ElementName → Reach
-reached_by p a q = if q.count =? a.depth then reach_in (cut p) (arrays_of a) (take q.count q.subscripts) else not_reached
+unfoldable pub reached_by : (first : ℕ) → Arrays → ElementName → Option ℕ
+reached_by p a q = if q.count =? a.depth then reach_in (cut p) (arrays_of a) (take q.count q.subscripts) else None
 
 -- the place of an element of that length, where it is reached
-unfoldable pub spot_at : Reach → (length : ℕ) → Spot
-spot_at r n = if r.found then spot r.octet n else absent
+unfoldable pub spot_at : (octet : Option ℕ) → (length : ℕ) → Spot
+spot_at (Some p) n = spot p n
+spot_at None n = absent
 
-unfoldable pub spot_from : Stands → Arrays → ElementName → Spot
-spot_from Nowhere a q = absent
-spot_from (There p n) a q = spot_at (reached_by p a q) n
+unfoldable pub spot_from : Option Extent → Arrays → ElementName → Spot
+spot_from None a q = absent
+spot_from (Some e) a q = spot_at (reached_by e.first a q) e.length
 
 unfoldable pub spot_by : Row → ElementName → Spot
 spot_by c q = spot_from c.stands c.arrays q

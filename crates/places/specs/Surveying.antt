@@ -1,46 +1,41 @@
 -- THE WHOLE IMAGE: what laying the tables one after another promises, by what laying out comes to. Assumes nothing.
-use Rattle.std.specs.Prelude.{ℕ, ◌+◌, ◌-◌, ◌<◌, ◌≤◌, min, ◌≡◌, Bool, false, ◌&&◌, List, ◌++◌, length, replicate, if◌then◌else◌}
+use Rattle.std.specs.Prelude.{ℕ, ◌+◌, ◌-◌, ◌<◌, ◌≤◌, ◌≡◌, Bool, false, ◌&&◌, Some, None, Result, Ok, Err, List, ◌++◌, length, if◌then◌else◌}
 use Rattle.std.proofs.Math.Option.{Option, some, none}
 use Rattle.meaning.specs.Basics.{◌=?◌, ◌≤?◌}
 use Rattle.meaning.specs.declared.Fields.{Fields}
 use Rattle.meaning.specs.declared.Refusal.{Refusal}
-use Rattle.meaning.specs.declared.Verdict.{Verdict}
 use Rattle.meaning.specs.Description.{item_count}
 use Rattle.meaning.specs.Passed.{Passes}
 use Rattle.meaning.specs.Layout.{Placed, Seat, Slots, Layout, laid_out, stopped_at, lay_tables, lay_out, tables_of, table_named, slot_numbers}
-use Rattle.meaning.specs.Numbers.{image_short}
 use Rattle.meaning.specs.Refusals.{Opened, opened, refused, open_laid, any_dimension}
 use Rattle.laying.specs.Every.{Every}
 use Rattle.laying.specs.Rows.{first_row, onward, walk_tables, row_of}
 use Rattle.laying.specs.Rows as def
 use Rattle.laying.specs.Slots.{Matches}
 use Rattle.laying.specs.Sound.{Known, SoundTables}
-use Rattle.offsets.specs.declared.TableStart.{TableStart}
-use Rattle.places.specs.declared.rows.Stands.TheVariants.{Nowhere}
 use Rattle.places.specs.declared.survey.Answer.{Answer}
 use Rattle.places.specs.declared.survey.Asked.{Asked}
 use Rattle.places.specs.declared.survey.Standing.{Standing}
 use Rattle.places.specs.declared.survey.Survey.{Survey}
-use Rattle.places.specs.declared.survey.TableFound.{TableFound}
-use Rattle.places.specs.declared.survey.TableFound.TheVariants.{No, Yes}
 use Rattle.places.specs.declared.survey.TableName.{TableName}
-use Rattle.places.specs.declared.walk.Walk.{Walk}
+use Rattle.places.specs.declared.survey.TableSpot.{TableSpot}
+use Rattle.places.specs.Found.{FoundTable}
 use Rattle.places.specs.Measuring.{numbers_in}
-use Rattle.places.specs.Rows.{RowAs, alone, first_by}
+use Rattle.places.specs.Rows.{RowAs, first_by}
 
 -- WHAT IS FOUND
 -- a table found: its item, where it starts, how long it is
-unfoldable pub table_found : Option Seat → TableFound
-table_found none = No
-table_found (some t) = Yes t.item (record { 0 = t.start }) t.size
+unfoldable pub table_found : Option Seat → FoundTable
+table_found none = None
+table_found (some t) = Some (record { item = t.item; start = record { 0 = t.start }; length = t.size })
 
 -- a table is the one of that name, and none was found before
-unfoldable pub is_first : TableFound → Fields → TableName → Bool
-is_first No h n = h.manufacturer =? n.manufacturer && h.number =? n.number
-is_first (Yes i s l) h n = false
+unfoldable pub is_first : FoundTable → Fields → TableName → Bool
+is_first None h n = h.manufacturer =? n.manufacturer && h.number =? n.number
+is_first (Some t) h n = false
 
-unfoldable pub seat_in : (before : TableFound) → (this : Bool) → (item : ℕ) → TableStart → (length : ℕ) → TableFound
-seat_in before this i s n = if this then Yes i s n else before
+unfoldable pub seat_in : (before : FoundTable) → (this : Bool) → TableSpot → FoundTable
+seat_in before this t = if this then Some t else before
 
 abbrev pub first_standing : Standing → Standing → Standing
 first_standing a b = first_by a.row.stands a b
@@ -52,12 +47,6 @@ held_in o n (some t) es = o + n ≤? t.size && any_dimension es (t.start + o) n
 
 unfoldable pub held_after : (before this fits held : Bool) → Bool
 held_after before this fits held = if this then fits && held else before
-
--- whether the walk over the table at p came to its end
-unfoldable pub verdict_of : (p : ℕ) → Walk → Verdict
-verdict_of p w =
-    if w.short then Verdict.Refused (image_short w.next.at (min (p + w.octets.0) 18446744073709551615))
-    else Verdict.Passed
 
 -- a row of the image, in the table where it stands
 pub record StandsAs (e : Standing) (r : def.Row) : Type 0 where
@@ -103,13 +92,12 @@ pub record TableReady (d img : List ℕ) (q : Asked) (s : Survey) : Type 0 where
   pub more : s.next.at < item_count d
 
 -- one table more, or the refusal that laying out comes to
-pub record TableAs (d img : List ℕ) (q : Asked) (s : Survey) (r : Survey) : Type 0 where
-  pub passed : r.verdict ≡ Verdict.Passed → Surveyed d img q r × (s.next.at < r.next.at)
-  pub stopped : (x : Refusal) → r.verdict ≡ Verdict.Refused x → open_laid (lay_out d img) ≡ refused x
+abbrev pub TableAs : (description image : List ℕ) → Asked → Survey → Result Survey Refusal → Type 0
+TableAs d img q s (Ok r) = Surveyed d img q r × (s.next.at < r.next.at)
+TableAs d img q s (Err x) = open_laid (lay_out d img) ≡ refused x
 
 -- THE ANSWER
 pub record Answers (d img : List ℕ) (q : Asked) (a : Answer) (ts : List Seat) (es : List Placed) (s : Slots) (n : ℕ) : Type 0 where
-  pub passed : a.verdict ≡ Verdict.Passed
   pub total : a.total ≡ n
   pub numbers : slot_numbers s ≡ numbers_in a.numbers
   pub first : a.first ≡ table_found (table_named q.first.manufacturer q.first.number ts)
@@ -117,18 +105,8 @@ pub record Answers (d img : List ℕ) (q : Asked) (a : Answer) (ts : List Seat) 
   pub element : StandsAs a.element (row_of d img q.item)
   pub held : a.held ≡ held_in q.from.0 q.octets (table_named q.first.manufacturer q.first.number ts) es
 
-abbrev pub refused_by : Refusal → Answer
-refused_by r = record {
-  verdict = Verdict.Refused r;
-  total = 0;
-  numbers = replicate 64 0;
-  first = No;
-  second = No;
-  element = record { start = record { 0 = 0 }; row = alone Nowhere };
-  held = false;
-}
-
 -- of an image opened, or refused
-abbrev pub AnswerAs : (description image : List ℕ) → Asked → Answer → Opened → Type 0
-AnswerAs d img q a (opened ts es s n) = Answers d img q a ts es s n
-AnswerAs d img q a (refused r) = a ≡ refused_by r
+abbrev pub AnswerAs : (description image : List ℕ) → Asked → Result Answer Refusal → Opened → Type 0
+AnswerAs d img q (Ok a) (opened ts es s n) = Answers d img q a ts es s n
+AnswerAs d img q (Ok a) (refused r) = ⊥
+AnswerAs d img q (Err x) o = o ≡ refused x

@@ -1,9 +1,11 @@
 -- THE WALK OVER A TABLE: what its functions promise, by what laying out comes to. Assumes nothing.
-use Rattle.std.specs.Prelude.{ℕ, ◌+◌, ◌-◌, ◌<◌, ◌≤◌, min, max, ◌≡◌, Bool, true, false, ◌&&◌, ◌||◌, List, length, set, if◌then◌else◌}
+use Rattle.std.specs.Prelude.{ℕ, ◌+◌, ◌-◌, ◌<◌, ◌≤◌, min, max, ◌≡◌, Bool, false, ◌&&◌, ◌||◌, List, Result, Ok, Err, IfOk, length, set, if◌then◌else◌}
 use Rattle.meaning.specs.Basics.{◌=?◌, ◌≤?◌, ◌<?◌}
 use Rattle.meaning.specs.Description.{item_count, fields_at, nested}
 use Rattle.meaning.specs.Layout.{Slots, Placed, fault, short, Laid, laid, stopped, lay_body, lay_node, number_at, body_at, slot_numbers}
+use Rattle.meaning.specs.Numbers.{image_short}
 use Rattle.meaning.specs.Refusals.{any_dimension}
+use Rattle.meaning.specs.declared.Refusal.{Refusal}
 use Rattle.items.specs.declared.Cursor.{Cursor}
 use Rattle.laying.specs.Rows.{first_row, onward, walk_body, walk_node}
 use Rattle.laying.specs.Rows as def
@@ -46,7 +48,7 @@ pub record StepReady (img : List ℕ) (a : Aim) (w : Walk) (piece : Span) (slot 
   pub slots : slot < 64
   pub dimension : 0 < slot → (0 < piece.size) × (piece.size ≤ 4)
 
--- past the piece, and at it where the image is short
+-- past the piece, or 9 at it where the image is short
 abbrev pub past_piece : (image : List ℕ) → Aim → Walk → Span → (slot : ℕ) → Cursor → Walk
 past_piece img a w piece k next = record {
   numbers = noted img w.numbers k (place a w) piece.size;
@@ -54,18 +56,17 @@ past_piece img a w piece k next = record {
   row = first_of w.row (onward_by w.octets.0 piece.row);
   held = w.held || dimension_at k w.octets.0 piece.size a.from.0 a.octets;
   next = next;
-  short = false;
 }
 
-abbrev pub short_here : Walk → Walk
-short_here w = record { numbers = w.numbers; octets = w.octets; row = w.row; held = w.held; next = w.next; short = true }
+abbrev pub short_here : Aim → Walk → Refusal
+short_here a w = image_short w.next.at (place a w)
 
-unfoldable pub step_of : (image : List ℕ) → Aim → Walk → Span → (slot : ℕ) → Cursor → Walk
-step_of img a w piece k next = if place a w + piece.size ≤? length img then past_piece img a w piece k next else short_here w
+unfoldable pub step_of : (image : List ℕ) → Aim → Walk → Span → (slot : ℕ) → Cursor → Result Walk Refusal
+step_of img a w piece k next = if place a w + piece.size ≤? length img then Ok (past_piece img a w piece k next) else Err (short_here a w)
 
 -- the same walk at another item
 abbrev pub elsewhere : Walk → Cursor → Walk
-elsewhere w next = record { numbers = w.numbers; octets = w.octets; row = w.row; held = w.held; next = next; short = w.short }
+elsewhere w next = record { numbers = w.numbers; octets = w.octets; row = w.row; held = w.held; next = next }
 
 -- WHAT A WALK COMES TO
 -- a row of the table that starts at p: r counts its octets from the image's first, c from the table's, after what was found before
@@ -76,18 +77,20 @@ pub record RowFrom (p : ℕ) (before : def.Row) (c : Row) (r : def.Row) : Type 0
 
 -- elements ps laid, up to slots s and octet q
 pub record WalkEnds (a : Aim) (before : def.Row) (held : Bool) (r : Walk) (row : def.Row) (ps : List Placed) (s : Slots) (q : ℕ) : Type 0 where
-  pub going : r.short ≡ false
   pub here : place a r ≡ q
   pub numbers : slot_numbers s ≡ numbers_in r.numbers
   pub holds : r.held ≡ (held || any_dimension ps (a.start.0 + a.from.0) a.octets)
   pub row_is : RowFrom a.start.0 before r.row row
 
 -- from a walk that had found `before` and `held`, r stands where laying out ends, with its slots, and has found what is asked for in its elements, of which
--- `row` is the row; or at the item and octet that are short. Of what a passed description never meets it says nothing
-abbrev pub Ends : Aim → (before : def.Row) → (held : Bool) → Walk → (row : def.Row) → Laid → Type 0
-Ends a before held r x (laid ps s q) = WalkEnds a before held r x ps s q
-Ends a before held r x (stopped ps (fault y i)) = Unit {0}
-Ends a before held r x (stopped ps (short i p)) = (r.short ≡ true) × (r.next.at ≡ i) × (place a r ≡ p)
+-- `row` is the row; or refuses by 9 at the item and octet that are short. Of what a passed description never meets it says nothing
+abbrev pub Ends : Aim → (before : def.Row) → (held : Bool) → Result Walk Refusal → (row : def.Row) → Laid → Type 0
+Ends a before held (Ok r) x (laid ps s q) = WalkEnds a before held r x ps s q
+Ends a before held (Ok r) x (stopped ps (fault y i)) = Unit {0}
+Ends a before held (Ok r) x (stopped ps (short i p)) = ⊥
+Ends a before held (Err e) x (laid ps s q) = ⊥
+Ends a before held (Err e) x (stopped ps (fault y i)) = Unit {0}
+Ends a before held (Err e) x (stopped ps (short i p)) = e ≡ image_short i p
 
 -- before a walk: the slots have their numbers, of dimensions of κ octets, and what was found is the row `before`
 pub record From (s : Slots) (κ : Known) (w : Walk) (before : def.Row) : Type 0 where
@@ -100,7 +103,6 @@ pub record WalkReady (d img : List ℕ) (a : Aim) (w : Walk) (depth : ℕ) : Typ
   pub deep : depth ≤ 4
   pub small : length img ≤ 65535
   pub inside : place a w ≤ length img
-  pub going : w.short ≡ false
   pub slots : length w.numbers ≡ 64
 
 -- over n items, as a body at most `depth` deep
@@ -119,14 +121,14 @@ pub record Walked (img : List ℕ) (a : Aim) (r : Walk) : Type 0 where
   pub inside : place a r ≤ length img
   pub slots : length r.numbers ≡ 64
 
-pub record WalksItem (d img : List ℕ) (a : Aim) (w : Walk) (depth : ℕ) (r : Walk) : Type 0 where
-  pub walked : Walked img a r
-  pub moved : r.short ≡ false → r.next.at ≡ w.next.at + 1 + nested (fields_at d w.next.at)
+pub record WalksItem (d img : List ℕ) (a : Aim) (w : Walk) (depth : ℕ) (r : Result Walk Refusal) : Type 0 where
+  pub walked : IfOk r (Walked img a)
+  pub moved : IfOk r (λ x. x.next.at ≡ w.next.at + 1 + nested (fields_at d w.next.at))
   pub ends : (s : Slots) (κ : Known) (free : Bool) (before : def.Row) → From s κ w before → SoundNode free κ (node_in depth d w.next.at)
       → Ends a before w.held r (walk_node (node_in depth d w.next.at) img s (place a w) a.wanted) (lay_node (node_in depth d w.next.at) img false s (place a w))
 
-pub record WalksBody (d img : List ℕ) (a : Aim) (w : Walk) (n depth : ℕ) (r : Walk) : Type 0 where
-  pub walked : Walked img a r
+pub record WalksBody (d img : List ℕ) (a : Aim) (w : Walk) (n depth : ℕ) (r : Result Walk Refusal) : Type 0 where
+  pub walked : IfOk r (Walked img a)
   pub ends : (s : Slots) (κ : Known) (free : Bool) (before : def.Row) → From s κ w before → SoundBody free κ (body_at depth d w.next.at n)
       → Ends a before w.held r (walk_body (body_at depth d w.next.at n) img s (place a w) a.wanted) (lay_body (body_at depth d w.next.at n) img false s (place a w))
 
@@ -137,7 +139,7 @@ pub record Leads (d img : List ℕ) (a : Aim) (w : Walk) (n depth : ℕ) (x : Wa
   pub row : def.Row
   pub from : From slots known x row
   pub sound : SoundBody free known (body_at depth d x.next.at (w.next.at + n - x.next.at))
-  pub so : (r : Walk)
+  pub so : (r : Result Walk Refusal)
       → Ends a row x.held r (walk_body (body_at depth d x.next.at (w.next.at + n - x.next.at)) img slots (place a x) a.wanted)
       (lay_body (body_at depth d x.next.at (w.next.at + n - x.next.at)) img false slots (place a x))
       → Ends a before w.held r (walk_body (body_at depth d w.next.at n) img s (place a w) a.wanted) (lay_body (body_at depth d w.next.at n) img false s (place a w))

@@ -17,12 +17,12 @@ mod why;
 ghost use Rattle.std.specs.Prelude.{◌≡◌, length};
 ghost use Rattle.meaning.specs.Refusals.{layout_reply, table_place_reply, element_place_in, element_place_reply, integer_place_reply, open_image};
 ghost use Rattle.places.specs.Rows.{Few};
-ghost use Rattle.places.specs.Opening.{found_by, nothing_asked, refusal_or, found_place, range_in};
+ghost use Rattle.places.specs.Opening.{found_by, nothing_asked, found_place, range_in};
 
-use meaning::{ElementName, Place, Refusal, Reply, Verdict};
+use meaning::{ElementName, Place, Refusal, Reply};
 use offsets::{ImageOffset, TableOffset, TableStart};
-use rows::{Stands, reached};
-use survey::{Asked, Standing, TableFound, TableName, open_image};
+use rows::{Extent, reached};
+use survey::{Answer, Asked, Standing, TableName, TableSpot, open_image};
 use why::{suits, why_none};
 
 // Where two tables are.
@@ -33,76 +33,51 @@ pub struct Places {
 }
 
 // A table that a range may lie in: its item, where it starts, how long it is, and whether the range
-// lies in it and holds an octet of a dimension; or why there is none.
+// lies in it and holds an octet of a dimension.
 #[derive(Clone, Copy)]
-pub enum Ranged {
-    In {
-        item: usize,
-        start: TableStart,
-        length: usize,
-        held: bool,
-    },
-    Refused(Refusal),
+pub struct RangeTable {
+    pub item: usize,
+    pub start: TableStart,
+    pub length: usize,
+    pub held: bool,
 }
 
-// An element where it stands, or none.
+// Where an element is, and how long.
 #[derive(Clone, Copy)]
-pub enum ElementFound {
-    Missing,
-    Here { start: ImageOffset, length: usize },
+pub struct ElementSpot {
+    pub start: ImageOffset,
+    pub length: usize,
 }
 
 // Where the element of that name stands, by its item's row, if it suits what is asked.
-fn found_by(element: Standing, name: ElementName, suits: bool) -> ElementFound
+#[tactic(auto, unfolding(crate::specs::Opening::found_by, crate::specs::Opening::spot_found, crate::specs::Rows::spot_by, crate::specs::Rows::spot_from, crate::specs::Rows::spot_at))]
+fn found_by(element: Standing, name: ElementName, suits: bool) -> Option<ElementSpot>
     requires { Few 4 element.row.arrays }
     ensures { (result ≡ found_by suits element name) × (length name.subscripts ≡ 4) }
 {
-    let start = element.start;
-    let row = element.row;
-    let stands = row.stands;
-    let arrays = row.arrays;
     if !suits {
-        return ElementFound::Missing;
+        return None;
     }
-    match stands {
-        Stands::Nowhere => ElementFound::Missing,
-        Stands::There { first, length } => {
-            let at = reached(first, arrays, name);
-            if at.found {
-                return ElementFound::Here {
-                    start: start.in_image(TableOffset::new(at.octet)),
-                    length,
-                };
-            }
-            ElementFound::Missing
-        }
-    }
-}
-
-// The verdict's refusal, or else the place given.
-fn refusal_or(verdict: Verdict, place: Place) -> Place
-    ensures { result ≡ refusal_or verdict place }
-{
-    match verdict {
-        Verdict::Refused(r) => Place::Refused(r),
-        Verdict::Passed => place,
-    }
+    let Standing { start, row } = element;
+    let Extent { first, length } = row.stands?;
+    let octet = reached(first, row.arrays, name)?;
+    Some(ElementSpot {
+        start: start.in_image(TableOffset::new(octet)),
+        length,
+    })
 }
 
 // Where the table found is, or none.
-fn place_of_table(table: TableFound) -> Place
+#[tactic(auto, unfolding(crate::specs::Opening::found_place))]
+fn place_of_table(table: Option<TableSpot>) -> Place
     ensures { result ≡ found_place table }
 {
     match table {
-        TableFound::No => Place::Refused(Refusal::NO_TABLE),
-        TableFound::Yes {
-            item: _,
-            start,
-            length,
-        } => Place::At {
+        Some(TableSpot { start, length, .. }) => Place::At {
             start: start.in_image(TableOffset::new(0)),
             length,
         },
+        None => Place::Refused(Refusal::NO_TABLE),
     }
 }
 
@@ -127,30 +102,23 @@ fn nothing_asked() -> Asked
 fn place_or_why(description: &[u8], image: &[u8], name: ElementName, number: bool) -> Place
     ensures { result ≡ element_place_in number description.now name (open_image description.now image.now) }
 {
-    let nothing = nothing_asked();
-    let first = nothing.first;
-    let second = nothing.second;
-    let from = nothing.from;
     let asked = Asked {
-        first,
-        second,
         item: name.item,
-        from,
-        octets: 0,
+        ..nothing_asked()
     };
-    let answer = open_image(description, image, asked);
-    let verdict = answer.verdict;
-    let element = answer.element;
-    let numbers = answer.numbers;
-    let found = found_by(element, name, suits(description, name, number));
-    match verdict {
-        Verdict::Refused(r) => Place::Refused(r),
-        Verdict::Passed => match found {
-            ElementFound::Here { start, length } => Place::At { start, length },
-            ElementFound::Missing => {
-                Place::Refused(why_none(description, numbers, name, number))
+    match open_image(description, image, asked) {
+        Err(r) => Place::Refused(r),
+        Ok(answer) => {
+            let Answer {
+                numbers,
+                element,
+                ..
+            } = answer;
+            match found_by(element, name, suits(description, name, number)) {
+                Some(ElementSpot { start, length }) => Place::At { start, length },
+                None => Place::Refused(why_none(description, numbers, name, number)),
             }
-        },
+        }
     }
 }
 
@@ -159,11 +127,9 @@ fn place_or_why(description: &[u8], image: &[u8], name: ElementName, number: boo
 pub fn layout(description: &[u8], image: &[u8]) -> Reply
     ensures { result ≡ layout_reply description.now image.now }
 {
-    let answer = open_image(description, image, nothing_asked());
-    let verdict = answer.verdict;
-    match verdict {
-        Verdict::Refused(r) => Reply::Refused(r),
-        Verdict::Passed => Reply::Total(answer.total),
+    match open_image(description, image, nothing_asked()) {
+        Err(r) => Reply::Refused(r),
+        Ok(answer) => Reply::Total(answer.total),
     }
 }
 
@@ -178,8 +144,6 @@ pub fn table_places(
 ) -> Places
     ensures { (result.first ≡ table_place_reply description.now image.now manufacturer number) × (result.second ≡ table_place_reply description.now image.now other_manufacturer other_number) }
 {
-    let nothing = nothing_asked();
-    let from = nothing.from;
     let asked = Asked {
         first: TableName {
             manufacturer,
@@ -189,17 +153,17 @@ pub fn table_places(
             manufacturer: other_manufacturer,
             number: other_number,
         },
-        item: 0,
-        from,
-        octets: 0,
+        ..nothing_asked()
     };
-    let answer = open_image(description, image, asked);
-    let verdict = answer.verdict;
-    let one = answer.first;
-    let two = answer.second;
-    Places {
-        first: refusal_or(verdict, place_of_table(one)),
-        second: refusal_or(verdict, place_of_table(two)),
+    match open_image(description, image, asked) {
+        Err(r) => Places {
+            first: Place::Refused(r),
+            second: Place::Refused(r),
+        },
+        Ok(Answer { first, second, .. }) => Places {
+            first: place_of_table(first),
+            second: place_of_table(second),
+        },
     }
 }
 
@@ -240,38 +204,28 @@ pub fn range_in(
     number: u32,
     from: TableOffset,
     octets: usize,
-) -> Ranged
+) -> Result<RangeTable, Refusal>
     ensures { result ≡ range_in manufacturer number from octets (open_image description.now image.now) }
 {
-    let nothing = nothing_asked();
-    let second = nothing.second;
     let asked = Asked {
         first: TableName {
             manufacturer,
             number,
         },
-        second,
-        item: 0,
         from,
         octets,
+        ..nothing_asked()
     };
-    let answer = open_image(description, image, asked);
-    let verdict = answer.verdict;
-    let table = answer.first;
-    match verdict {
-        Verdict::Refused(r) => Ranged::Refused(r),
-        Verdict::Passed => match table {
-            TableFound::No => Ranged::Refused(Refusal::NO_TABLE),
-            TableFound::Yes {
-                item,
-                start,
-                length,
-            } => Ranged::In {
-                item,
-                start,
-                length,
-                held: answer.held,
-            },
-        },
-    }
+    let Answer { first, held, .. } = open_image(description, image, asked)?;
+    let TableSpot {
+        item,
+        start,
+        length,
+    } = first.ok_or(Refusal::NO_TABLE)?;
+    Ok(RangeTable {
+        item,
+        start,
+        length,
+        held,
+    })
 }

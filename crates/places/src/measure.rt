@@ -9,7 +9,7 @@ ghost use Rattle.meaning.specs.Ranges.{FieldsRange};
 ghost use Rattle.places.specs.Rows.{Few, alone};
 ghost use Rattle.places.specs.Measuring.{numbers_in, inner_of, leaf_span, joined, array_span, BodyReady, ItemReady, BodyAs, ItemAs};
 
-use crate::rows::{Row, Stands, alone, cut, first_row, in_array, onward};
+use crate::rows::{Extent, Row, alone, cut, first_row, in_array, onward};
 use basics::bit_range;
 use items::{Cursor, nests};
 use meaning::{Fields, Inner};
@@ -91,15 +91,15 @@ pub(crate) fn leaf_span(f: Fields, value: usize, at: usize, wanted: usize) -> Sp
     if at == wanted {
         return Span {
             size: cut(octets),
-            row: alone(Stands::There {
+            row: alone(Some(Extent {
                 first: 0,
                 length: octets,
-            }),
+            })),
         };
     }
     Span {
         size: cut(octets),
-        row: alone(Stands::Nowhere),
+        row: alone(None),
     }
 }
 
@@ -154,7 +154,7 @@ pub(crate) fn body_size(
     let mut place = from;
     let mut span = Span {
         size: 0,
-        row: alone(Stands::Nowhere),
+        row: alone(None),
     };
     while place.item() < end {
         let one = item_size(d, numbers, place, depth, wanted);

@@ -7,54 +7,58 @@ ghost use Rattle.places.specs.Rows.{cut, Few, alone, first_of, onward_by, with_a
 use basics::least;
 use meaning::ElementName;
 
-// The ARRAYs round an element, outside in: how many there are, and of each its count and stride.
-// Places past the depth mean nothing.
+// An ARRAY round an element: its count, and how far its elements stand apart.
+#[derive(Clone, Copy)]
+pub struct Level {
+    pub count: u32,
+    pub stride: u32,
+}
+
+// The ARRAYs round an element, outside in, and how many there are. Places past the depth mean nothing.
 #[derive(Clone, Copy)]
 pub struct Arrays {
     pub depth: usize,
-    pub counts: [u32; 4],
-    pub strides: [u32; 4],
+    pub levels: [Level; 4],
 }
 
-// Whether an element's item stands here, and where its first element does.
+// Where the first element of an item stands, and how long it is.
 #[derive(Clone, Copy)]
-pub enum Stands {
-    Nowhere,
-    There { first: usize, length: usize },
+pub struct Extent {
+    pub first: usize,
+    pub length: usize,
 }
 
-// What is found for an element's item, with the ARRAYs round it.
+// What is found for an element's item, with the ARRAYs round it; none if it doesn't stand here.
 #[derive(Clone, Copy)]
 pub struct Row {
-    pub stands: Stands,
+    pub stands: Option<Extent>,
     pub arrays: Arrays,
 }
 
 // A row with no ARRAYs.
-pub(crate) fn alone(stands: Stands) -> Row
+pub(crate) fn alone(stands: Option<Extent>) -> Row
     ensures { result ≡ alone stands }
 {
     Row {
         stands,
         arrays: Arrays {
             depth: 0,
-            counts: [0u32; 4],
-            strides: [0u32; 4],
+            levels: [Level {
+                count: 0,
+                stride: 0,
+            }; 4],
         },
     }
 }
 
 // The one of the two that is a row.
+#[tactic(auto, unfolding(crate::specs::Rows::first_by))]
 pub(crate) fn first_row(a: Row, b: Row) -> Row
     ensures { result ≡ first_of a b }
 {
-    let stands = a.stands;
-    match stands {
-        Stands::Nowhere => b,
-        Stands::There {
-            first: _,
-            length: _,
-        } => a,
+    match a.stands {
+        Some(_) => a,
+        None => b,
     }
 }
 
@@ -66,20 +70,19 @@ pub(crate) fn cut(size: usize) -> usize
 }
 
 // So many octets further on.
+#[tactic(auto, unfolding(crate::specs::Rows::moved_by))]
 pub(crate) fn onward(by: usize, row: Row) -> Row
     ensures { result ≡ onward_by by row }
 {
-    let stands = row.stands;
-    let arrays = row.arrays;
-    match stands {
-        Stands::Nowhere => row,
-        Stands::There { first, length } => Row {
-            stands: Stands::There {
+    match row.stands {
+        Some(Extent { first, length }) => Row {
+            stands: Some(Extent {
                 first: cut(cut(by) + cut(first)),
                 length,
-            },
-            arrays,
+            }),
+            ..row
         },
+        None => row,
     }
 }
 
@@ -88,54 +91,35 @@ pub(crate) fn in_array(count: usize, stride: usize, row: Row) -> Row
     requires { (count < 4294967296) × (stride ≤ 65536) × Few 3 row.arrays }
     ensures { result ≡ with_array count stride row }
 {
-    let stands = row.stands;
-    let inner = row.arrays;
-    let counts = inner.counts;
-    let strides = inner.strides;
+    let Arrays { depth, levels } = row.arrays;
+    let outer = Level {
+        count: count as u32,
+        stride: stride as u32,
+    };
     Row {
-        stands,
         arrays: Arrays {
-            depth: inner.depth + 1,
-            counts: [count as u32, counts[0], counts[1], counts[2]],
-            strides: [stride as u32, strides[0], strides[1], strides[2]],
+            depth: depth + 1,
+            levels: [outer, levels[0], levels[1], levels[2]],
         },
+        ..row
     }
 }
 
-// Whether an element of some subscripts stands there, and at which octet.
-#[derive(Clone, Copy)]
-pub struct Reach {
-    pub found: bool,
-    pub octet: usize,
-}
-
-// Where the element of these subscripts stands: one for each ARRAY, each below its count.
-pub(crate) fn reached(first: usize, arrays: Arrays, name: ElementName) -> Reach
+// Where the element of these subscripts stands: one for each ARRAY, each below its count; none if they are others.
+pub(crate) fn reached(first: usize, arrays: Arrays, name: ElementName) -> Option<usize>
     requires { Few 4 arrays × (length name.subscripts ≡ 4) }
     ensures { result ≡ reached_by first arrays name }
 {
-    let depth = arrays.depth;
-    let counts = arrays.counts;
-    let strides = arrays.strides;
-    let subscripts = name.subscripts;
+    let Arrays { depth, levels } = arrays;
     if name.count != depth {
-        return Reach {
-            found: false,
-            octet: 0,
-        };
+        return None;
     }
     let mut octet = cut(first);
-    let mut j = 0usize;
-    while j < depth {
-        let subscript = subscripts[j];
-        if counts[j] as usize <= subscript {
-            return Reach {
-                found: false,
-                octet: 0,
-            };
+    for (level, subscript) in levels[..depth].iter().zip(name.subscripts.iter()) {
+        if level.count as usize <= *subscript {
+            return None;
         }
-        octet = cut(octet + cut(subscript * strides[j] as usize));
-        j += 1;
+        octet = cut(octet + cut(*subscript * level.stride as usize));
     }
-    Reach { found: true, octet }
+    Some(octet)
 }

@@ -4,24 +4,21 @@
 ghost use Rattle.std.specs.Prelude.{◌≡◌};
 ghost use Rattle.meaning.specs.Layout.{lay_out};
 ghost use Rattle.meaning.specs.Refusals.{open_laid, open_image};
-ghost use Rattle.places.specs.Surveying.{is_first, seat_in, first_standing, held_after, verdict_of, refused_by, TableReady, TableAs, SurveyReady, AnswerAs};
+ghost use Rattle.places.specs.Surveying.{is_first, seat_in, first_standing, held_after, TableReady, TableAs, SurveyReady, AnswerAs};
 
-use crate::rows::{Row, Stands, alone};
+use crate::rows::{Row, alone};
 use crate::walk::{Aim, Walk, walk_body};
 use basics::{both, ends_within};
 use items::Cursor;
 use meaning::{Fields, Refusal, Verdict};
 use offsets::{TableOffset, TableStart};
 
-// A table found: its item, where it starts, how long it is.
+// Where a table is: its item, where it starts, how long it is.
 #[derive(Clone, Copy)]
-pub enum TableFound {
-    No,
-    Yes {
-        item: usize,
-        start: TableStart,
-        length: usize,
-    },
+pub struct TableSpot {
+    pub item: usize,
+    pub start: TableStart,
+    pub length: usize,
 }
 
 // The name of a table.
@@ -49,80 +46,67 @@ pub struct Standing {
     pub row: Row,
 }
 
-// The image opened, or refused by 1 to 9: the total, the numbers of the slots, where the tables asked
-// for are, the row of the item, and whether those octets lie in the first table and hold one of a
-// dimension.
+// The image opened: the total, the numbers of the slots, where the tables asked for are, the row of the
+// item, and whether those octets lie in the first table and hold one of a dimension.
 #[derive(Clone, Copy)]
 pub struct Answer {
-    pub verdict: Verdict,
     pub total: usize,
     pub numbers: [u32; 64],
-    pub first: TableFound,
-    pub second: TableFound,
+    pub first: Option<TableSpot>,
+    pub second: Option<TableSpot>,
     pub element: Standing,
     pub held: bool,
 }
 
 // Tables laid one after another: the numbers of the slots, where the next table starts and its item,
-// and what of that asked for is found among those laid. Refused, the image is short in the table
-// before `next`.
+// and what of that asked for is found among those laid.
 #[derive(Clone, Copy)]
 pub struct Survey {
     pub numbers: [u32; 64],
     pub start: TableStart,
     pub next: Cursor,
-    pub first: TableFound,
-    pub second: TableFound,
+    pub first: Option<TableSpot>,
+    pub second: Option<TableSpot>,
     pub element: Standing,
     pub held: bool,
-    pub verdict: Verdict,
 }
 
 // Whether a table is the one of that name, and none was found before.
-fn is_first(before: TableFound, h: Fields, name: TableName) -> bool
+#[tactic(auto, unfolding(crate::specs::Surveying::is_first))]
+fn is_first(before: Option<TableSpot>, h: Fields, name: TableName) -> bool
     ensures { result ≡ is_first before h name }
 {
     match before {
-        TableFound::No => both(h.manufacturer == name.manufacturer, h.number == name.number),
-        TableFound::Yes {
-            item: _,
-            start: _,
-            length: _,
-        } => false,
+        Some(_) => false,
+        None => both(h.manufacturer == name.manufacturer, h.number == name.number),
     }
 }
 
 // The table found before, or this one, if it is the one asked for.
-fn seat(before: TableFound, this: bool, item: usize, start: TableStart, length: usize) -> TableFound
-    ensures { result ≡ seat_in before this item start length }
+#[tactic(auto, unfolding(crate::specs::Surveying::seat_in))]
+fn seat(before: Option<TableSpot>, this: bool, table: TableSpot) -> Option<TableSpot>
+    ensures { result ≡ seat_in before this table }
 {
     if this {
-        return TableFound::Yes {
-            item,
-            start,
-            length,
-        };
+        return Some(table);
     }
     before
 }
 
 // The one of the two that is a row.
+#[tactic(auto, unfolding(crate::specs::Rows::first_by))]
 fn first_standing(before: Standing, now: Standing) -> Standing
     ensures { result ≡ first_standing before now }
 {
-    let row = before.row;
-    let stands = row.stands;
-    match stands {
-        Stands::Nowhere => now,
-        Stands::There {
-            first: _,
-            length: _,
-        } => before,
+    match before.row.stands {
+        Some(_) => before,
+        None => now,
     }
 }
 
 // Whether the octets asked about hold one of a dimension: told by the walk over their table, if they
 // lie in it.
+#[tactic(auto, unfolding(crate::specs::Surveying::held_after))]
 fn held_after(before: bool, this: bool, fits: bool, held: bool) -> bool
     ensures { result ≡ held_after before this fits held }
 {
@@ -132,157 +116,116 @@ fn held_after(before: bool, this: bool, fits: bool, held: bool) -> bool
     before
 }
 
-// Whether the walk over the table at `start` came to its end.
-fn verdict_of(start: TableStart, w: Walk) -> Verdict
-    ensures { result ≡ verdict_of start.0 w }
-{
-    if w.short {
-        let walked = w.octets;
-        let at = w.next;
-        let octet = start.in_image(walked);
-        return Verdict::Refused(Refusal {
-            number: 9,
-            item: at.item() as u64,
-            octet: octet.octet() as u64,
-            depth: 0,
-        });
-    }
-    Verdict::Passed
-}
-
-// The next table laid.
-fn survey_table(d: &[u8], image: &[u8], asked: Asked, s: Survey) -> Survey
+// The next table laid, or the refusal of an image that is short in it.
+fn survey_table(d: &[u8], image: &[u8], asked: Asked, s: Survey) -> Result<Survey, Refusal>
     requires { TableReady d.now image.now asked s }
     ensures { TableAs d.now image.now asked s result }
 {
-    let place = s.next;
+    let Survey {
+        numbers,
+        start,
+        next: place,
+        first,
+        second,
+        element,
+        held,
+    } = s;
     let read = place.read(d);
     let h = read.fields;
     let next = read.next;
-    let start = s.start;
-    let from = asked.from;
-    let numbers = s.numbers;
-    let one = s.first;
-    let two = s.second;
-    let element = s.element;
-    let name = asked.first;
-    let other = asked.second;
-    let octets = asked.octets;
-    let this = is_first(one, h, name);
-    let that = is_first(two, h, other);
+    let this = is_first(first, h, asked.first);
+    let that = is_first(second, h, asked.second);
     let aim = Aim {
         start,
         wanted: asked.item,
-        from,
-        octets,
+        from: asked.from,
+        octets: asked.octets,
     };
     let before = Walk {
         numbers,
         octets: TableOffset::new(0),
-        row: alone(Stands::Nowhere),
+        row: alone(None),
         held: false,
         next,
-        short: false,
     };
-    let w = walk_body(d, image, aim, before, h.first, 4);
-    let walked = w.octets;
-    let length = walked.octets();
-    let row = w.row;
-    let read_on = w.numbers;
-    let item = place.item();
-    let fits = ends_within(from.octets(), octets, length);
-    Survey {
-        numbers: read_on,
+    let w = walk_body(d, image, aim, before, h.first, 4)?;
+    let Walk {
+        numbers,
+        octets,
+        row,
+        held: holds,
+        ..
+    } = w;
+    let length = octets.octets();
+    let table = TableSpot {
+        item: place.item(),
+        start,
+        length,
+    };
+    let fits = ends_within(asked.from.octets(), asked.octets, length);
+    Ok(Survey {
+        numbers,
         start: start.after(length),
         next: next.past(h.first),
-        first: seat(one, this, item, start, length),
-        second: seat(two, that, item, start, length),
+        first: seat(first, this, table),
+        second: seat(second, that, table),
         element: first_standing(element, Standing { start, row }),
-        held: held_after(s.held, this, fits, w.held),
-        verdict: verdict_of(start, w),
-    }
-}
-
-// An answer that is a refusal.
-fn refused(r: Refusal) -> Answer
-    ensures { result ≡ refused_by r }
-{
-    Answer {
-        verdict: Verdict::Refused(r),
-        total: 0,
-        numbers: [0u32; 64],
-        first: TableFound::No,
-        second: TableFound::No,
-        element: Standing {
-            start: TableStart::first(),
-            row: alone(Stands::Nowhere),
-        },
-        held: false,
-    }
+        held: held_after(held, this, fits, holds),
+    })
 }
 
 // All tables laid, one after another from octet 0.
-fn survey_image(d: &[u8], image: &[u8], asked: Asked) -> Answer
+fn survey_image(d: &[u8], image: &[u8], asked: Asked) -> Result<Answer, Refusal>
     requires { SurveyReady d.now image.now }
     ensures { AnswerAs d.now image.now asked result (open_laid (lay_out d.now image.now)) }
 {
     let items = d.len() / 4;
     let start = TableStart::first();
-    let mut place = Cursor::first();
     let mut s = Survey {
         numbers: [0u32; 64],
         start,
-        next: place,
-        first: TableFound::No,
-        second: TableFound::No,
+        next: Cursor::first(),
+        first: None,
+        second: None,
         element: Standing {
             start,
-            row: alone(Stands::Nowhere),
+            row: alone(None),
         },
         held: false,
-        verdict: Verdict::Passed,
     };
-    while place.item() < items {
-        let later = survey_table(d, image, asked, s);
-        let verdict = later.verdict;
-        match verdict {
-            Verdict::Refused(r) => {
-                return refused(r);
-            }
-            Verdict::Passed => {
-                place = later.next;
-                s = later;
-            }
-        }
+    while s.next.item() < items {
+        s = survey_table(d, image, asked, s)?;
     }
-    let end = s.start;
-    let last = end.in_image(TableOffset::new(0));
-    let first = s.first;
-    let second = s.second;
-    let element = s.element;
-    let numbers = s.numbers;
-    Answer {
-        verdict: Verdict::Passed,
-        total: last.octet(),
+    let Survey {
+        numbers,
+        start,
+        first,
+        second,
+        element,
+        held,
+        ..
+    } = s;
+    let end = start.in_image(TableOffset::new(0));
+    Ok(Answer {
+        total: end.octet(),
         numbers,
         first,
         second,
         element,
-        held: s.held,
-    }
+        held,
+    })
 }
 
 // What one walk tells, to whoever asks. 1 to 9 come first: the description is checked, and the
 // image's length; then the image is laid out.
-pub(crate) fn open_image(d: &[u8], image: &[u8], asked: Asked) -> Answer
+pub(crate) fn open_image(d: &[u8], image: &[u8], asked: Asked) -> Result<Answer, Refusal>
     ensures { AnswerAs d.now image.now asked result (open_image d.now image.now) }
 {
-    let verdict = sound::check(d);
-    match verdict {
-        Verdict::Refused(r) => refused(r),
+    match sound::check(d) {
+        Verdict::Refused(r) => Err(r),
         Verdict::Passed => {
             if 65535 < image.len() {
-                return refused(Refusal::IMAGE_TOO_LONG);
+                return Err(Refusal::IMAGE_TOO_LONG);
             }
             survey_image(d, image, asked)
         }

@@ -7,14 +7,15 @@
 ghost use Rattle.std.specs.Prelude.{◌≡◌, ◌<◌, length};
 ghost use Rattle.meaning.specs.Ranges.{FieldsRange};
 ghost use Rattle.meaning.specs.Layout.{value};
+ghost use Rattle.meaning.specs.Numbers.{image_short};
 ghost use Rattle.places.specs.Measuring.{numbers_in};
-ghost use Rattle.places.specs.Walking.{Readable, noted, meets, StepReady, step_of, elsewhere, WalkItemReady, WalksItem, WalkBodyReady, WalksBody};
+ghost use Rattle.places.specs.Walking.{Readable, noted, meets, StepReady, step_of, WalkItemReady, WalksItem, WalkBodyReady, WalksBody};
 
 use crate::measure::{Span, chosen, item_size, leaf_span, value};
 use crate::rows::{Row, first_row, onward};
 use basics::{both, either};
 use items::{Cursor, is_choice};
-use meaning::Fields;
+use meaning::{Fields, Refusal};
 use offsets::{ImageOffset, TableOffset, TableStart};
 
 // The kind that descriptions give an ARRAY.
@@ -50,7 +51,7 @@ fn holds_one(here: TableOffset, size: usize, from: TableOffset, octets: usize) -
 
 // How far a walk has come in a table: the numbers of the slots, the octets walked, the row found of
 // the item asked for, whether the octets asked about hold one of a dimension, and the item that is
-// next; or, short, the octets and the item at which the image ends too soon.
+// next.
 #[derive(Clone, Copy)]
 pub struct Walk {
     pub numbers: [u32; 64],
@@ -58,7 +59,6 @@ pub struct Walk {
     pub row: Row,
     pub held: bool,
     pub next: Cursor,
-    pub short: bool,
 }
 
 // What a walk over a table goes by: where the table starts, the item asked for, and the octets of the
@@ -71,70 +71,69 @@ pub struct Aim {
     pub octets: usize,
 }
 
+// 9: the image ends before the item at that place, from that octet on, does.
+fn image_short(at: Cursor, here: ImageOffset) -> Refusal
+    ensures { result ≡ image_short at.at here.0 }
+{
+    Refusal {
+        number: 9,
+        item: at.item() as u64,
+        octet: here.octet() as u64,
+        depth: 0,
+    }
+}
+
 // A piece that ends inside the image or not: a UINT, BLOCK or SET, which may set a slot (0 is none),
 // or a whole ARRAY. The item after it is `next`.
-fn step(image: &[u8], aim: Aim, w: Walk, piece: Span, slot: usize, next: Cursor) -> Walk
+fn step(
+    image: &[u8],
+    aim: Aim,
+    w: Walk,
+    piece: Span,
+    slot: usize,
+    next: Cursor,
+) -> Result<Walk, Refusal>
     requires { StepReady image.now aim w piece slot }
     ensures { result ≡ step_of image.now aim w piece slot next }
 {
-    let start = aim.start;
-    let numbers = w.numbers;
-    let walked = w.octets;
-    let before = w.row;
+    let Aim {
+        start,
+        from,
+        octets: asked,
+        ..
+    } = aim;
+    let Walk {
+        numbers,
+        octets: walked,
+        row: before,
+        held,
+        next: at,
+    } = w;
+    let Span { size, row } = piece;
     let here = start.in_image(walked);
-    let size = piece.size;
-    let row = piece.row;
-    let from = aim.from;
-    let at = w.next;
     if image.len() - here.octet() < size {
-        return Walk {
-            numbers,
-            octets: walked,
-            row: before,
-            held: w.held,
-            next: at,
-            short: true,
-        };
+        return Err(image_short(at, here));
     }
     let far = walked.octets();
     let octets = TableOffset::new(far + size);
     let row = first_row(before, onward(far, row));
     if slot == 0 {
-        return Walk {
+        return Ok(Walk {
             numbers,
             octets,
             row,
-            held: w.held,
+            held,
             next,
-            short: false,
-        };
+        });
     }
-    let dimension = holds_one(walked, size, from, aim.octets);
-    Walk {
+    let dimension = holds_one(walked, size, from, asked);
+    Ok(Walk {
         numbers: noted(image, numbers, slot, here, size),
         octets,
         row,
-        held: either(w.held, dimension),
+        held: either(held, dimension),
         next,
-        short: false,
-    }
-}
-
-// The same walk, with another item next.
-fn elsewhere(w: Walk, next: Cursor) -> Walk
-    ensures { result ≡ elsewhere w next }
-{
-    let numbers = w.numbers;
-    let octets = w.octets;
-    let row = w.row;
-    Walk {
-        numbers,
-        octets,
-        row,
-        held: w.held,
-        next,
-        short: w.short,
-    }
+    })
 }
 
 // The value of an item's reference, as far as the walk has come. Most items have none, and then the
@@ -152,7 +151,7 @@ fn value_here(w: Walk, f: Fields) -> usize
 
 // The item at the walk's place.
 #[cycle(walk_body_walk_item)]
-fn walk_item(d: &[u8], image: &[u8], aim: Aim, w: Walk, depth: usize) -> Walk
+fn walk_item(d: &[u8], image: &[u8], aim: Aim, w: Walk, depth: usize) -> Result<Walk, Refusal>
     requires { WalkItemReady d.now image.now aim w depth }
     ensures { WalksItem d.now image.now aim w depth result }
 {
@@ -165,18 +164,20 @@ fn walk_item(d: &[u8], image: &[u8], aim: Aim, w: Walk, depth: usize) -> Walk
     let after = next.past(inside);
     if is_choice(f) {
         let taken = chosen(d, f, next, value);
-        let before = elsewhere(w, next.past(taken.skip));
-        let inner = walk_body(d, image, aim, before, taken.items, depth - 1);
-        if inner.short {
-            return inner;
-        }
-        return elsewhere(inner, after);
+        let before = Walk {
+            next: next.past(taken.skip),
+            ..w
+        };
+        let inner = walk_body(d, image, aim, before, taken.items, depth - 1)?;
+        return Ok(Walk {
+            next: after,
+            ..inner
+        });
     }
     if f.kind == ARRAY {
         let numbers = w.numbers;
         let all = item_size(d, numbers, place, depth, aim.wanted);
-        let whole = all.span;
-        return step(image, aim, w, whole, 0, after);
+        return step(image, aim, w, all.span, 0, after);
     }
     let piece = leaf_span(f, value, place.item(), aim.wanted);
     step(image, aim, w, piece, f.sets, after)
@@ -191,20 +192,14 @@ pub(crate) fn walk_body(
     w: Walk,
     items: usize,
     depth: usize,
-) -> Walk
+) -> Result<Walk, Refusal>
     requires { WalkBodyReady d.now image.now aim w items depth }
     ensures { WalksBody d.now image.now aim w items depth result }
 {
-    let first = w.next;
-    let end = first.item() + items;
+    let end = w.next.item() + items;
     let mut walk = w;
-    let mut place = first;
-    while place.item() < end {
-        walk = walk_item(d, image, aim, walk, depth);
-        if walk.short {
-            return walk;
-        }
-        place = walk.next;
+    while walk.next.item() < end {
+        walk = walk_item(d, image, aim, walk, depth)?;
     }
-    walk
+    Ok(walk)
 }

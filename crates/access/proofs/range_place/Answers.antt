@@ -5,14 +5,14 @@ use Rattle.access.proofs.range_place.Goals as goal
 
 pub returns-then-ends_within : goal.returns-then-ends_within
 returns-then-ends_within c =
-    let a = table_in _ _ _ _ _ _ _ c.range_in-found.ensures _ _ _ _ c.in-In.is in
+    let a = table_in _ _ _ _ _ _ _ c.range_in.ensures _ c.in-Ok.is in
     let w = rw c.octets.ensures at c.ends_within.ensures in
-    read_there _ _ _ _ _ _ _ c.range_in-found.ensures _ _ _ _ c.in-In.is _ w c.if-ends_within.true _
+    read_there _ _ _ _ _ _ _ c.range_in.ensures _ c.in-Ok.is _ w c.if-ends_within.true _
     (counted_on _ _ _ _ _ _ _ c.in_image.ensures a.inside a.small w c.if-ends_within.true)
 
-pub returns-in-Refused : goal.returns-in-Refused
-returns-in-Refused c = read_refused _ _ _ _ _ _ _ c.range_in-found.ensures _ c.in-Refused.is
+pub returns-in-Err : goal.returns-in-Err
+returns-in-Err c = read_refused _ _ _ _ _ _ _ c.range_in.ensures _ c.in-Err.is
 
 pub returns-else-ends_within : goal.returns-else-ends_within
 returns-else-ends_within c =
-    read_past _ _ _ _ _ _ _ c.range_in-found.ensures _ _ _ _ c.in-In.is _ (c.ends_within.ensures ∙ rw c.octets.ensures) c.if-ends_within.false
+    read_past _ _ _ _ _ _ _ c.range_in.ensures _ c.in-Ok.is _ (c.ends_within.ensures ∙ rw c.octets.ensures) c.if-ends_within.false

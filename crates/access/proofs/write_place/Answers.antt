@@ -4,18 +4,18 @@ use Rattle.access.proofs.Laws.{table_in, place_refused, place_past, place_there,
 use Rattle.access.proofs.write_place.Goals as goal
 
 pub around-seen-requires : goal.around-seen-requires
-around-seen-requires c = (table_in _ _ _ _ _ _ _ c.range_in-found.ensures _ _ _ _ c.in-In.is).there
+around-seen-requires c = (table_in _ _ _ _ _ _ _ c.range_in.ensures _ c.in-Ok.is).there
 
 pub returns-then-fits_table : goal.returns-then-fits_table
 returns-then-fits_table c =
-    let a = table_in _ _ _ _ _ _ _ c.range_in-found.ensures _ _ _ _ c.in-In.is in
+    let a = table_in _ _ _ _ _ _ _ c.range_in.ensures _ c.in-Ok.is in
     let w = rw c.octets.ensures at c.fits_table.ensures in
-    c.allowed.ensures ∙ place_there _ _ _ _ _ _ _ _ c.range_in-found.ensures _ _ _ _ c.in-In.is _ w c.if-fits_table.true _
+    c.allowed.ensures ∙ place_there _ _ _ _ _ _ _ _ c.range_in.ensures _ c.in-Ok.is _ w c.if-fits_table.true _
     (counted_on _ _ _ _ _ _ _ c.in_image.ensures a.inside a.small refl (lies_in _ _ _ w c.if-fits_table.true)) _ c.around-seen.ensures.fields
 
-pub returns-in-Refused : goal.returns-in-Refused
-returns-in-Refused c = place_refused _ _ _ _ _ _ _ _ c.range_in-found.ensures _ c.in-Refused.is
+pub returns-in-Err : goal.returns-in-Err
+returns-in-Err c = place_refused _ _ _ _ _ _ _ _ c.range_in.ensures _ c.in-Err.is
 
 pub returns-else-fits_table : goal.returns-else-fits_table
 returns-else-fits_table c =
-    place_past _ _ _ _ _ _ _ _ c.range_in-found.ensures _ _ _ _ c.in-In.is _ (c.fits_table.ensures ∙ rw c.octets.ensures) c.if-fits_table.false
+    place_past _ _ _ _ _ _ _ _ c.range_in.ensures _ c.in-Ok.is _ (c.fits_table.ensures ∙ rw c.octets.ensures) c.if-fits_table.false

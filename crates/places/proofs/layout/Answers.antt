@@ -1,9 +1,9 @@
 -- `places::layout`: the answer's total is the reply. Assumes nothing.
-use Rattle.places.proofs.Replies.{total_refused, total_passed}
+use Rattle.places.proofs.Replies.{layout_refused, layout_told}
 use Rattle.places.proofs.layout.Goals as goal
 
-pub returns-in-Refused : goal.returns-in-Refused
-returns-in-Refused c = total_refused _ _ _ _ c.open_image-answer.ensures _ c.in-Refused.is
+pub returns-in-Err : goal.returns-in-Err
+returns-in-Err c = layout_refused _ _ _ c.in-Err.ensures
 
-pub returns-in-Passed : goal.returns-in-Passed
-returns-in-Passed c = total_passed _ _ _ _ c.open_image-answer.ensures c.in-Passed.is
+pub returns-in-Ok : goal.returns-in-Ok
+returns-in-Ok c = layout_told _ _ _ _ c.in-Ok.ensures

@@ -1,73 +1,39 @@
--- `rows::reached`: what is left from ARRAY j on leads to the same as the whole; the ARRAYs left are its measure. Assumes nothing.
-use Prim.Native.Nat.{◌≤◌}
-use mathlib.Core.Path.{◌∙◌}
-use borrow.Author.Rules.{rules}
-use lib.ListN.{get_or}
-use mir.Syntax.{w32}
-use mir.Val.{Fits}
-use native.Mathlib.Nat.{mul-le-mul}
-use native.Mathlib.Omega.{arith}
+-- `rows::reached`: what is left of the ARRAYs and the subscripts leads to the same as the whole. Assumes nothing.
+use Rattle.std.proofs.Common.{arith, ◌∙◌, length, ap, ◌≤◌}
+use Rattle.std.proofs.lemmas.Slice.Zip.{Zip-more, either_empty_from_Zip}
+use Rattle.std.proofs.lemmas.List.{length-take-le}
 use Rattle.places.proofs.Reach.{left_next, left_past, left_none, reached_all, reached_not}
 use Rattle.places.proofs.rows.reached.Goals as goal
 
 pub returns-then-name-depth : goal.returns-then-name-depth
 returns-then-name-depth c = reached_not _ _ _ c.if-name-depth.true
 
-pub loop-j-init : goal.loop-j-init
-loop-j-init c = (omega arith, omega (arith, c.cut-octet.ensures), rw c.cut-octet.ensures)
+pub loop-level-init : goal.loop-level-init
+loop-level-init c =
+    let l : c.args.arrays.depth ≤ length c.args.arrays.levels = omega (arith, c.requires.0.depth, c.requires.0.levels) in
+    record {
+      small = omega (arith, c.cut-octet.ensures);
+      enough = rw (c.into_iter-level-iterator.ensures.into_iter_gives, c.zip-level-items.ensures.first, c.zip-level-items.ensures.second, c.iter.ensures.rest, c.iter-2.ensures.rest) (omega (arith, length-take-le _ _ l, c.requires.0.depth, c.requires.1));
+      leads = rw (c.into_iter-level-iterator.ensures.into_iter_gives, c.zip-level-items.ensures.first, c.zip-level-items.ensures.second, c.iter.ensures.rest, c.iter-2.ensures.rest, c.cut-octet.ensures) (reached_all _ c.args.arrays c.args.name l c.if-name-depth.false);
+    }
 
-pub offset_bounds-subscripts-j : goal.offset_bounds-subscripts-j
-offset_bounds-subscripts-j c = omega arith
-
-pub bounds-subscripts-j : goal.bounds-subscripts-j
-bounds-subscripts-j c = omega arith
-
-pub offset_bounds-counts-j : goal.offset_bounds-counts-j
-offset_bounds-counts-j c = omega arith
-
-pub bounds-counts-j : goal.bounds-counts-j
-bounds-counts-j c = omega arith
-
-pub returns-then-counts-j : goal.returns-then-counts-j
-returns-then-counts-j c =
-    left_past _ _ _ _ _ _ c.loop-j-test.true (omega arith) c.if-counts-j.true ∙ c.loop-j.invariant.2
-    ∙ reached_all _ _ _ c.if-name-depth.false
-
-pub offset_bounds-strides-j : goal.offset_bounds-strides-j
-offset_bounds-strides-j c = omega arith
-
-pub bounds-strides-j : goal.bounds-strides-j
-bounds-strides-j c = omega arith
-
-pub overflow_cast-strides : goal.overflow_cast-strides
-overflow_cast-strides c =
-    let stride : Fits w32 (get_or c.args.arrays.strides c.loop-j.j 0) = search rules in
-    omega arith
-
-pub overflow_mul-subscript : goal.overflow_mul-subscript
-overflow_mul-subscript c =
-    let count : Fits w32 (get_or c.args.arrays.counts c.loop-j.j 0) = search rules in
-    let stride : Fits w32 (get_or c.args.arrays.strides c.loop-j.j 0) = search rules in
-    let x : get_or c.args.name.subscripts c.loop-j.j 0 ≤ 4294967295 = omega arith in
-    let w : get_or c.args.arrays.strides c.loop-j.j 0 ≤ 4294967295 = omega arith in
-    omega (arith, mul-le-mul x w)
+pub returns-then-level-subscript : goal.returns-then-level-subscript
+returns-then-level-subscript c =
+    let s = Zip-more c.loop-level.level-iterator c.next.new.self _ _ c.in-Some.is c.next.ensures.steps in
+    left_past c.loop-level.octet _ _ _ _ c.if-level-subscript.true ∙ rw (s.0, s.1) at c.loop-level.invariant.leads
 
 pub overflow_add-octet : goal.overflow_add-octet
-overflow_add-octet c = omega (arith, c.cut.ensures)
+overflow_add-octet c = omega (arith, c.cut.ensures, c.loop-level.invariant.small)
 
-pub overflow_add-j : goal.overflow_add-j
-overflow_add-j c = omega arith
-
-pub loop-j-smaller : goal.loop-j-smaller
-loop-j-smaller c = omega arith
-
-pub loop-j-preserved : goal.loop-j-preserved
-loop-j-preserved c = (
-  omega arith,
-  omega (arith, c.cut-octet-in-loop-j.ensures),
-  rw (c.cut-octet-in-loop-j.ensures, c.cut.ensures)
-      (left_next _ _ _ _ _ _ c.loop-j-test.true (omega arith) c.if-counts-j.false ∙ c.loop-j.invariant.2),
-)
+pub loop-level-preserved : goal.loop-level-preserved
+loop-level-preserved c =
+    let s = Zip-more c.loop-level.level-iterator c.next.new.self _ _ c.in-Some.is c.next.ensures.steps in
+    record {
+      small = omega (arith, c.cut-octet-in-loop-level.ensures);
+      enough = omega (arith, c.loop-level.invariant.enough, ap length s.0, ap length s.1);
+      leads = rw (c.cut-octet-in-loop-level.ensures, c.cut.ensures) (left_next _ _ _ _ _ c.if-level-subscript.false ∙ rw (s.0, s.1) at c.loop-level.invariant.leads);
+    }
 
 pub returns : goal.returns
-returns c = left_none _ _ _ _ _ _ (omega arith) ∙ c.loop-j.invariant.2 ∙ reached_all _ _ _ c.if-name-depth.false
+returns c =
+    left_none _ _ _ (either_empty_from_Zip c.loop-level.level-iterator c.next.new.self _ c.in-None.is c.next.ensures.steps) c.loop-level.invariant.enough ∙ c.loop-level.invariant.leads

@@ -1,13 +1,12 @@
--- `rows::reached`: what is left from ARRAY j on leads to the same as the whole; the ARRAYs left are its measure. Assumes nothing.
-use Prim.Native.Nat.{◌-◌, ◌≤◌}
-use mathlib.Core.Path.{◌≡◌}
-use Rattle.places.specs.Rows.{cut}
+-- `rows::reached`: what is left of the ARRAYs and the subscripts leads to the same as the whole. Assumes nothing.
+use Rattle.std.proofs.Common.{◌≡◌, ◌≤◌, length}
+use Rattle.places.specs.Rows.{reached_by}
 use Rattle.places.proofs.Reach.{left_at}
 use Rattle.places.proofs.rows.reached.Given as goal
 
-abbrev pub invariant-loop-j : goal.invariant-loop-j
-invariant-loop-j l = (l.j ≤ l.depth) × (l.octet ≤ 65536)
-    × (left_at l.octet l.j l.depth l.counts l.strides l.subscripts ≡ left_at (cut l.first) 0 l.depth l.counts l.strides l.subscripts)
-
-abbrev pub decreases-loop-j : goal.decreases-loop-j
-decreases-loop-j l = l.depth - l.j
+abbrev pub invariant-loop-level : goal.invariant-loop-level
+invariant-loop-level l = record {
+  small : l.octet ≤ 65536;
+  enough : length l.level-iterator.a.rest.now ≤ length l.level-iterator.b.rest.now;
+  leads : left_at l.octet l.level-iterator.a.rest.now l.level-iterator.b.rest.now ≡ reached_by l.first l.fn.arrays l.fn.name;
+}

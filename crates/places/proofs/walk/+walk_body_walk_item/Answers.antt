@@ -1,4 +1,5 @@
 -- `walk::walk_body` and `walk::walk_item`: what is left of a body leads where the whole does, and an item is walked by what it comes to. Assumes nothing.
+use Rattle.std.proofs.Common.{◌≡◌, Err, rules}
 use mathlib.Core.Path.{refl}
 use native.Mathlib.Omega.{arith}
 use Rattle.items.proofs.ReadLaws.{range_read}
@@ -10,27 +11,28 @@ use Rattle.places.proofs.walk.+walk_body_walk_item.Goals as goal
 
 pub walk_body-loop-aim-init : goal.walk_body-loop-aim-init
 walk_body-loop-aim-init t c =
-    (sets_out _ _ _ _ _ _ c.requires, refl)
+    sets_out _ _ _ _ _ _ c.requires
 
-pub walk_body-walk_item-walk-requires : goal.walk_body-walk_item-walk-requires
-walk_body-walk_item-walk-requires t c =
-    (omega arith, item_ready _ _ _ _ _ _ _ c.loop-aim.invariant.0 (omega arith))
+pub walk_body-walk_item-requires : goal.walk_body-walk_item-requires
+walk_body-walk_item-requires t c =
+    (omega arith, item_ready _ _ _ _ _ _ _ c.loop-aim.invariant (omega arith))
 
-pub walk_body-returns-then-walk : goal.walk_body-returns-then-walk
-walk_body-returns-then-walk t c =
-    stops _ _ _ _ _ _ _ c.loop-aim.invariant.0 (omega arith) _ c.walk_item-walk.ensures c.if-walk.true
+pub walk_body-returns-in_err-walk : goal.walk_body-returns-in_err-walk
+walk_body-returns-in_err-walk t c =
+    let e : c.from_residual.result ≡ Err c.in_err-walk.field-0.0 = search rules in
+    rw e (stops _ _ _ _ _ _ _ c.loop-aim.invariant (omega arith) c.in_err-walk.ensures)
 
 pub walk_body-loop-aim-smaller : goal.walk_body-loop-aim-smaller
 walk_body-loop-aim-smaller t c =
-    omega (arith, further _ _ _ _ _ _ _ c.loop-aim.invariant.0 (omega arith) _ c.walk_item-walk.ensures c.if-walk.false)
+    omega (arith, further _ _ _ _ _ _ _ c.loop-aim.invariant (omega arith) c.in_ok-walk.ensures)
 
 pub walk_body-loop-aim-preserved : goal.walk_body-loop-aim-preserved
 walk_body-loop-aim-preserved t c =
-    (goes_on _ _ _ _ _ _ _ c.loop-aim.invariant.0 (omega arith) _ c.walk_item-walk.ensures c.if-walk.false, refl)
+    goes_on _ _ _ _ _ _ _ c.loop-aim.invariant (omega arith) c.in_ok-walk.ensures
 
 pub walk_body-returns : goal.walk_body-returns
 walk_body-returns t c =
-    arrives _ _ _ _ _ _ _ c.loop-aim.invariant.0 (omega arith)
+    arrives _ _ _ _ _ _ _ c.loop-aim.invariant (omega arith)
 
 pub walk_item-value_here-value-requires : goal.walk_item-value_here-value-requires
 walk_item-value_here-value-requires t c =
@@ -43,26 +45,27 @@ walk_item-overflow_add-inside t c =
 pub walk_item-overflow_sub-depth : goal.walk_item-overflow_sub-depth
 walk_item-overflow_sub-depth t c =
     let h = here c.requires c.read-read.ensures c.value_here-value.ensures c.past-after.ensures in
-    let g = choosing h c.is_choice.ensures c.if-is_choice.true c.chosen-taken.ensures c.past.ensures c.elsewhere-before.ensures in
+    let g = choosing h c.is_choice.ensures c.if-is_choice.true c.chosen-taken.ensures c.past.ensures refl in
     level_left g.enters
 
-pub walk_item-walk_body-inner-requires : goal.walk_item-walk_body-inner-requires
-walk_item-walk_body-inner-requires t c =
+pub walk_item-walk_body-requires : goal.walk_item-walk_body-requires
+walk_item-walk_body-requires t c =
     let h = here c.requires c.read-read.ensures c.value_here-value.ensures c.past-after.ensures in
-    let g = choosing h c.is_choice.ensures c.if-is_choice.true c.chosen-taken.ensures c.past.ensures c.elsewhere-before.ensures in
+    let g = choosing h c.is_choice.ensures c.if-is_choice.true c.chosen-taken.ensures c.past.ensures refl in
     (omega (arith, level_left g.enters), through_ready g)
 
-pub walk_item-returns-then-inner : goal.walk_item-returns-then-inner
-walk_item-returns-then-inner t c =
+pub walk_item-returns-in_err-inner : goal.walk_item-returns-in_err-inner
+walk_item-returns-in_err-inner t c =
     let h = here c.requires c.read-read.ensures c.value_here-value.ensures c.past-after.ensures in
-    let g = choosing h c.is_choice.ensures c.if-is_choice.true c.chosen-taken.ensures c.past.ensures c.elsewhere-before.ensures in
-    choice_stops g c.walk_body-inner.ensures c.if-inner.true
+    let g = choosing h c.is_choice.ensures c.if-is_choice.true c.chosen-taken.ensures c.past.ensures refl in
+    let e : c.from_residual.result ≡ Err c.in_err-inner.field-0.0 = search rules in
+    rw e (choice_stops g c.in_err-inner.ensures)
 
 pub walk_item-returns-then-is_choice : goal.walk_item-returns-then-is_choice
 walk_item-returns-then-is_choice t c =
     let h = here c.requires c.read-read.ensures c.value_here-value.ensures c.past-after.ensures in
-    let g = choosing h c.is_choice.ensures c.if-is_choice.true c.chosen-taken.ensures c.past.ensures c.elsewhere-before.ensures in
-    choice_walks g c.walk_body-inner.ensures c.if-inner.false c.elsewhere.ensures
+    let g = choosing h c.is_choice.ensures c.if-is_choice.true c.chosen-taken.ensures c.past.ensures refl in
+    choice_walks g c.in_ok-inner.ensures
 
 pub walk_item-item_size-all-requires : goal.walk_item-item_size-all-requires
 walk_item-item_size-all-requires t c =

@@ -7,7 +7,8 @@ use Rattle.places.proofs.walk.step.Goals as goal
 
 pub returns-then-image-octet : goal.returns-then-image-octet
 returns-then-image-octet c =
-    step_short _ _ _ _ _ _ (omega (arith, c.if-image-octet.true, c.octet.ensures, c.in_image-here.ensures, c.requires.inside, c.requires.small))
+    let here : c.in_image-here.result.0 ≡ place c.args.aim c.args.w = omega (arith, c.in_image-here.ensures, c.requires.inside, c.requires.small) in
+    step_short _ _ _ _ _ _ (omega (arith, c.if-image-octet.true, c.octet.ensures, c.in_image-here.ensures, c.requires.inside, c.requires.small)) (c.image_short.ensures ∙ rw here)
 
 pub returns-then-slot-eq0 : goal.returns-then-slot-eq0
 returns-then-slot-eq0 c =

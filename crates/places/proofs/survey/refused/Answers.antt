@@ -1,5 +1,0 @@
--- `survey::refused`: field by field. Assumes nothing.
-use Rattle.places.proofs.survey.refused.Goals as goal
-
-pub returns : goal.returns
-returns c = rw (c.alone.ensures, c.first.ensures)
