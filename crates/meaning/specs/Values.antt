@@ -3,14 +3,14 @@ use Rattle.std.specs.Prelude.{ℕ, Option, Some, Result, Ok}
 use Rattle.offsets.specs.declared.ImageOffset.{ImageOffset}
 use Rattle.meaning.specs.declared.Answer.{Answer}
 use Rattle.meaning.specs.declared.Entry.{Entry}
-use Rattle.meaning.specs.declared.Extent.{Extent}
+use Rattle.meaning.specs.declared.Location.{Location}
 use Rattle.meaning.specs.declared.Refusal.{Refusal}
 
 abbrev pub Verdict : Type 0
 Verdict = Result (Unit {0}) Refusal
 
 abbrev pub Place : Type 0
-Place = Result Extent Refusal
+Place = Result Location Refusal
 
 abbrev pub Reply : Type 0
 Reply = Result Answer Refusal

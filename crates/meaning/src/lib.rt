@@ -247,13 +247,13 @@ pub type Verdict = Result<(), Refusal>;
 
 // Where octets stand in the image, and how many.
 #[derive(Clone, Copy)]
-pub struct Extent {
+pub struct Location {
     pub start: ImageOffset,
     pub length: usize,
 }
 
 // Where a table or an element is, and how long.
-pub type Place = Result<Extent, Refusal>;
+pub type Place = Result<Location, Refusal>;
 
 // What a question is answered: a case for each kind of answer. specs/Refusals.antt has the numbers that each tells.
 #[derive(Clone, Copy)]
@@ -263,7 +263,7 @@ pub enum Answer {
     // The total of octets used, of the image or of a room lent.
     Total(usize),
     // A place.
-    At(Extent),
+    At(Location),
     // An element's number.
     Number(u64),
     // The tier that holds; or that no switch has come yet that day.

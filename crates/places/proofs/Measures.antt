@@ -10,7 +10,7 @@ use native.Mathlib.Omega.{arith}
 use Rattle.meaning.specs.Basics.{◌=?◌}
 use Rattle.meaning.specs.declared.Fields.{Fields}
 use Rattle.meaning.specs.declared.Inner.{Inner}
-use Rattle.meaning.specs.Description.{fields_at, nests, is_choice, nested, count}
+use Rattle.meaning.specs.Description.{fields_at, nests, is_choice, nested, count, kind_of}
 use Rattle.meaning.specs.Layout.{Body, done, more, branches_of, taken, body_in, only_body, node_of, leaf_octets, body_at, Numbers, value}
 use Rattle.meaning.proofs.Ranges.{fields_range}
 use Rattle.laying.specs.Rows.{row, no_row, first_row, onward, body_row, item_row}
@@ -183,7 +183,7 @@ module _ (d numbers : List ℕ) (at k i : ℕ) (ready : ItemReady d numbers at k
 
   -- what holds of an ARRAY or a choice
   module _ (some : nests f ≡ true) where
-    not_leaf : 2 ≤ f.kind → f.kind ≤ 4 → ⊥
+    not_leaf : 2 ≤ kind_of f → kind_of f ≤ 4 → ⊥
     not_leaf two four = let one : count (nests f) ≡ 1 = rw some in omega (arith, (fields_range d at).single two four)
 
     -- the body that it takes, one level down
@@ -201,7 +201,7 @@ module _ (d numbers : List ℕ) (at k i : ℕ) (ready : ItemReady d numbers at k
         node_cases (λ t. FitNode t → Inside (inner_of d f (at + 1) x)) (inner_at k d) d at (nested f)
         (λ lost h. absurd h)
         (λ l two four h. absurd (not_leaf two four))
-        (λ l five h. rw (eq-eqb f.kind 5 five) (enters (only_body f) h (omega arith)))
+        (λ l five h. rw (eq-eqb (kind_of f) 5 five) (enters (only_body f) h (omega arith)))
         (λ l choice h. rw (choice_no_array f choice)
         (enters _ (taken_fit (inner_at k d) at x (branches_of d at) h) (taken_within (nested f) x (branches_of d at) (branches_within d at))))
         ready.fit
@@ -219,11 +219,11 @@ module _ (d numbers : List ℕ) (at k i : ℕ) (ready : ItemReady d numbers at k
 
     module _ (b : Span) (h : BodyAs d numbers (at + 1 + (inner_of d f (at + 1) x).skip) (inner_of d f (at + 1) x).items (k - 1) i b) where
       -- an array takes count times its element's size
-      pub array_measured : f.kind ≡ 5 → SpanAs k (array_span x b) (item_size (node_in k d at) w) (item_row (node_in k d at) w i)
+      pub array_measured : kind_of f ≡ 5 → SpanAs k (array_span x b) (item_size (node_in k d at) w) (item_row (node_in k d at) w i)
       unfolding FitNode item_size item_row inner_of
       array_measured five =
           let is = array_is (inner_at k d) d at (nested f) five ready.fit in
-          let m : BodyAs d numbers (at + 1 + 0) f.first (k - 1) i b = rw (eq-eqb f.kind 5 five) at h in
+          let m : BodyAs d numbers (at + 1 + 0) f.first (k - 1) i b = rw (eq-eqb (kind_of f) 5 five) at h in
           let body = body_at (k - 1) d (at + 1 + 0) f.first in
           rw (is, (inner_fit d k _ _ (subst FitNode is ready.fit)).1)
           (record {

@@ -6,7 +6,7 @@ use mathlib.Core.List.{List}
 use borrow.Author.Tests.{ne_eqb}
 use native.Mathlib.Omega.{arith}
 use Rattle.meaning.specs.declared.Inner.{Inner}
-use Rattle.meaning.specs.Description.{item_count, fields_at, is_array, is_choice, nests, nested}
+use Rattle.meaning.specs.Description.{item_count, fields_at, is_array, is_choice, nests, nested, kind_of}
 use Rattle.meaning.specs.Layout.{value}
 use Rattle.items.specs.declared.Cursor.{Cursor}
 use Rattle.items.specs.declared.Read.{Read}
@@ -79,12 +79,12 @@ module _ {d numbers : List ℕ} {at k : ℕ} {r : Read} {x : ℕ} {after : Curso
     taken_as : BodyAs d numbers (at + 1 + (inner d numbers at).skip) (inner d numbers at).items (k - 1) i b
     taken_as = rw (e.starts, e.takes) at h
 
-    pub array_done : {s : Span} → r.fields.kind ≡ 5 → s ≡ array_span x b → ItemAs d numbers at k i (record { span = s; next = after })
+    pub array_done : {s : Span} → kind_of r.fields ≡ 5 → s ≡ array_span x b → ItemAs d numbers at k i (record { span = s; next = after })
     array_done five s =
         record { span = rw (s, o.says) (array_measured d numbers at k i o.ready e.bodies b taken_as (rw o.fields at five)); next = o.past }
 
-    pub choice_done : (r.fields.kind ≡ 5 → ⊥) → ItemAs d numbers at k i (record { span = b; next = after })
+    pub choice_done : (kind_of r.fields ≡ 5 → ⊥) → ItemAs d numbers at k i (record { span = b; next = after })
     choice_done other =
         let f = fields_at d at in
-        let choice = either_other (is_array f) (is_choice f) e.bodies (ne_eqb f.kind 5 (rw o.fields at other)) in
+        let choice = either_other (is_array f) (is_choice f) e.bodies (ne_eqb (kind_of f) 5 (rw o.fields at other)) in
         record { span = choice_measured d numbers at k i o.ready e.bodies b taken_as choice; next = o.past }

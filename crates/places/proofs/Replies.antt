@@ -10,9 +10,7 @@ use lib.ListN.{length, take}
 use native.Mathlib.Omega.{arith}
 use Rattle.meaning.specs.Basics.{◌≤?◌}
 use Rattle.meaning.specs.declared.ElementName.{ElementName}
-use Rattle.meaning.specs.declared.Place.{Place}
 use Rattle.meaning.specs.declared.Refusal.{Refusal}
-use Rattle.meaning.specs.declared.Reply.{Reply}
 use Rattle.meaning.specs.Causes.{suits, why_none}
 use Rattle.meaning.specs.Layout.{Placed, Seat, Slots, element_named}
 use Rattle.meaning.specs.Numbers.{no_table}
@@ -26,7 +24,7 @@ use Rattle.laying.proofs.Opened.{Opens, Came, opens, refuses, came, opened_image
 use Rattle.laying.proofs.Reaches.{row_says}
 use Rattle.laying.proofs.Spots.{further, row_onward}
 use Rattle.offsets.specs.declared.TableOffset.{TableOffset}
-use Rattle.places.specs.declared.ElementSpot.{ElementSpot}
+use Rattle.meaning.specs.declared.Location.{Location}
 use Rattle.places.specs.declared.RangeTable.{RangeTable}
 use Rattle.places.specs.declared.survey.Answer.{Answer}
 use Rattle.places.specs.declared.survey.Asked.{Asked}
@@ -39,6 +37,7 @@ use Rattle.places.specs.Rows.{Few}
 use Rattle.places.specs.Surveying.{table_found, held_in, StandsAs, AnswerAs}
 use Rattle.places.proofs.Reach.{spot_as}
 use Rattle.meaning.proofs.Either.{clash}
+use Rattle.meaning.specs.Values.{at}
 
 -- a place in a table, and none
 seat_place_lem : (t : Option Seat) → found_place (table_found t) ≡ seat_place t
@@ -104,15 +103,15 @@ module _ {d img : List ℕ} {ts : List Seat} {es : List Placed} {s : Slots} {n :
 
 -- A REFUSAL
 module _ (d img : List ℕ) (x : Refusal) (is_refused : open_image d img ≡ refused x) where
-  pub layout_refused : Reply.Refused x ≡ layout_reply d img
+  pub layout_refused : Err x ≡ layout_reply d img
   unfolding layout_reply layout_in
   layout_refused = rw is_refused
 
-  pub table_refused : (m k : ℕ) → Place.Refused x ≡ table_place_reply d img m k
+  pub table_refused : (m k : ℕ) → Err x ≡ table_place_reply d img m k
   unfolding table_place_reply table_place_in
   table_refused m k = rw is_refused
 
-  pub element_refused : (number : Bool) (name : ElementName) → Place.Refused x ≡ element_place_in number d name (open_image d img)
+  pub element_refused : (number : Bool) (name : ElementName) → Err x ≡ element_place_in number d name (open_image d img)
   unfolding element_place_in
   element_refused number name = rw is_refused
 
@@ -122,11 +121,11 @@ module _ (d img : List ℕ) (x : Refusal) (is_refused : open_image d img ≡ ref
 
 module _ (d img : List ℕ) (q : Asked) (r : Answer) (a : AnswerAs d img q (Ok r) (open_image d img)) where
   -- THE TOTAL
-  pub layout_told : Reply.Total r.total ≡ layout_reply d img
+  pub layout_told : Ok (Answer.Total r.total) ≡ layout_reply d img
   unfolding layout_reply layout_in
   layout_told = go (open_image d img) a
     where
-      go : (o : Opened) → AnswerAs d img q (Ok r) o → Reply.Total r.total ≡ layout_in o
+      go : (o : Opened) → AnswerAs d img q (Ok r) o → Ok (Answer.Total r.total) ≡ layout_in o
       go (opened ts es s n) h = rw h.total
       go (refused y) h = absurd h
 
@@ -164,12 +163,12 @@ module _ (d img : List ℕ) (q : Asked) (r : Answer) (a : AnswerAs d img q (Ok r
         go (refuses y e) = absurd (subst (AnswerAs d img q (Ok r)) e a)
 
     module _ {suited : Bool} (suiting : suited ≡ suits number d name) {found : FoundElement} (is : (found ≡ found_by suited r.element name) × (length name.subscripts ≡ 4)) where
-      pub element_here : (e : ElementSpot) → found ≡ Some e → Place.At e.start e.length ≡ element_place_in number d name (open_image d img)
+      pub element_here : (e : Location) → found ≡ Some e → at e.start e.length ≡ element_place_in number d name (open_image d img)
       unfolding place_or
       element_here x h = sym (rw (← suiting, ← is.0, h)) ∙ element_told is.1
 
       pub element_missing : {why : Refusal} → why ≡ why_none number d (numbers_in r.numbers) name → found ≡ None
-          → Place.Refused why ≡ element_place_in number d name (open_image d img)
+          → Err why ≡ element_place_in number d name (open_image d img)
       unfolding place_or
       element_missing w h = sym (rw (← suiting, ← is.0, h, ← w)) ∙ element_told is.1
 

@@ -13,7 +13,6 @@ use native.Mathlib.Omega.{arith}
 use Rattle.meaning.specs.Basics.{◌≤?◌, ◌=?◌}
 use Rattle.meaning.specs.declared.Fields.{Fields}
 use Rattle.meaning.specs.declared.Refusal.{Refusal}
-use Rattle.meaning.specs.declared.Verdict.{Verdict}
 use Rattle.meaning.specs.Description.{item_count, fields_at, is_table, nested, check_reply}
 use Rattle.meaning.specs.Passed.{Passes}
 use Rattle.meaning.specs.Layout.{Body, Tables, no_more, table, table_at, tables_of, tree_of, body_at, Slots, unread, Placed, fault, short, Laid, laid, stopped, lay_body}
@@ -51,6 +50,7 @@ use Rattle.places.specs.Surveying.{table_found, is_first, seat_in, first_standin
 use Rattle.places.specs.Walking.{WalkEnds, Ends, WalkBodyReady, WalksBody}
 use Rattle.places.proofs.Held.{holds_append}
 use Rattle.places.proofs.RowLaws.{as_none, first_case, said_none, said_some}
+use Rattle.meaning.specs.Values.{passed}
 
 -- WHERE THINGS ARE
 -- the first of two that is found
@@ -402,15 +402,15 @@ laid_all d img q s g le total e =
 
 -- 1 TO 9 COME FIRST
 module _ (d img : List ℕ) (q : Asked) where
-  pub opened_refused : (x : Refusal) → check_reply d ≡ Verdict.Refused x → AnswerAs d img q (Err x) (open_image d img)
+  pub opened_refused : (x : Refusal) → check_reply d ≡ Err x → AnswerAs d img q (Err x) (open_image d img)
   unfolding open_image open_sound
   opened_refused x e = rw e
 
-  pub opened_long : check_reply d ≡ Verdict.Passed → 65535 < length img → AnswerAs d img q (Err image_too_long) (open_image d img)
+  pub opened_long : check_reply d ≡ passed → 65535 < length img → AnswerAs d img q (Err image_too_long) (open_image d img)
   unfolding open_image open_sound
   opened_long e l = rw (e, lt-ltb 65535 (length img) l)
 
-  pub opened_laid : (r : Result Answer Refusal) → check_reply d ≡ Verdict.Passed → length img ≤ 65535 → AnswerAs d img q r (open_laid (lay_out d img)) → AnswerAs d img q r (open_image d img)
+  pub opened_laid : (r : Result Answer Refusal) → check_reply d ≡ passed → length img ≤ 65535 → AnswerAs d img q r (open_laid (lay_out d img)) → AnswerAs d img q r (open_image d img)
   unfolding open_image open_sound
   opened_laid r e l h = rw (e, le-ltb 65535 (length img) l) h
 

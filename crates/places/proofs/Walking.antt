@@ -10,7 +10,7 @@ use borrow.Author.Tests.{ne_eqb}
 use native.Mathlib.Omega.{arith}
 use Rattle.meaning.specs.declared.Inner.{Inner}
 use Rattle.meaning.specs.declared.Refusal.{Refusal}
-use Rattle.meaning.specs.Description.{fields_at, is_choice, nests, nested}
+use Rattle.meaning.specs.Description.{fields_at, is_choice, nests, nested, kind_of}
 use Rattle.meaning.specs.Layout.{branches_in, branches_of, taken, leaf_octets, number_at, value}
 use Rattle.meaning.specs.Ranges.{FieldsRange}
 use Rattle.meaning.proofs.Ranges.{fields_range}
@@ -77,10 +77,10 @@ module _ {d img : List ℕ} {a : Aim} {w : Walk} {k : ℕ} {r : Read} {x : ℕ} 
       comes)
 
   -- A UINT, BLOCK OR SET
-  module _ {choice : Bool} (is : choice ≡ is_choice r.fields) (no : choice ≡ false) (five : r.fields.kind ≡ 5 → ⊥) {p : ℕ} {s : Span} (place : p ≡ w.next.at)
+  module _ {choice : Bool} (is : choice ≡ is_choice r.fields) (no : choice ≡ false) (five : kind_of r.fields ≡ 5 → ⊥) {p : ℕ} {s : Span} (place : p ≡ w.next.at)
       (e : s ≡ leaf_span r.fields x p a.wanted) where
     other : nests (fields_at d w.next.at) ≡ false
-    other = let n : nests r.fields ≡ false = rw (ne_eqb r.fields.kind 5 five, sym is ∙ no) in rw o.fields at n
+    other = let n : nests r.fields ≡ false = rw (ne_eqb (kind_of r.fields) 5 five, sym is ∙ no) in rw o.fields at n
 
     leaf_said : let t = node_in k d w.next.at in SpanAs 4 s (item_size t (numbers_in w.numbers)) (item_row t (numbers_in w.numbers) a.wanted)
     leaf_said =
@@ -104,7 +104,7 @@ module _ {d img : List ℕ} {a : Aim} {w : Walk} {k : ℕ} {r : Read} {x : ℕ} 
         stepped s r.fields.sets (rw o.fields (leaf_comes d img a w k after ready other s leaf_said))
 
   -- AN ARRAY
-  module _ (five : r.fields.kind ≡ 5) {s : Sized} (m : ItemAs d w.numbers w.next.at k a.wanted s) where
+  module _ (five : kind_of r.fields ≡ 5) {s : Sized} (m : ItemAs d w.numbers w.next.at k a.wanted s) where
     pub array_step : StepReady img a w s.span 0
     array_step =
         record {

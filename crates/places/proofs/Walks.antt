@@ -13,7 +13,7 @@ use Rattle.meaning.specs.Basics.{◌<?◌}
 use Rattle.meaning.specs.declared.Fields.{Fields}
 use Rattle.meaning.specs.declared.Inner.{Inner}
 use Rattle.meaning.specs.declared.Refusal.{Refusal}
-use Rattle.meaning.specs.Description.{fields_at, is_choice, nests, nested}
+use Rattle.meaning.specs.Description.{fields_at, is_choice, nests, nested, kind_of}
 use Rattle.meaning.specs.Layout.{Node, branches_of, taken, body_in, body_at, Slots, holds, set_slot, number_at, Placed, fault, short}
 use Rattle.meaning.specs.Layout.{Laid, laid, stopped, in_image, placed, lay_body, lay_node, Numbers, value, number_of, slot_numbers}
 use Rattle.meaning.specs.Refusals.{any_dimension}
@@ -146,7 +146,7 @@ module _ (d img : List ℕ) (a : Aim) (w : Walk) (depth : ℕ) (next : Cursor) (
   whole_ends piece s before numbers found n r g (stopped ps x) said h = absurd h
 
   -- an ARRAY
-  pub array_comes : f.kind ≡ 5 → (piece : Span) → SpanAs 4 piece (item_size t (numbers_in w.numbers)) (item_row t (numbers_in w.numbers) a.wanted)
+  pub array_comes : kind_of f ≡ 5 → (piece : Span) → SpanAs 4 piece (item_size t (numbers_in w.numbers)) (item_row t (numbers_in w.numbers) a.wanted)
       → Comes (step_of img a w piece 0 next)
   unfolding SoundNode RisesNode walk_node lay_node item_size item_row
   array_comes five piece said s κ free before from sound =

@@ -1,7 +1,7 @@
 -- WHAT THE CODE FINDS: a table or none, an element or none, the table of a range or why there is none. Assumes nothing.
 use Rattle.std.specs.Prelude.{Option, Result}
 use Rattle.meaning.specs.declared.Refusal.{Refusal}
-use Rattle.places.specs.declared.ElementSpot.{ElementSpot}
+use Rattle.meaning.specs.declared.Location.{Location}
 use Rattle.places.specs.declared.RangeTable.{RangeTable}
 use Rattle.places.specs.declared.survey.TableSpot.{TableSpot}
 
@@ -9,7 +9,7 @@ abbrev pub FoundTable : Type 0
 FoundTable = Option TableSpot
 
 abbrev pub FoundElement : Type 0
-FoundElement = Option ElementSpot
+FoundElement = Option Location
 
 abbrev pub FoundRange : Type 0
 FoundRange = Result RangeTable Refusal

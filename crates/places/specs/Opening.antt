@@ -2,7 +2,6 @@
 use Rattle.std.specs.Prelude.{ℕ, ◌+◌, min, Bool, List, Some, None, Ok, Err, if◌then◌else◌}
 use Rattle.std.proofs.Math.Option.{Option, some, none}
 use Rattle.meaning.specs.declared.ElementName.{ElementName}
-use Rattle.meaning.specs.declared.Place.{Place}
 use Rattle.meaning.specs.declared.Refusal.{Refusal}
 use Rattle.meaning.specs.Layout.{Seat, Placed, table_named}
 use Rattle.meaning.specs.Numbers.{no_table}
@@ -14,6 +13,7 @@ use Rattle.places.specs.declared.survey.Standing.{Standing}
 use Rattle.places.specs.Found.{FoundTable, FoundElement, FoundRange}
 use Rattle.places.specs.Rows.{spot_by}
 use Rattle.places.specs.Surveying.{held_in}
+use Rattle.meaning.specs.Values.{Place, at}
 
 -- for those who ask for less
 abbrev pub nothing_asked : Asked
@@ -37,14 +37,14 @@ found_by b e q = if b then spot_found e.start.0 (spot_by e.row q) else None
 
 -- its place, or why there is none
 unfoldable pub place_or : (why : Refusal) → FoundElement → Place
-place_or why (Some e) = Place.At e.start e.length
-place_or why None = Place.Refused why
+place_or why (Some e) = at e.start e.length
+place_or why None = Err why
 
 -- WHERE A TABLE IS
 -- where the table found is, or none
 unfoldable pub found_place : FoundTable → Place
-found_place None = Place.Refused no_table
-found_place (Some t) = Place.At (record { 0 = t.start.0 }) t.length
+found_place None = Err no_table
+found_place (Some t) = at (record { 0 = t.start.0 }) t.length
 
 -- A RANGE: the table that it may lie in, and whether it lies in it and holds an octet of a dimension
 unfoldable pub range_of : (o n : ℕ) → Option Seat → List Placed → FoundRange

@@ -19,8 +19,8 @@ ghost use Rattle.meaning.specs.Refusals.{layout_reply, table_place_reply, elemen
 ghost use Rattle.places.specs.Rows.{Few};
 ghost use Rattle.places.specs.Opening.{found_by, nothing_asked, found_place, range_in};
 
-use meaning::{ElementName, Place, Refusal, Reply};
-use offsets::{ImageOffset, TableOffset, TableStart};
+use meaning::{ElementName, Location, Place, Refusal, Reply};
+use offsets::{TableOffset, TableStart};
 use rows::{Extent, reached};
 use survey::{Answer, Asked, Standing, TableName, TableSpot, open_image};
 use why::{suits, why_none};
@@ -42,16 +42,9 @@ pub struct RangeTable {
     pub held: bool,
 }
 
-// Where an element is, and how long.
-#[derive(Clone, Copy)]
-pub struct ElementSpot {
-    pub start: ImageOffset,
-    pub length: usize,
-}
-
 // Where the element of that name stands, by its item's row, if it suits what is asked.
 #[tactic(auto, unfolding(crate::specs::Opening::found_by, crate::specs::Opening::spot_found, crate::specs::Rows::spot_by, crate::specs::Rows::spot_from, crate::specs::Rows::spot_at))]
-fn found_by(element: Standing, name: ElementName, suits: bool) -> Option<ElementSpot>
+fn found_by(element: Standing, name: ElementName, suits: bool) -> Option<Location>
     requires { Few 4 element.row.arrays }
     ensures { (result ≡ found_by suits element name) × (length name.subscripts ≡ 4) }
 {
@@ -61,7 +54,7 @@ fn found_by(element: Standing, name: ElementName, suits: bool) -> Option<Element
     let Standing { start, row } = element;
     let Extent { first, length } = row.stands?;
     let octet = reached(first, row.arrays, name)?;
-    Some(ElementSpot {
+    Some(Location {
         start: start.in_image(TableOffset::new(octet)),
         length,
     })
@@ -72,13 +65,11 @@ fn found_by(element: Standing, name: ElementName, suits: bool) -> Option<Element
 fn place_of_table(table: Option<TableSpot>) -> Place
     ensures { result ≡ found_place table }
 {
-    match table {
-        Some(TableSpot { start, length, .. }) => Place::At {
-            start: start.in_image(TableOffset::new(0)),
-            length,
-        },
-        None => Place::Refused(Refusal::NO_TABLE),
-    }
+    let TableSpot { start, length, .. } = table.ok_or(Refusal::NO_TABLE)?;
+    Ok(Location {
+        start: start.in_image(TableOffset::new(0)),
+        length,
+    })
 }
 
 // For those who ask for less: table 0 of the standard, item 0, no octets.
@@ -106,19 +97,14 @@ fn place_or_why(description: &[u8], image: &[u8], name: ElementName, number: boo
         item: name.item,
         ..nothing_asked()
     };
-    match open_image(description, image, asked) {
-        Err(r) => Place::Refused(r),
-        Ok(answer) => {
-            let Answer {
-                numbers,
-                element,
-                ..
-            } = answer;
-            match found_by(element, name, suits(description, name, number)) {
-                Some(ElementSpot { start, length }) => Place::At { start, length },
-                None => Place::Refused(why_none(description, numbers, name, number)),
-            }
-        }
+    let Answer {
+        numbers,
+        element,
+        ..
+    } = open_image(description, image, asked)?;
+    match found_by(element, name, suits(description, name, number)) {
+        Some(place) => Ok(place),
+        None => Err(why_none(description, numbers, name, number)),
     }
 }
 
@@ -127,10 +113,8 @@ fn place_or_why(description: &[u8], image: &[u8], name: ElementName, number: boo
 pub fn layout(description: &[u8], image: &[u8]) -> Reply
     ensures { result ≡ layout_reply description.now image.now }
 {
-    match open_image(description, image, nothing_asked()) {
-        Err(r) => Reply::Refused(r),
-        Ok(answer) => Reply::Total(answer.total),
-    }
+    let answer = open_image(description, image, nothing_asked())?;
+    Ok(meaning::Answer::Total(answer.total))
 }
 
 // Where two tables start, and how long they are.
@@ -157,8 +141,8 @@ pub fn table_places(
     };
     match open_image(description, image, asked) {
         Err(r) => Places {
-            first: Place::Refused(r),
-            second: Place::Refused(r),
+            first: Err(r),
+            second: Err(r),
         },
         Ok(Answer { first, second, .. }) => Places {
             first: place_of_table(first),

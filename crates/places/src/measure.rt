@@ -4,6 +4,7 @@
 // is cut at 65,536, which is past every image, so an array is measured by its count and one
 // element's size.
 ghost use Rattle.std.specs.Prelude.{◌≡◌, ◌+◌, ◌<◌, ◌≤◌, length};
+ghost use Rattle.meaning.specs.Description.{is_array};
 ghost use Rattle.meaning.specs.Layout.{branches_in, taken, leaf_octets, value};
 ghost use Rattle.meaning.specs.Ranges.{FieldsRange};
 ghost use Rattle.places.specs.Rows.{Few, alone};
@@ -12,12 +13,15 @@ ghost use Rattle.places.specs.Measuring.{numbers_in, inner_of, leaf_span, joined
 use crate::rows::{Extent, Row, alone, cut, first_row, in_array, onward};
 use basics::bit_range;
 use items::{Cursor, nests};
-use meaning::{Fields, Inner};
-
-// The kind that descriptions give an ARRAY.
-const ARRAY: u32 = 5;
+use meaning::{Fields, Inner, Kind};
 
 // WHAT AN ITEM COMES TO
+pub(crate) fn is_array(f: Fields) -> bool
+    ensures { result ≡ is_array f }
+{
+    f.kind == Kind::Array
+}
+
 // The value of an item's reference, where slots have these numbers; 0 for an item without one.
 pub(crate) fn value(numbers: [u32; 64], f: Fields) -> usize
     requires { FieldsRange f × (length numbers ≡ 64) }
@@ -38,10 +42,10 @@ fn leaf_octets(f: Fields, value: usize) -> usize
     if f.slot == 0 {
         return f.octets;
     }
-    if f.unit == 0 {
-        return value;
+    if f.flags {
+        return value.div_ceil(8);
     }
-    (value + 7) / 8
+    value
 }
 
 // The branch that a choice takes, whose items come next. IF: the items if true, or those if false, which
@@ -65,7 +69,7 @@ pub(crate) fn chosen(d: &[u8], f: Fields, next: Cursor, value: usize) -> Inner
 fn inner_of(d: &[u8], f: Fields, next: Cursor, value: usize) -> Inner
     ensures { result ≡ inner_of d.now f next.at value }
 {
-    if f.kind == ARRAY {
+    if is_array(f) {
         return Inner {
             skip: 0,
             items: f.first,
@@ -193,7 +197,7 @@ pub(crate) fn item_size(
             depth - 1,
             wanted,
         );
-        if f.kind == ARRAY {
+        if is_array(f) {
             return Sized {
                 span: array_span(value, body),
                 next: after,

@@ -8,9 +8,9 @@ ghost use Rattle.places.specs.Surveying.{is_first, seat_in, first_standing, held
 
 use crate::rows::{Row, alone};
 use crate::walk::{Aim, Walk, walk_body};
-use basics::{both, ends_within};
+use basics::ends_within;
 use items::Cursor;
-use meaning::{Fields, Refusal, Verdict};
+use meaning::{Fields, Refusal};
 use offsets::{TableOffset, TableStart};
 
 // Where a table is: its item, where it starts, how long it is.
@@ -78,7 +78,7 @@ fn is_first(before: Option<TableSpot>, h: Fields, name: TableName) -> bool
 {
     match before {
         Some(_) => false,
-        None => both(h.manufacturer == name.manufacturer, h.number == name.number),
+        None => h.manufacturer == name.manufacturer && h.number == name.number,
     }
 }
 
@@ -111,7 +111,7 @@ fn held_after(before: bool, this: bool, fits: bool, held: bool) -> bool
     ensures { result ≡ held_after before this fits held }
 {
     if this {
-        return both(fits, held);
+        return fits && held;
     }
     before
 }
@@ -221,13 +221,9 @@ fn survey_image(d: &[u8], image: &[u8], asked: Asked) -> Result<Answer, Refusal>
 pub(crate) fn open_image(d: &[u8], image: &[u8], asked: Asked) -> Result<Answer, Refusal>
     ensures { AnswerAs d.now image.now asked result (open_image d.now image.now) }
 {
-    match sound::check(d) {
-        Verdict::Refused(r) => Err(r),
-        Verdict::Passed => {
-            if 65535 < image.len() {
-                return Err(Refusal::IMAGE_TOO_LONG);
-            }
-            survey_image(d, image, asked)
-        }
+    sound::check(d)?;
+    if 65535 < image.len() {
+        return Err(Refusal::IMAGE_TOO_LONG);
     }
+    survey_image(d, image, asked)
 }

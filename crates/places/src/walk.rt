@@ -11,15 +11,11 @@ ghost use Rattle.meaning.specs.Numbers.{image_short};
 ghost use Rattle.places.specs.Measuring.{numbers_in};
 ghost use Rattle.places.specs.Walking.{Readable, noted, meets, StepReady, step_of, WalkItemReady, WalksItem, WalkBodyReady, WalksBody};
 
-use crate::measure::{Span, chosen, item_size, leaf_span, value};
+use crate::measure::{Span, chosen, is_array, item_size, leaf_span, value};
 use crate::rows::{Row, first_row, onward};
-use basics::{both, either};
 use items::{Cursor, is_choice};
 use meaning::{Fields, Refusal};
 use offsets::{ImageOffset, TableOffset, TableStart};
-
-// The kind that descriptions give an ARRAY.
-const ARRAY: u32 = 5;
 
 // The numbers of the slots with the one that a dimension sets.
 fn noted(
@@ -44,9 +40,9 @@ fn holds_one(here: TableOffset, size: usize, from: TableOffset, octets: usize) -
     let asked = from.octets();
     let piece = here.octets();
     if asked < piece {
-        return both(0 < size, piece - asked < octets);
+        return 0 < size && piece - asked < octets;
     }
-    both(0 < octets, asked - piece < size)
+    0 < octets && asked - piece < size
 }
 
 // How far a walk has come in a table: the numbers of the slots, the octets walked, the row found of
@@ -131,7 +127,7 @@ fn step(
         numbers: noted(image, numbers, slot, here, size),
         octets,
         row,
-        held: either(held, dimension),
+        held: held || dimension,
         next,
     })
 }
@@ -174,7 +170,7 @@ fn walk_item(d: &[u8], image: &[u8], aim: Aim, w: Walk, depth: usize) -> Result<
             ..inner
         });
     }
-    if f.kind == ARRAY {
+    if is_array(f) {
         let numbers = w.numbers;
         let all = item_size(d, numbers, place, depth, aim.wanted);
         return step(image, aim, w, all.span, 0, after);
