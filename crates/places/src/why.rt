@@ -13,15 +13,23 @@ ghost use Rattle.meaning.specs.Causes.{encloses, arrays_round, in_branch, is_one
 ghost use Rattle.places.specs.Measuring.{numbers_in};
 ghost use Rattle.places.specs.Reasons.{step_in};
 
-use crate::measure::{chosen, is_array, value};
+use crate::measure::{chosen, value};
+use basics::{both, either};
 use items::{Cursor, is_choice};
-use meaning::{ElementName, Fields, Inner, Kind, Refusal};
+use meaning::{ElementName, Fields, Inner, Refusal};
+
+// The kinds of items that are asked for.
+const UINT: u32 = 2;
+
+const SET: u32 = 4;
+
+const ARRAY: u32 = 5;
 
 // An element is a UINT, BLOCK or SET.
 fn is_element(f: Fields) -> bool
     ensures { result ≡ is_element f }
 {
-    matches!(f.kind, Kind::Uint | Kind::Block | Kind::Set)
+    both(UINT <= f.kind, f.kind <= SET)
 }
 
 // Whether an item, at its place, encloses a later one.
@@ -40,7 +48,7 @@ fn one_round(f: Fields, at: usize, item: usize) -> usize
     requires { FieldsRange f × (at < item) }
     ensures { (result ≡ count (is_array f && encloses f at item)) × (result ≤ 1) }
 {
-    if is_array(f) && encloses(f, at, item) {
+    if both(f.kind == ARRAY, encloses(f, at, item)) {
         return 1;
     }
     0
@@ -118,13 +126,13 @@ fn step_in(d: &[u8], numbers: [u32; 64], name: ElementName, place: Cursor, depth
     let f = read.fields;
     let round = encloses(f, at, item);
     let value = value(numbers, f);
-    if is_array(f) && round {
+    if both(f.kind == ARRAY, round) {
         if subscript_at(name, depth) < value {
             return Step::Past(depth + 1);
         }
         return Step::InTheWay(too_large(depth));
     }
-    if is_choice(f) && round {
+    if both(is_choice(f), round) {
         if in_branch(at, chosen(d, f, read.next, value), item) {
             return Step::Past(depth);
         }
@@ -164,7 +172,7 @@ pub(crate) fn suits(d: &[u8], name: ElementName, number: bool) -> bool
     let place = start.past(name.item);
     let read = place.read(d);
     let f = read.fields;
-    !number || f.kind == Kind::Uint
+    either(!number, f.kind == UINT)
 }
 
 // The item is an element; one past the last is none.
@@ -181,7 +189,7 @@ fn is_one(d: &[u8], name: ElementName) -> bool
 fn is_counted(name: ElementName, arrays: usize) -> bool
     ensures { result ≡ (name.count ≤? 4 && length (subscripts_of name) =? arrays) }
 {
-    name.count <= 4 && name.count == arrays
+    both(name.count <= 4, name.count == arrays)
 }
 
 // The first cause.
