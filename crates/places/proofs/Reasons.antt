@@ -1,5 +1,5 @@
 -- Why there is no such element, item by item: how many ARRAYs are counted, and that what is left of the items leads to the same refusal as all of them. Assumes nothing.
-use Rattle.std.specs.Prelude.{if◌then◌else◌}
+use Rattle.std.specs.Prelude.{Result, Ok, Err, if◌then◌else◌}
 use Prim.Native.Nat.{ℕ, suc, ◌+◌, ◌-◌, ◌<◌, ◌≤◌, min}
 use mathlib.Core.Path.{◌≡◌, refl, sym, ◌∙◌, ap}
 use mathlib.Core.Bool.{Bool, true, false, ◌&&◌, and-eq-true_iff}
@@ -23,8 +23,6 @@ use Rattle.meaning.proofs.Either.{tested}
 use Rattle.items.specs.declared.Read.{Read}
 use Rattle.items.specs.Read.{read_at}
 use Rattle.items.proofs.ReadLaws.{fields_read, next_read}
-use Rattle.places.specs.declared.why.Step.{Step}
-use Rattle.places.specs.declared.why.Step.TheVariants.{Past, InTheWay}
 use Rattle.places.specs.Reasons.{step_in}
 
 -- what is said of an item that is read, where nothing is said of one past the last
@@ -43,23 +41,23 @@ pub record Counted (d : List ℕ) (i at n : ℕ) : Type 0 where
   pub is : n ≡ arrays_round d at i
 
 module _ (d : List ℕ) (i : ℕ) where
-  pub counted_none : {at : ℕ} → at ≡ 0 → Counted d i at 0
+  pub counted_none : Counted d i 0 0
   unfolding arrays_round
-  counted_none z = record { upto = omega arith; few = omega arith; is = rw z }
+  counted_none = record { upto = omega arith; few = omega arith; is = refl }
 
   arrays_step : (at : ℕ) → arrays_round d (at + 1) i ≡ count (is_array (fields_at d at) && encloses (fields_at d at) at i) + arrays_round d at i
   unfolding arrays_round
   arrays_step at = let e : at + 1 ≡ suc at = omega arith in ap (λ (k : ℕ). arrays_round d k i) e
 
   pub counted_next : i < item_count d → {at n x : ℕ} {r : Read} → Counted d i at n → at < i → r ≡ read_at d at → x ≤ 1
-      → x ≡ count (is_array r.fields && encloses r.fields at i) → Counted d i r.next.at (x + n)
+      → x ≡ count (is_array r.fields && encloses r.fields at i) → Counted d i (at + 1) (n + x)
   counted_next whole {at} {n} {x} {r} h l e one g =
       let f = fields_read d at (omega arith) e in
-      let next = next_read d at (omega arith) e in
+      let swap : n + x ≡ x + n = omega arith in
       record {
         upto = omega arith;
         few = omega (arith, h.few);
-        is = rw (next, g, f, h.is) (sym (arrays_step at));
+        is = rw (swap, g, f, h.is) (sym (arrays_step at));
       }
 
   pub counted_all : {at n : ℕ} → Counted d i at n → i ≤ at → n ≡ arrays_round d i i
@@ -80,11 +78,11 @@ module _ (d : List ℕ) (v : Numbers) (q : ElementName) (at k : ℕ) (l : at < i
 
   -- an ARRAY
   module _ {b : Bool} (array : b ≡ (is_array r.fields && round)) where
-    pub step_below : b ≡ true → {s : ℕ} → s ≡ get_or (subscripts_of q) k 0 → s < x → Past (k + 1) ≡ step_in d v q at k
+    pub step_below : b ≡ true → {s : ℕ} → s ≡ get_or (subscripts_of q) k 0 → s < x → Ok (k + 1) ≡ step_in d v q at k
     unfolding step_in
     step_below t {s} g h = rw (sym (round_is is_array array) ∙ t, lt-ltb (get_or (subscripts_of q) k 0) (value v f) (omega (arith, g, value_is)))
 
-    pub step_large : b ≡ true → {s : ℕ} → s ≡ get_or (subscripts_of q) k 0 → x ≤ s → {w : Refusal} → w ≡ subscript_too_large k → InTheWay w ≡ step_in d v q at k
+    pub step_large : b ≡ true → {s : ℕ} → s ≡ get_or (subscripts_of q) k 0 → x ≤ s → {w : Refusal} → w ≡ subscript_too_large k → Err w ≡ step_in d v q at k
     unfolding step_in
     step_large t {s} g h w = rw (w, sym (round_is is_array array) ∙ t, le-ltb (get_or (subscripts_of q) k 0) (value v f) (omega (arith, g, value_is)))
 
@@ -96,16 +94,16 @@ module _ (d : List ℕ) (v : Numbers) (q : ElementName) (at k : ℕ) (l : at < i
       branch_is : {n : Inner} {t : Bool} → n ≡ taken (branches_in d r.fields r.next.at) x → t ≡ in_branch at n q.item → t ≡ is_taken d v q.item at
       branch_is g h = h ∙ rw (g, fields_read d at l e, next_read d at l e, value_is)
 
-      pub step_taken : c ≡ true → {n : Inner} {t : Bool} → n ≡ taken (branches_in d r.fields r.next.at) x → t ≡ in_branch at n q.item → t ≡ true → Past k ≡ step_in d v q at k
+      pub step_taken : c ≡ true → {n : Inner} {t : Bool} → n ≡ taken (branches_in d r.fields r.next.at) x → t ≡ in_branch at n q.item → t ≡ true → Ok k ≡ step_in d v q at k
       unfolding step_in
       step_taken y g h t = rw (sym (round_is is_array array) ∙ no, sym choice_is ∙ y, sym (branch_is g h) ∙ t)
 
       pub step_unchosen : c ≡ true → {n : Inner} {t : Bool} → n ≡ taken (branches_in d r.fields r.next.at) x → t ≡ in_branch at n q.item → t ≡ false
-          → InTheWay branch_not_chosen ≡ step_in d v q at k
+          → Err branch_not_chosen ≡ step_in d v q at k
       unfolding step_in
       step_unchosen y g h t = rw (sym (round_is is_array array) ∙ no, sym choice_is ∙ y, sym (branch_is g h) ∙ t)
 
-      pub step_other : c ≡ false → Past k ≡ step_in d v q at k
+      pub step_other : c ≡ false → Ok k ≡ step_in d v q at k
       unfolding step_in
       step_other y = rw (sym (round_is is_array array) ∙ no, sym choice_is ∙ y)
 
@@ -128,9 +126,9 @@ module _ (d : List ℕ) (v : Numbers) (q : ElementName) where
   way_ends {at} {k} h l = let e : q.item - at ≡ 0 = omega (arith, h.upto) in sym (way_none d v q.item (subscripts_of q) at k) ∙ rw e at h.leads
 
   -- a step, and then what follows it
-  abbrev follow : Step → (ℕ → Refusal) → Refusal
-  follow (Past k) next = next k
-  follow (InTheWay r) next = r
+  abbrev follow : Result ℕ Refusal → (ℕ → Refusal) → Refusal
+  follow (Ok k) next = next k
+  follow (Err r) next = r
 
   left_step : (at k : ℕ) → at < q.item → left at k ≡ follow (step_in d v q at k) (left (at + 1))
   unfolding step_in
@@ -142,7 +140,7 @@ module _ (d : List ℕ) (v : Numbers) (q : ElementName) where
     where
       go : (a b c t : Bool) (next : ℕ → Refusal)
           → (if a then (if b then next (k + 1) else subscript_too_large k) else if c then (if t then next k else branch_not_chosen) else next k)
-          ≡ follow (if a then (if b then Past (k + 1) else InTheWay (subscript_too_large k)) else if c then (if t then Past k else InTheWay branch_not_chosen) else Past k) next
+          ≡ follow (if a then (if b then Ok (k + 1) else Err (subscript_too_large k)) else if c then (if t then Ok k else Err branch_not_chosen) else Ok k) next
       go true true c t next = refl
       go true false c t next = refl
       go false b true true next = refl
@@ -150,9 +148,9 @@ module _ (d : List ℕ) (v : Numbers) (q : ElementName) where
       go false b false t next = refl
 
   -- at most one ARRAY more
-  abbrev OneMore : (k : ℕ) → Step → Type 0
-  OneMore k (Past j) = j ≤ k + 1
-  OneMore k (InTheWay r) = Unit {0}
+  abbrev OneMore : (k : ℕ) → Result ℕ Refusal → Type 0
+  OneMore k (Ok j) = j ≤ k + 1
+  OneMore k (Err r) = Unit {0}
 
   one_more : (at k : ℕ) → OneMore k (step_in d v q at k)
   unfolding step_in
@@ -163,15 +161,15 @@ module _ (d : List ℕ) (v : Numbers) (q : ElementName) where
       tested (OneMore k) (is_choice (fields_at d at) && encloses (fields_at d at) at q.item) _ _
       (λ c. tested (OneMore k) (is_taken d v q.item at) _ _ (λ t. omega arith) (λ t. tt)) (λ c. omega arith))
 
-  pub way_past : {at k j : ℕ} {s : Step} → OnTheWay at k → at < q.item → s ≡ step_in d v q at k → s ≡ Past j → {next : ℕ} → next ≡ at + 1 → OnTheWay next j
+  pub way_past : {at k j : ℕ} {s : Result ℕ Refusal} → OnTheWay at k → at < q.item → s ≡ step_in d v q at k → s ≡ Ok j → {next : ℕ} → next ≡ at + 1 → OnTheWay next j
   way_past {at} {k} {j} h l e g n =
-      let is : step_in d v q at k ≡ Past j = sym e ∙ g in
+      let is : step_in d v q at k ≡ Ok j = sym e ∙ g in
       let more : j ≤ k + 1 = rw is at (one_more at k) in
       record { upto = omega arith; few = omega (arith, h.few); leads = rw n (sym (rw is at (left_step at k l)) ∙ h.leads) }
 
-  pub way_stops : {at k : ℕ} {r : Refusal} {s : Step} → OnTheWay at k → at < q.item → s ≡ step_in d v q at k → s ≡ InTheWay r → r ≡ in_the_way d v q.item (subscripts_of q) q.item 0 0
+  pub way_stops : {at k : ℕ} {r : Refusal} {s : Result ℕ Refusal} → OnTheWay at k → at < q.item → s ≡ step_in d v q at k → s ≡ Err r → r ≡ in_the_way d v q.item (subscripts_of q) q.item 0 0
   way_stops {at} {k} {r} h l e g =
-      let is : step_in d v q at k ≡ InTheWay r = sym e ∙ g in
+      let is : step_in d v q at k ≡ Err r = sym e ∙ g in
       sym (rw is at (left_step at k l)) ∙ h.leads
 
 -- IN A BRANCH, counted from the choice on

@@ -11,7 +11,7 @@ ghost use Rattle.meaning.specs.Numbers.{subscript_too_large};
 ghost use Rattle.meaning.specs.Ranges.{FieldsRange};
 ghost use Rattle.meaning.specs.Causes.{encloses, arrays_round, in_branch, is_one, subscripts_of, in_the_way, suits, why_none};
 ghost use Rattle.places.specs.Measuring.{numbers_in};
-ghost use Rattle.places.specs.Reasons.{step_in};
+ghost use Rattle.places.specs.Reasons.{step_in, refusal_in};
 
 use crate::measure::{chosen, value};
 use basics::{both, either};
@@ -60,11 +60,10 @@ fn arrays_round(d: &[u8], item: usize) -> usize
     ensures { result ≡ arrays_round d.now item item }
 {
     let mut place = Cursor::first();
-    let mut arrays = 0usize;
-    while place.item() < item {
+    let mut arrays = 0;
+    for at in 0..item {
         let read = place.read(d);
-        let f = read.fields;
-        arrays = one_round(f, place.item(), item) + arrays;
+        arrays += one_round(read.fields, at, item);
         place = read.next;
     }
     arrays
@@ -74,14 +73,10 @@ fn arrays_round(d: &[u8], item: usize) -> usize
 fn subscript_at(name: ElementName, depth: usize) -> usize
     ensures { result ≡ get_or (subscripts_of name) depth 0 }
 {
-    let subscripts = name.subscripts;
-    if 4 <= depth {
-        return 0;
-    }
     if name.count <= depth {
         return 0;
     }
-    subscripts[depth]
+    name.subscripts.get(depth).copied().unwrap_or(0)
 }
 
 // Whether an item stands in that branch of the choice at item `at`, which encloses it.
@@ -108,15 +103,15 @@ fn too_large(depth: usize) -> Refusal
     }
 }
 
-// Past an item, with how many ARRAYs stand outside what follows; or it is in the way.
-#[derive(Clone, Copy)]
-pub enum Step {
-    Past(usize),
-    InTheWay(Refusal),
-}
-
-// The item at a place, with so many ARRAYs outside it.
-fn step_in(d: &[u8], numbers: [u32; 64], name: ElementName, place: Cursor, depth: usize) -> Step
+// Past the item at a place, with so many ARRAYs outside it: how many stand outside what follows, or
+// the item is in the way.
+fn step_in(
+    d: &[u8],
+    numbers: [u32; 64],
+    name: ElementName,
+    place: Cursor,
+    depth: usize,
+) -> Result<usize, Refusal>
     requires { (depth ≤ place.at) × (place.at < name.item) × (name.item < item_count d.now) }
     ensures { result ≡ step_in d.now (numbers_in numbers) name place.at depth }
 {
@@ -128,40 +123,31 @@ fn step_in(d: &[u8], numbers: [u32; 64], name: ElementName, place: Cursor, depth
     let value = value(numbers, f);
     if both(f.kind == ARRAY, round) {
         if subscript_at(name, depth) < value {
-            return Step::Past(depth + 1);
+            return Ok(depth + 1);
         }
-        return Step::InTheWay(too_large(depth));
+        return Err(too_large(depth));
     }
     if both(is_choice(f), round) {
         if in_branch(at, chosen(d, f, read.next, value), item) {
-            return Step::Past(depth);
+            return Ok(depth);
         }
-        return Step::InTheWay(Refusal::BRANCH_NOT_CHOSEN);
+        return Err(Refusal::BRANCH_NOT_CHOSEN);
     }
-    Step::Past(depth)
+    Ok(depth)
 }
 
-// From the outside in: the first item in the way.
-fn in_the_way(d: &[u8], numbers: [u32; 64], name: ElementName) -> Refusal
+// From the outside in: refused by the first item in the way.
+fn in_the_way(d: &[u8], numbers: [u32; 64], name: ElementName) -> Result<(), Refusal>
     requires { name.item < item_count d.now }
-    ensures { result ≡ in_the_way d.now (numbers_in numbers) name.item (subscripts_of name) name.item 0 0 }
+    ensures { refusal_in result ≡ in_the_way d.now (numbers_in numbers) name.item (subscripts_of name) name.item 0 0 }
 {
-    let item = name.item;
     let mut place = Cursor::first();
-    let mut depth = 0usize;
-    while place.item() < item {
-        let step = step_in(d, numbers, name, place, depth);
-        match step {
-            Step::InTheWay(r) => {
-                return r;
-            }
-            Step::Past(inside) => {
-                depth = inside;
-                place = place.past(1);
-            }
-        }
+    let mut depth = 0;
+    for _ in 0..name.item {
+        depth = step_in(d, numbers, name, place, depth)?;
+        place = place.past(1);
     }
-    Refusal::NONE
+    Ok(())
 }
 
 // A number is asked of a UINT alone.
@@ -205,5 +191,8 @@ pub(crate) fn why_none(d: &[u8], numbers: [u32; 64], name: ElementName, number: 
     if !is_counted(name, arrays_round(d, name.item)) {
         return Refusal::SUBSCRIPT_COUNT;
     }
-    in_the_way(d, numbers, name)
+    match in_the_way(d, numbers, name) {
+        Err(r) => r,
+        Ok(()) => Refusal::NONE,
+    }
 }

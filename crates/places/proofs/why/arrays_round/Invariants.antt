@@ -1,10 +1,7 @@
--- `why::arrays_round`: those among the items before the place are counted; the items left are the measure. Assumes nothing.
-use Prim.Native.Nat.{◌-◌}
+-- `why::arrays_round`: those among the items before the place are counted. Assumes nothing.
+use mathlib.Core.Path.{◌≡◌}
 use Rattle.places.proofs.Reasons.{Counted}
 use Rattle.places.proofs.why.arrays_round.Given as goal
 
-abbrev pub invariant-loop-place : goal.invariant-loop-place
-invariant-loop-place l = Counted l.d l.item l.place.at l.arrays
-
-abbrev pub decreases-loop-place : goal.decreases-loop-place
-decreases-loop-place l = l.item - l.place.at
+abbrev pub invariant-loop-at : goal.invariant-loop-at
+invariant-loop-at l = record { here : l.place.at ≡ l.at; counted : Counted l.d l.item l.at l.arrays }

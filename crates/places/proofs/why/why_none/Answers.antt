@@ -21,7 +21,12 @@ returns-then-not-is_counted c =
 pub in_the_way-requires : goal.in_the_way-requires
 in_the_way-requires c = one_there c.args.d.now c.args.name c.is_one.ensures (c.if-not-is_one.false)
 
-pub returns : goal.returns
-returns c =
+pub returns-in-Err : goal.returns-in-Err
+returns-in-Err c =
     let right = c.is_counted.ensures ∙ rw c.arrays_round.ensures in
-    by_round _ _ _ _ c.is_one.ensures (c.if-not-is_one.false) c.suits.ensures (c.if-not-suits.false) right (c.if-not-is_counted.false) c.in_the_way.ensures
+    by_round _ _ _ _ c.is_one.ensures (c.if-not-is_one.false) c.suits.ensures (c.if-not-suits.false) right (c.if-not-is_counted.false) c.in-Err.ensures
+
+pub returns-in-Ok : goal.returns-in-Ok
+returns-in-Ok c =
+    let right = c.is_counted.ensures ∙ rw c.arrays_round.ensures in
+    by_round _ _ _ _ c.is_one.ensures (c.if-not-is_one.false) c.suits.ensures (c.if-not-suits.false) right (c.if-not-is_counted.false) c.in-Ok.ensures
