@@ -27,6 +27,7 @@ use Rattle.offsets.specs.declared.TableOffset.{TableOffset}
 use Rattle.meaning.specs.declared.Location.{Location}
 use Rattle.places.specs.declared.RangeTable.{RangeTable}
 use Rattle.places.specs.declared.survey.Answer.{Answer}
+use Rattle.meaning.specs.declared.Answer as meant
 use Rattle.places.specs.declared.survey.Asked.{Asked}
 use Rattle.places.specs.declared.survey.Standing.{Standing}
 use Rattle.places.specs.declared.survey.TableSpot.{TableSpot}
@@ -121,11 +122,11 @@ module _ (d img : List ℕ) (x : Refusal) (is_refused : open_image d img ≡ ref
 
 module _ (d img : List ℕ) (q : Asked) (r : Answer) (a : AnswerAs d img q (Ok r) (open_image d img)) where
   -- THE TOTAL
-  pub layout_told : Ok (Answer.Total r.total) ≡ layout_reply d img
+  pub layout_told : Ok (meant.Answer.Total r.total) ≡ layout_reply d img
   unfolding layout_reply layout_in
   layout_told = go (open_image d img) a
     where
-      go : (o : Opened) → AnswerAs d img q (Ok r) o → Ok (Answer.Total r.total) ≡ layout_in o
+      go : (o : Opened) → AnswerAs d img q (Ok r) o → Ok (meant.Answer.Total r.total) ≡ layout_in o
       go (opened ts es s n) h = rw h.total
       go (refused y) h = absurd h
 

@@ -43,7 +43,7 @@ fn leaf_octets(f: Fields, value: usize) -> usize
         return f.octets;
     }
     if f.flags {
-        return value.div_ceil(8);
+        return (value + 7) / 8;
     }
     value
 }

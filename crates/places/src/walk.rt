@@ -13,6 +13,7 @@ ghost use Rattle.places.specs.Walking.{Readable, noted, meets, StepReady, step_o
 
 use crate::measure::{Span, chosen, is_array, item_size, leaf_span, value};
 use crate::rows::{Row, first_row, onward};
+use basics::{both, either};
 use items::{Cursor, is_choice};
 use meaning::{Fields, Refusal};
 use offsets::{ImageOffset, TableOffset, TableStart};
@@ -40,9 +41,9 @@ fn holds_one(here: TableOffset, size: usize, from: TableOffset, octets: usize) -
     let asked = from.octets();
     let piece = here.octets();
     if asked < piece {
-        return 0 < size && piece - asked < octets;
+        return both(0 < size, piece - asked < octets);
     }
-    0 < octets && asked - piece < size
+    both(0 < octets, asked - piece < size)
 }
 
 // How far a walk has come in a table: the numbers of the slots, the octets walked, the row found of
@@ -75,7 +76,7 @@ fn image_short(at: Cursor, here: ImageOffset) -> Refusal
         number: 9,
         item: at.item() as u64,
         octet: here.octet() as u64,
-        depth: 0,
+        ..Refusal::NONE
     }
 }
 
@@ -127,7 +128,7 @@ fn step(
         numbers: noted(image, numbers, slot, here, size),
         octets,
         row,
-        held: held || dimension,
+        held: either(held, dimension),
         next,
     })
 }

@@ -6,30 +6,29 @@
 // outside in. No memory is written.
 ghost use Rattle.std.specs.Prelude.{◌≡◌, ◌&&◌, ◌<◌, ◌≤◌, length, get_or};
 ghost use Rattle.meaning.specs.Basics.{◌≤?◌, ◌=?◌};
-ghost use Rattle.meaning.specs.Description.{item_count, is_element, is_array, count};
+ghost use Rattle.meaning.specs.Description.{item_count, is_element, is_array, is_uint, count};
 ghost use Rattle.meaning.specs.Numbers.{subscript_too_large};
 ghost use Rattle.meaning.specs.Ranges.{FieldsRange};
 ghost use Rattle.meaning.specs.Causes.{encloses, arrays_round, in_branch, is_one, subscripts_of, in_the_way, suits, why_none};
 ghost use Rattle.places.specs.Measuring.{numbers_in};
 ghost use Rattle.places.specs.Reasons.{step_in, refusal_in};
 
-use crate::measure::{chosen, value};
+use crate::measure::{chosen, is_array, value};
 use basics::{both, either};
 use items::{Cursor, is_choice};
-use meaning::{ElementName, Fields, Inner, Refusal};
+use meaning::{ElementName, Fields, Inner, Kind, Refusal};
 
-// The kinds of items that are asked for.
-const UINT: u32 = 2;
-
-const SET: u32 = 4;
-
-const ARRAY: u32 = 5;
+fn is_uint(f: Fields) -> bool
+    ensures { result ≡ is_uint f }
+{
+    f.kind == Kind::Uint
+}
 
 // An element is a UINT, BLOCK or SET.
 fn is_element(f: Fields) -> bool
     ensures { result ≡ is_element f }
 {
-    both(UINT <= f.kind, f.kind <= SET)
+    matches!(f.kind, Kind::Uint | Kind::Block | Kind::Set)
 }
 
 // Whether an item, at its place, encloses a later one.
@@ -48,7 +47,7 @@ fn one_round(f: Fields, at: usize, item: usize) -> usize
     requires { FieldsRange f × (at < item) }
     ensures { (result ≡ count (is_array f && encloses f at item)) × (result ≤ 1) }
 {
-    if both(f.kind == ARRAY, encloses(f, at, item)) {
+    if both(is_array(f), encloses(f, at, item)) {
         return 1;
     }
     0
@@ -97,9 +96,8 @@ fn too_large(depth: usize) -> Refusal
 {
     Refusal {
         number: 25,
-        item: 0,
-        octet: 0,
         depth: depth as u64,
+        ..Refusal::NONE
     }
 }
 
@@ -121,7 +119,7 @@ fn step_in(
     let f = read.fields;
     let round = encloses(f, at, item);
     let value = value(numbers, f);
-    if both(f.kind == ARRAY, round) {
+    if both(is_array(f), round) {
         if subscript_at(name, depth) < value {
             return Ok(depth + 1);
         }
@@ -158,7 +156,7 @@ pub(crate) fn suits(d: &[u8], name: ElementName, number: bool) -> bool
     let place = start.past(name.item);
     let read = place.read(d);
     let f = read.fields;
-    either(!number, f.kind == UINT)
+    either(!number, is_uint(f))
 }
 
 // The item is an element; one past the last is none.

@@ -1,4 +1,6 @@
 -- `measure::body_size` and `measure::item_size`: what is measured so far goes with what is left, and an item is measured by what it comes to. Assumes nothing.
+use borrow.Author.Tests.{eqb-true, eqb-false}
+use mathlib.Core.Path.{sym, ◌∙◌}
 use native.Mathlib.Omega.{arith}
 use Rattle.items.proofs.ReadLaws.{range_read}
 use Rattle.places.proofs.Measures.{started, ended, next_ready, less, counted, stepped_on}
@@ -55,17 +57,17 @@ item_size-array_span-requires t c =
     let e = entered o c.nests.ensures c.if-nests.true c.inner_of-taken.ensures c.past.ensures in
     array_ready e _ c.body_size-body.ensures
 
-pub item_size-returns-then-f-eq-ARRAY : goal.item_size-returns-then-f-eq-ARRAY
-item_size-returns-then-f-eq-ARRAY t c =
+pub item_size-returns-then-is_array : goal.item_size-returns-then-is_array
+item_size-returns-then-is_array t c =
     let o = opened c.requires c.read-read.ensures c.value-value.ensures c.past-after.ensures in
     let e = entered o c.nests.ensures c.if-nests.true c.inner_of-taken.ensures c.past.ensures in
-    array_done e _ c.body_size-body.ensures c.if-f-eq-ARRAY.true c.array_span.ensures
+    array_done e _ c.body_size-body.ensures (eqb-true _ 5 (sym c.is_array.ensures ∙ c.if-is_array.true)) c.array_span.ensures
 
 pub item_size-returns-then-nests : goal.item_size-returns-then-nests
 item_size-returns-then-nests t c =
     let o = opened c.requires c.read-read.ensures c.value-value.ensures c.past-after.ensures in
     let e = entered o c.nests.ensures c.if-nests.true c.inner_of-taken.ensures c.past.ensures in
-    choice_done e _ c.body_size-body.ensures c.if-f-eq-ARRAY.false
+    choice_done e _ c.body_size-body.ensures (eqb-false _ 5 (sym c.is_array.ensures ∙ c.if-is_array.false))
 
 pub item_size-leaf_span-requires : goal.item_size-leaf_span-requires
 item_size-leaf_span-requires t c =

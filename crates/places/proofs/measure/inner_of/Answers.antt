@@ -1,12 +1,12 @@
 -- `measure::inner_of`: the test is the definition's. Assumes nothing.
-use borrow.Author.Tests.{eq-eqb, ne_eqb}
+use mathlib.Core.Path.{sym, ◌∙◌}
 use Rattle.places.specs.Measuring.{inner_of}
 use Rattle.places.proofs.measure.inner_of.Goals as goal
 
-pub returns-then-f-eq-ARRAY : goal.returns-then-f-eq-ARRAY
+pub returns-then-is_array : goal.returns-then-is_array
 unfolding inner_of
-returns-then-f-eq-ARRAY c = rw (eq-eqb _ _ c.if-f-eq-ARRAY.true)
+returns-then-is_array c = rw (sym c.is_array.ensures ∙ c.if-is_array.true)
 
 pub returns : goal.returns
 unfolding inner_of
-returns c = rw (ne_eqb _ _ c.if-f-eq-ARRAY.false) c.chosen.ensures
+returns c = rw (sym c.is_array.ensures ∙ c.if-is_array.false) c.chosen.ensures

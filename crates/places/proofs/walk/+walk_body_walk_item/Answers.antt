@@ -1,6 +1,7 @@
 -- `walk::walk_body` and `walk::walk_item`: what is left of a body leads where the whole does, and an item is walked by what it comes to. Assumes nothing.
+use borrow.Author.Tests.{eqb-true, eqb-false}
 use Rattle.std.proofs.Common.{◌≡◌, Err, rules}
-use mathlib.Core.Path.{refl}
+use mathlib.Core.Path.{refl, sym, ◌∙◌}
 use native.Mathlib.Omega.{arith}
 use Rattle.items.proofs.ReadLaws.{range_read}
 use Rattle.places.proofs.Opened.{level_left}
@@ -75,12 +76,12 @@ walk_item-item_size-all-requires t c =
 pub walk_item-step-requires : goal.walk_item-step-requires
 walk_item-step-requires t c =
     let h = here c.requires c.read-read.ensures c.value_here-value.ensures c.past-after.ensures in
-    array_step h c.if-f-eq-ARRAY.true c.item_size-all.ensures
+    array_step h (eqb-true _ 5 (sym c.is_array.ensures ∙ c.if-is_array.true)) c.item_size-all.ensures
 
-pub walk_item-returns-then-f-eq-ARRAY : goal.walk_item-returns-then-f-eq-ARRAY
-walk_item-returns-then-f-eq-ARRAY t c =
+pub walk_item-returns-then-is_array : goal.walk_item-returns-then-is_array
+walk_item-returns-then-is_array t c =
     let h = here c.requires c.read-read.ensures c.value_here-value.ensures c.past-after.ensures in
-    array_walks h c.if-f-eq-ARRAY.true c.item_size-all.ensures c.step.ensures
+    array_walks h (eqb-true _ 5 (sym c.is_array.ensures ∙ c.if-is_array.true)) c.item_size-all.ensures c.step.ensures
 
 pub walk_item-leaf_span-piece-requires : goal.walk_item-leaf_span-piece-requires
 walk_item-leaf_span-piece-requires t c =
@@ -90,9 +91,9 @@ walk_item-leaf_span-piece-requires t c =
 pub walk_item-step-requires-2 : goal.walk_item-step-requires-2
 walk_item-step-requires-2 t c =
     let h = here c.requires c.read-read.ensures c.value_here-value.ensures c.past-after.ensures in
-    leaf_ready h c.is_choice.ensures c.if-is_choice.false c.if-f-eq-ARRAY.false c.item.ensures c.leaf_span-piece.ensures
+    leaf_ready h c.is_choice.ensures c.if-is_choice.false (eqb-false _ 5 (sym c.is_array.ensures ∙ c.if-is_array.false)) c.item.ensures c.leaf_span-piece.ensures
 
 pub walk_item-returns : goal.walk_item-returns
 walk_item-returns t c =
     let h = here c.requires c.read-read.ensures c.value_here-value.ensures c.past-after.ensures in
-    leaf_walks h c.is_choice.ensures c.if-is_choice.false c.if-f-eq-ARRAY.false c.item.ensures c.leaf_span-piece.ensures c.step-2.ensures
+    leaf_walks h c.is_choice.ensures c.if-is_choice.false (eqb-false _ 5 (sym c.is_array.ensures ∙ c.if-is_array.false)) c.item.ensures c.leaf_span-piece.ensures c.step-2.ensures

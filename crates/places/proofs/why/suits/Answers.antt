@@ -7,4 +7,4 @@ use Rattle.places.proofs.why.suits.Goals as goal
 
 pub returns : goal.returns
 returns c =
-    c.either.ensures ∙ rw (read_test is_uint refl _ _ c.read-read.ensures, item_there _ c.first-start.ensures c.past-place.ensures (omega arith))
+    c.either.ensures ∙ rw (c.is_uint.ensures, read_test is_uint refl _ _ c.read-read.ensures, item_there _ c.first-start.ensures c.past-place.ensures (omega arith))
