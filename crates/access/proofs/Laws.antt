@@ -38,9 +38,8 @@ use Rattle.places.specs.declared.RangeTable.{RangeTable}
 use Rattle.places.specs.Found.{FoundRange}
 use Rattle.places.specs.Opening as ranges
 use Rattle.places.specs.Surveying.{held_in}
-use Rattle.access.specs.declared.Seen.{Seen}
 use Rattle.meaning.specs.Messages.{other_size, write_table_reply, write_table_image}
-use Rattle.access.specs.Access.{SeenAs, place_to_write, allowed_by, fitted_by}
+use Rattle.access.specs.Access.{element_to_write, SeenAs, place_to_write, allowed_by, fitted_by}
 
 -- THE TABLE THAT AN ITEM STANDS IN
 -- one item further on
@@ -59,29 +58,25 @@ pub record Passing (d : List ℕ) (item : ℕ) (read : Read) (at : ℕ) (latest 
   pub table : latest ≡ fields_at d (table_around d at)
 
 module _ (d : List ℕ) (item : ℕ) (h : item < item_count d) where
-  pub passing_first : (r : Read) (at : ℕ) → at ≡ 0 → r ≡ read_at d at → Passing d item r at r.fields
-  passing_first r at z e = record {
+  pub passing_first : (r : Read) → r ≡ read_at d 0 → Passing d item r 0 r.fields
+  passing_first r e = record {
     upto = omega arith;
     here = e;
-    table = fields_read d at (omega arith) e ∙ ap (fields_at d) (z ∙ sym (around_none d) ∙ ap (table_around d) (sym z));
+    table = fields_read d 0 (omega arith) e ∙ ap (fields_at d) (sym (around_none d));
   }
 
   module _ (r : Read) (at : ℕ) (t : Fields) (p : Passing d item r at t) where
-    pub passing_next : at < item → (t' : Fields) → t' ≡ (if is_table r.fields then r.fields else t) → (r' : Read) → r' ≡ read_at d r.next.at → Passing d item r' r.next.at t'
+    pub passing_next : at < item → (t' : Fields) → t' ≡ (if is_table r.fields then r.fields else t) → (r' : Read) → r' ≡ read_at d r.next.at → Passing d item r' (at + 1) t'
     passing_next l t' e r' g =
-        let n = next_read d at (omega arith) p.here in
         record {
           upto = omega arith;
-          here = g;
-          table = e ∙ rw (fields_read d at (omega arith) p.here, p.table) (go (is_table (fields_at d at))) ∙ ap (fields_at d) (sym (around_step d at) ∙ ap (table_around d) (sym n));
+          here = g ∙ ap (read_at d) (next_read d at (omega arith) p.here);
+          table = e ∙ rw (fields_read d at (omega arith) p.here, p.table) (go (is_table (fields_at d at))) ∙ ap (fields_at d) (sym (around_step d at));
         }
       where
         go : (b : Bool) → (if b then fields_at d at else fields_at d (table_around d at)) ≡ fields_at d (if b then at else table_around d at)
         go true = refl
         go false = refl
-
-    pub passing_less : at < item → item - r.next.at < item - at
-    passing_less l = let n = next_read d at (omega arith) p.here in omega arith
 
     pub passing_seen : item ≤ at → SeenAs d item (record { fields = r.fields; table = t })
     passing_seen n =
@@ -311,15 +306,12 @@ module _ (number : Bool) (fits : ℕ → Bool) (d img : List ℕ) (q : ElementNa
   unfolding allowed_at fitting
   write_refused r e = e ∙ ap (λ (v : Place). fitting fits (allowed_at d img q (elements_in (open_image d img)) v)) (sym e) ∙ comes_to
 
-  module _ (p n : ℕ) (e : found ≡ Place.At (record { 0 = p }) n) (s : Seen) (a : SeenAs d q.item s) where
-    at_place : allowed_by (s.table.writable =? 1) (is_dimension s.fields) (record { 0 = p }) n ≡ allowed d img (elements_in (open_image d img)) (table_around d q.item) p n
-    at_place = rw (a.table, a.fields) (sym (element_is d img q p n ((for_exactly d img q number p n).0 (sym f ∙ e)).1))
-
+  module _ (p n : ℕ) (e : found ≡ Place.At (record { 0 = p }) n) where
     -- 13, 14, then 15
-    pub write_there : fitted_by (fits n) (allowed_by (s.table.writable =? 1) (is_dimension s.fields) (record { 0 = p }) n) ≡ written_in number fits d img q (open_image d img)
+    pub write_there : element_to_write d q.item (record { 0 = p }) n (fits n) ≡ written_in number fits d img q (open_image d img)
     unfolding allowed_at
     write_there =
-        fitted_is fits (s.table.writable =? 1) (is_dimension s.fields) (record { 0 = p }) n ∙ ap (fitting fits) at_place
+        fitted_is fits _ _ (record { 0 = p }) n ∙ ap (fitting fits) (sym (element_is d img q p n ((for_exactly d img q number p n).0 (sym f ∙ e)).1))
         ∙ ap (λ (v : Place). fitting fits (allowed_at d img q (elements_in (open_image d img)) v)) (sym e) ∙ comes_to
 
 -- A NUMBER AND SO MANY OCTETS

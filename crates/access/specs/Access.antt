@@ -1,7 +1,8 @@
 -- WHAT IS KNOWN WHERE SOMETHING IS FOUND, for the contracts of the functions below the public calls. Assumes nothing.
 use Rattle.std.specs.Prelude.{ℕ, ◌+◌, ◌≤◌, ◌≡◌, Bool, ◌&&◌, List, length, if◌then◌else◌}
 use Rattle.meaning.specs.declared.Place.{Place}
-use Rattle.meaning.specs.Description.{fields_at}
+use Rattle.meaning.specs.Basics.{◌=?◌}
+use Rattle.meaning.specs.Description.{fields_at, is_dimension}
 use Rattle.meaning.specs.Numbers.{outside_table, not_writable, holds_dimension, wrong_size}
 use Rattle.meaning.specs.Refusals.{table_place_reply, table_around, range_place}
 use Rattle.meaning.specs.Messages.{other_size}
@@ -26,6 +27,10 @@ allowed_by w h p n = if w then (if h then Place.Refused holds_dimension else Pla
 unfoldable pub fitted_by : (fits : Bool) → Place → Place
 fitted_by b (Place.At p n) = if b then Place.At p n else Place.Refused wrong_size
 fitted_by b (Place.Refused r) = Place.Refused r
+
+-- 13, 14, then 15 of an element where it is
+abbrev pub element_to_write : (description : List ℕ) → (item : ℕ) → ImageOffset → (n : ℕ) → (fits : Bool) → Place
+element_to_write d i p n b = fitted_by b (allowed_by ((fields_at d (table_around d i)).writable =? 1) (is_dimension (fields_at d i)) p n)
 
 -- n octets from the place on lie inside the image
 abbrev pub FitsAt : (image : List ℕ) → (n : ℕ) → Place → Type 0

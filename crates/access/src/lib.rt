@@ -12,7 +12,7 @@ ghost use Rattle.meaning.specs.Basics.{◌<?◌, ◌≤?◌, ◌=?◌};
 ghost use Rattle.meaning.specs.Description.{item_count, is_table, is_dimension};
 ghost use Rattle.meaning.specs.Refusals.{open_image, table_place_reply, element_place_reply, place_part, place_start, table_part_reply, element_part_reply, read_range_reply, read_range_part, element_number_reply, place_verdict, image_with, octets_place_in, number_place_in, write_range_reply, write_range_image, write_octets_reply, write_octets_image, write_number_reply, write_number_image};
 ghost use Rattle.meaning.specs.Messages.{write_table_reply, write_table_image};
-ghost use Rattle.access.specs.Access.{place_to_write, SeenAs, allowed_by, fitted_by, FitsAt, Inside};
+ghost use Rattle.access.specs.Access.{place_to_write, SeenAs, allowed_by, fitted_by, element_to_write, FitsAt, Inside};
 
 use basics::{both, either, ends_within};
 use items::Cursor;
@@ -46,36 +46,35 @@ fn around(description: &[u8], item: usize) -> Seen
     requires { item < item_count description.now }
     ensures { SeenAs description.now item result }
 {
-    let start = Cursor::first();
-    let mut read = start.read(description);
-    let mut place = start;
+    let mut read = Cursor::first().read(description);
     let mut table = read.fields;
-    while place.item() < item {
-        let next = read.next;
+    for _ in 0..item {
         table = latest(read.fields, table);
-        read = next.read(description);
-        place = next;
+        read = read.next.read(description);
     }
-    let fields = read.fields;
-    Seen { fields, table }
+    Seen {
+        fields: read.fields,
+        table,
+    }
 }
 
 // WHERE A WRITE GOES
 // 13, then 14: so many octets from `start` on, in a table that is writable or not, holding an octet
 // of a dimension or not.
+#[tactic(auto, unfolding(crate::specs::Access::allowed_by))]
 fn allowed(writable: bool, held: bool, start: ImageOffset, octets: usize) -> Place
     ensures { result ≡ allowed_by writable held start octets }
 {
-    if writable {
-        if held {
-            return Place::Refused(Refusal::HOLDS_DIMENSION);
-        }
-        return Place::At {
-            start,
-            length: octets,
-        };
+    if !writable {
+        return Place::Refused(Refusal::NOT_WRITABLE);
     }
-    Place::Refused(Refusal::NOT_WRITABLE)
+    if held {
+        return Place::Refused(Refusal::HOLDS_DIMENSION);
+    }
+    Place::At {
+        start,
+        length: octets,
+    }
 }
 
 // Whether octets from an offset on lie in a table of that length; where they are to be the whole of
@@ -122,31 +121,38 @@ fn write_place(
     }
 }
 
-// 13, then 14, where an element is: it holds an octet of a dimension if it is one.
-fn element_allowed(seen: Seen, start: ImageOffset, length: usize) -> Place
-    ensures { result ≡ allowed_by (seen.table.writable =? 1) (is_dimension seen.fields) start length }
-{
-    let table = seen.table;
-    let fields = seen.fields;
-    allowed(table.writable == 1, 0 < fields.sets, start, length)
-}
-
 // 15: what is to be written doesn't fit the element's length.
+#[tactic(auto, unfolding(crate::specs::Access::fitted_by))]
 fn fitted(place: Place, fits: bool) -> Place
     ensures { result ≡ fitted_by fits place }
 {
     match place {
         Place::Refused(_) => place,
-        Place::At {
-            start: _,
-            length: _,
-        } => {
+        Place::At { .. } => {
             if fits {
                 return place;
             }
             Place::Refused(Refusal::WRONG_SIZE)
         }
     }
+}
+
+// 13, 14, then 15, where an element is: it holds an octet of a dimension if it is one.
+fn element_to_write(
+    description: &[u8],
+    item: usize,
+    start: ImageOffset,
+    length: usize,
+    fits: bool,
+) -> Place
+    requires { item < item_count description.now }
+    ensures { result ≡ element_to_write description.now item start length fits }
+{
+    let Seen { fields, table } = around(description, item);
+    fitted(
+        allowed(table.writable == 1, 0 < fields.sets, start, length),
+        fits,
+    )
 }
 
 fn octets_place(description: &[u8], image: &[u8], name: ElementName, octets: usize) -> Place
@@ -156,8 +162,7 @@ fn octets_place(description: &[u8], image: &[u8], name: ElementName, octets: usi
     match found {
         Place::Refused(_) => found,
         Place::At { start, length } => {
-            let seen = around(description, name.item);
-            fitted(element_allowed(seen, start, length), octets == length)
+            element_to_write(description, name.item, start, length, octets == length)
         }
     }
 }
@@ -178,10 +183,13 @@ fn number_place(description: &[u8], image: &[u8], name: ElementName, value: u64)
     let found = places::integer_place(description, image, name);
     match found {
         Place::Refused(_) => found,
-        Place::At { start, length } => {
-            let seen = around(description, name.item);
-            fitted(element_allowed(seen, start, length), fits_in(value, length))
-        }
+        Place::At { start, length } => element_to_write(
+            description,
+            name.item,
+            start,
+            length,
+            fits_in(value, length),
+        ),
     }
 }
 

@@ -5,9 +5,9 @@ use Rattle.access.proofs.Laws.{write_refused, write_there}
 use Rattle.access.proofs.Inside.{stands_for}
 use Rattle.access.proofs.number_place.Goals as goal
 
-pub around-seen-requires : goal.around-seen-requires
+pub element_to_write-requires : goal.element_to_write-requires
 unfolding integer_place_reply
-around-seen-requires c = (stands_for _ _ _ _ _ _ (sym c.integer_place-found.ensures ∙ c.in-At.is)).there
+element_to_write-requires c = (stands_for _ _ _ _ _ _ (sym c.integer_place-found.ensures ∙ c.in-At.is)).there
 
 pub returns-in-Refused : goal.returns-in-Refused
 unfolding integer_place_reply
@@ -16,5 +16,4 @@ returns-in-Refused c = write_refused _ _ _ _ _ _ c.integer_place-found.ensures _
 pub returns-in-At : goal.returns-in-At
 unfolding integer_place_reply
 returns-in-At c =
-    c.fitted.ensures ∙ rw (c.element_allowed.ensures, c.fits_in.ensures)
-    (write_there _ _ _ _ _ _ c.integer_place-found.ensures _ _ c.in-At.is _ c.around-seen.ensures)
+    c.element_to_write.ensures ∙ rw c.fits_in.ensures (write_there _ _ _ _ _ _ c.integer_place-found.ensures _ _ c.in-At.is)
