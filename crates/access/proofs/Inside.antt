@@ -1,5 +1,5 @@
 -- What is found lies inside the image, and over a description of whole items; so a write that is accepted fits where it goes. Assumes nothing.
-use Rattle.std.specs.Prelude.{if◌then◌else◌}
+use Rattle.std.specs.Prelude.{if◌then◌else◌, Ok, Err}
 use Prim.Native.Nat.{ℕ, ◌+◌, ◌^◌, ◌<◌, ◌≤◌, min}
 use mathlib.Core.Path.{◌≡◌, refl, ◌∙◌, ap, sym, subst}
 use mathlib.Core.Bool.{Bool, true, false, not, ◌&&◌}
@@ -13,7 +13,6 @@ use Rattle.offsets.specs.declared.TableOffset.{TableOffset}
 use Rattle.meaning.specs.Basics.{◌<?◌, ◌=?◌}
 use Rattle.meaning.specs.declared.ElementName.{ElementName}
 use Rattle.meaning.specs.declared.Refusal.{Refusal}
-use Rattle.meaning.specs.declared.Place.{Place}
 use Rattle.meaning.specs.Description.{item_count, fields_at, is_uint, kind_of}
 use Rattle.meaning.specs.Layout.{Placed, Seat, table_named, number_at}
 use Rattle.meaning.specs.Refusals.{open_image, seat_place, table_place_reply, range_at, read_range_reply, element_place_reply, integer_place_reply, element_place_in, writable, any_dimension, table_around, allowed, allowed_at, fitting, range_of, range_in, range_place, written_in, octets_place_in, number_place_in, place_start}
@@ -28,6 +27,7 @@ use Rattle.meaning.specs.Messages.{other_size}
 use Rattle.meaning.proofs.Either.{tested}
 use Rattle.access.specs.Access.{place_to_write, FitsAt, Inside}
 use Rattle.access.proofs.Laws.{elements_in, written_told}
+use Rattle.meaning.specs.Values.{Place, at}
 
 -- AN ELEMENT
 pub record Stands (d img : List ℕ) (q : ElementName) (p n : ℕ) : Type 0 where
@@ -35,7 +35,7 @@ pub record Stands (d img : List ℕ) (q : ElementName) (p n : ℕ) : Type 0 wher
   pub there : q.item < item_count d
   pub few : is_uint (fields_at d q.item) ≡ true → n ≤ 4
 
-pub stands : (d img : List ℕ) (q : ElementName) (p n : ℕ) → element_place_reply d img q ≡ Place.At (record { 0 = p }) n → Stands d img q p n
+pub stands : (d img : List ℕ) (q : ElementName) (p n : ℕ) → element_place_reply d img q ≡ at (record { 0 = p }) n → Stands d img q p n
 stands d img q p n e =
     let a = where_opens d img q p n e in
     record {
@@ -45,11 +45,11 @@ stands d img q p n e =
     }
 
 pub element_inside : (d img : List ℕ) (q : ElementName) (v : Place) → v ≡ element_place_reply d img q → Inside img v
-element_inside d img q (Place.At p n) e = (stands d img q p.0 n (sym e)).inside
-element_inside d img q (Place.Refused r) e = tt
+element_inside d img q (Ok w) e = (stands d img q w.start.0 w.length (sym e)).inside
+element_inside d img q (Err r) e = tt
 
 -- an integer is read as it stands
-pub read_integer : (d img : List ℕ) (q : ElementName) (p n : ℕ) → integer_place_reply d img q ≡ Place.At (record { 0 = p }) n → number_read img p n ≡ number_at img p n
+pub read_integer : (d img : List ℕ) (q : ElementName) (p n : ℕ) → integer_place_reply d img q ≡ at (record { 0 = p }) n → number_read img p n ≡ number_at img p n
 unfolding integer_place_reply
 read_integer d img q p n e =
     let i = (for_exactly d img q true p n).0 e in
@@ -58,35 +58,35 @@ read_integer d img q p n e =
 
 -- A TABLE
 pub table_inside : (d img : List ℕ) (m k : ℕ) (v : Place) → v ≡ table_place_reply d img m k → Inside img v
-table_inside d img m k (Place.At p n) e =
-    let a = table_opens d img m k p.0 n (sym e) in
+table_inside d img m k (Ok w) e =
+    let a = table_opens d img m k w.start.0 w.length (sym e) in
     omega (arith, table_ends a, total_inside d img a.seats a.elements a.slots a.total a.opens.laid)
-table_inside d img m k (Place.Refused r) e = tt
+table_inside d img m k (Err r) e = tt
 
 -- and a range that it holds
 pub range_inside : (d img : List ℕ) (m k : ℕ) (o : TableOffset) (n : ℕ) (v : Place) → v ≡ read_range_reply d img m k o n → Inside img v
 unfolding read_range_reply range_at
 range_inside d img m k o n v e = subst (Inside img) (sym e) (go (table_place_reply d img m k) refl)
   where
-    within : (p l : ℕ) → p + l ≤ length img → (b : Bool) → (l <? o.0 + n) ≡ b → Inside img (if b then Place.Refused outside_table else Place.At (record { 0 = p + o.0 }) n)
+    within : (p l : ℕ) → p + l ≤ length img → (b : Bool) → (l <? o.0 + n) ≡ b → Inside img (if b then Err outside_table else at (record { 0 = p + o.0 }) n)
     within p l h true f = tt
     within p l h false f = omega (arith, ltb-false l (o.0 + n) f)
 
     go : (w : Place) → w ≡ table_place_reply d img m k → Inside img (range_at o n w)
-    go (Place.At p l) h = within p.0 l (table_inside d img m k (Place.At p l) h) (l <? o.0 + n) refl
-    go (Place.Refused r) h = tt
+    go (Ok e) h = within e.start.0 e.length (table_inside d img m k (at e.start e.length) h) (e.length <? o.0 + n) refl
+    go (Err r) h = tt
 
 -- A PART stands at the first octet of its place, which the image's end doesn't cut
-pub first_told : (img : List ℕ) (w : Place) (p : ImageOffset) (n : ℕ) → Inside img w → w ≡ Place.At p n → min p.0 (length img) ≡ place_start w
+pub first_told : (img : List ℕ) (w : Place) (p : ImageOffset) (n : ℕ) → Inside img w → w ≡ at p n → min p.0 (length img) ≡ place_start w
 first_told img w p n h e = let k : p.0 + n ≤ length img = subst (Inside img) e h in rw e (omega (arith, k))
 
 -- AN ACCEPTED WRITE FITS WHERE IT GOES
 -- what holds of every refusal, and of the octets asked about, holds of what may be written
-allowed_holds : (P : Place → Type 0) → ((r : Refusal) → P (Place.Refused r)) → (d img : List ℕ) (es : List Placed) (t p n : ℕ) → P (Place.At (record { 0 = p }) n) → P (allowed d img es t p n)
+allowed_holds : (P : Place → Type 0) → ((r : Refusal) → P (Err r)) → (d img : List ℕ) (es : List Placed) (t p n : ℕ) → P (at (record { 0 = p }) n) → P (allowed d img es t p n)
 unfolding allowed
 allowed_holds P refusals d img es t p n there = go (writable d img t) (any_dimension es p n)
   where
-    go : (a b : Bool) → P (if not a then Place.Refused not_writable else if b then Place.Refused holds_dimension else Place.At (record { 0 = p }) n)
+    go : (a b : Bool) → P (if not a then Err not_writable else if b then Err holds_dimension else at (record { 0 = p }) n)
     go true true = refusals _
     go true false = there
     go false b = refusals _
@@ -98,7 +98,7 @@ module _ (d img : List ℕ) (es : List Placed) (o : TableOffset) (n : ℕ) where
   found_fits none f = tt
   found_fits (some t) f = go (t.size <? o.0 + n) refl
     where
-      go : (b : Bool) → (t.size <? o.0 + n) ≡ b → FitsAt img n (if b then Place.Refused outside_table else allowed d img es t.item (t.start + o.0) n)
+      go : (b : Bool) → (t.size <? o.0 + n) ≡ b → FitsAt img n (if b then Err outside_table else allowed d img es t.item (t.start + o.0) n)
       go true e = tt
       go false e = allowed_holds (FitsAt img n) (λ r. tt) d img es t.item (t.start + o.0) n (omega (arith, ltb-false t.size (o.0 + n) e, f t refl))
 
@@ -126,7 +126,7 @@ module _ (d img : List ℕ) (q : ElementName) (es : List Placed) where
   unfolding fitting
   octets_at_lem n p l h = allowed_holds (λ w. FitsAt img n (fitting (λ k. n =? k) w)) (λ r. tt) d img es (table_around d q.item) p l (go (n =? l) refl)
     where
-      go : (b : Bool) → (n =? l) ≡ b → FitsAt img n (if b then Place.At (record { 0 = p }) l else Place.Refused wrong_size)
+      go : (b : Bool) → (n =? l) ≡ b → FitsAt img n (if b then at (record { 0 = p }) l else Err wrong_size)
       go true e = omega (arith, eqb-true n l e)
       go false e = tt
 
@@ -134,24 +134,24 @@ module _ (d img : List ℕ) (q : ElementName) (es : List Placed) where
   unfolding fitting
   number_at_lem x p l h = allowed_holds (λ w. Inside img (fitting (λ k. x <? 256 ^ k) w)) (λ r. tt) d img es (table_around d q.item) p l (go (x <? 256 ^ l))
     where
-      go : (b : Bool) → Inside img (if b then Place.At (record { 0 = p }) l else Place.Refused wrong_size)
+      go : (b : Bool) → Inside img (if b then at (record { 0 = p }) l else Err wrong_size)
       go true = h
       go false = tt
 
 module _ (number : Bool) (d img : List ℕ) (q : ElementName) where
   -- where it is, as all that is known there
-  pub stands_for : (p : ImageOffset) (l : ℕ) → element_place_in number d q (open_image d img) ≡ Place.At p l → Stands d img q p.0 l
+  pub stands_for : (p : ImageOffset) (l : ℕ) → element_place_in number d q (open_image d img) ≡ at p l → Stands d img q p.0 l
   stands_for p l h = stands d img q p.0 l ((for_exactly d img q number p.0 l).0 h).1
 
-  write_holds : (P : Place → Type 0) → ((r : Refusal) → P (Place.Refused r)) → (fits : ℕ → Bool)
+  write_holds : (P : Place → Type 0) → ((r : Refusal) → P (Err r)) → (fits : ℕ → Bool)
       → ((p l : ℕ) → p + l ≤ length img → P (fitting fits (allowed d img (elements_in (open_image d img)) (table_around d q.item) p l)))
       → P (written_in number fits d img q (open_image d img))
   unfolding fitting allowed_at
   write_holds P refusals fits there = subst P (written_told number fits d img q (open_image d img)) (go (element_place_in number d q (open_image d img)) refl)
     where
       go : (w : Place) → element_place_in number d q (open_image d img) ≡ w → P (fitting fits (allowed_at d img q (elements_in (open_image d img)) w))
-      go (Place.At p l) h = there p.0 l (stands_for p l h).inside
-      go (Place.Refused r) h = refusals r
+      go (Ok e) h = there e.start.0 e.length (stands_for e.start e.length h).inside
+      go (Err r) h = refusals r
 
 pub octets_fits : (d img : List ℕ) (q : ElementName) (n : ℕ) (v : Place) → v ≡ octets_place_in d img q n (open_image d img) → FitsAt img n v
 octets_fits d img q n v e = subst (FitsAt img n) (sym e) (write_holds false d img q (FitsAt img n) (λ r. tt) (λ k. n =? k) (λ p l h. octets_at_lem d img q (elements_in (open_image d img)) n p l h))

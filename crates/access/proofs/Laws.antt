@@ -15,10 +15,7 @@ use Rattle.offsets.specs.declared.TableOffset.{TableOffset}
 use Rattle.meaning.specs.Basics.{◌<?◌, ◌≤?◌, ◌=?◌, octets_in}
 use Rattle.meaning.specs.declared.ElementName.{ElementName}
 use Rattle.meaning.specs.declared.Refusal.{Refusal}
-use Rattle.meaning.specs.declared.Verdict.{Verdict}
 use Rattle.meaning.specs.declared.Fields.{Fields}
-use Rattle.meaning.specs.declared.Place.{Place}
-use Rattle.meaning.specs.declared.Reply.{Reply}
 use Rattle.meaning.specs.Description.{item_count, fields_at, is_table, is_dimension}
 use Rattle.meaning.specs.Layout.{Placed, Seat, Slots, table_named, data_order, number_at}
 use Rattle.meaning.specs.Refusals.{Opened, opened, refused, open_image, seat_place, table_place_in, table_place_reply, range_at, read_range_reply, element_place_in, element_place_reply, integer_place_reply, place_number, element_number_reply, place_verdict, image_with, image_with_number, table_around, writable, any_dimension, allowed, allowed_at, fitting, range_of, range_in, range_place, write_range_reply, write_range_image, written_in}
@@ -40,6 +37,8 @@ use Rattle.places.specs.Opening as ranges
 use Rattle.places.specs.Surveying.{held_in}
 use Rattle.meaning.specs.Messages.{other_size, write_table_reply, write_table_image}
 use Rattle.access.specs.Access.{element_to_write, SeenAs, place_to_write, allowed_by, fitted_by}
+use Rattle.meaning.specs.Values.{Place, passed, at}
+use Rattle.meaning.specs.declared.Answer.{Answer}
 
 -- THE TABLE THAT AN ITEM STANDS IN
 -- one item further on
@@ -84,12 +83,12 @@ module _ (d : List ℕ) (item : ℕ) (h : item < item_count d) where
         record { fields = fields_read d at (omega arith) p.here ∙ ap (fields_at d) e; table = p.table ∙ ap (λ (i : ℕ). fields_at d (table_around d i)) e }
 
 -- 13, THEN 14
-pub allowed_is : (d img : List ℕ) (es : List Placed) (t p n : ℕ) → allowed d img es t p n ≡ allowed_by ((fields_at d t).writable =? 1) (any_dimension es p n) (record { 0 = p }) n
+pub allowed_is : (d img : List ℕ) (es : List Placed) (t p n : ℕ) → allowed d img es t p n ≡ allowed_by (fields_at d t).writable (any_dimension es p n) (record { 0 = p }) n
 unfolding allowed writable allowed_by
-allowed_is d img es t p n = go ((fields_at d t).writable =? 1) (any_dimension es p n)
+allowed_is d img es t p n = go (fields_at d t).writable (any_dimension es p n)
   where
-    go : (w h : Bool) → (if not w then Place.Refused not_writable else if h then Place.Refused holds_dimension else Place.At (record { 0 = p }) n)
-        ≡ (if w then (if h then Place.Refused holds_dimension else Place.At (record { 0 = p }) n) else Place.Refused not_writable)
+    go : (w h : Bool) → (if not w then Err not_writable else if h then Err holds_dimension else at (record { 0 = p }) n)
+        ≡ (if w then (if h then Err holds_dimension else at (record { 0 = p }) n) else Err not_writable)
     go true h = refl
     go false h = refl
 
@@ -107,10 +106,10 @@ pub record TableIn (d img : List ℕ) (i p l : ℕ) : Type 0 where
 
 -- the range in the table found, or none
 abbrev pub RangeTold : (description image : List ℕ) → TableOffset → (n : ℕ) → FoundRange → Place → Type 0
-RangeTold d img o n (Err x) v = Place.Refused x ≡ v
+RangeTold d img o n (Err x) v = Err x ≡ v
 RangeTold d img o n (Ok a) v =
     TableIn d img a.item a.start.0 a.length
-    × (v ≡ (if a.length <? o.0 + n then Place.Refused outside_table else allowed_by ((fields_at d a.item).writable =? 1) a.held (record { 0 = a.start.0 + o.0 }) n))
+    × (v ≡ (if a.length <? o.0 + n then Err outside_table else allowed_by (fields_at d a.item).writable a.held (record { 0 = a.start.0 + o.0 }) n))
 
 module _ (d img : List ℕ) (es : List Placed) (o : TableOffset) (n : ℕ) where
   range_none : RangeTold d img o n (ranges.range_of o.0 n none es) (range_of d img es o n none)
@@ -122,8 +121,8 @@ module _ (d img : List ℕ) (es : List Placed) (o : TableOffset) (n : ℕ) where
   range_some t h = (h, go (t.size <? o.0 + n) refl)
     where
       go : (b : Bool) → (t.size <? o.0 + n) ≡ b
-          → (if b then Place.Refused outside_table else allowed d img es t.item (t.start + o.0) n)
-          ≡ (if b then Place.Refused outside_table else allowed_by ((fields_at d t.item).writable =? 1) (held_in o.0 n (some t) es) (record { 0 = t.start + o.0 }) n)
+          → (if b then Err outside_table else allowed d img es t.item (t.start + o.0) n)
+          ≡ (if b then Err outside_table else allowed_by (fields_at d t.item).writable (held_in o.0 n (some t) es) (record { 0 = t.start + o.0 }) n)
       go true e = refl
       go false e = rw (held_within o.0 n t es (ltb-false t.size (o.0 + n) e)) (allowed_is d img es t.item (t.start + o.0) n)
 
@@ -146,34 +145,34 @@ module _ (d img : List ℕ) (m k : ℕ) (o : TableOffset) (n : ℕ) (r : FoundRa
           })
 
       go : Came d img → RangeTold d img o n r (range_place d img m k o n)
-      go (refuses x e) = rw e (subst (λ (z : FoundRange). RangeTold d img o n z (Place.Refused x)) (sym (is ∙ ap (ranges.range_in m k o n) e)) refl)
+      go (refuses x e) = rw e (subst (λ (z : FoundRange). RangeTold d img o n z (Err x)) (sym (is ∙ ap (ranges.range_in m k o n) e)) refl)
       go (opens ts es s total h) =
           rw (opened_image h)
           (subst (λ (z : FoundRange). RangeTold d img o n z (range_of d img es o n (table_named m k ts))) (sym (is ∙ ap (ranges.range_in m k o n) (opened_image h)))
           (in_opened ts es s total h (table_named m k ts) refl))
 
   -- refused, past the table, or allowed there or not
-  pub range_refused : (x : Refusal) → r ≡ Err x → Place.Refused x ≡ range_place d img m k o n
+  pub range_refused : (x : Refusal) → r ≡ Err x → Err x ≡ range_place d img m k o n
   range_refused x e = subst (λ (z : FoundRange). RangeTold d img o n z (range_place d img m k o n)) e told
 
   module _ (a : RangeTable) (e : r ≡ Ok a) where
     pub table_in : TableIn d img a.item a.start.0 a.length
     table_in = (subst (λ (z : FoundRange). RangeTold d img o n z (range_place d img m k o n)) e told).0
 
-    found : range_place d img m k o n ≡ (if a.length <? o.0 + n then Place.Refused outside_table else allowed_by ((fields_at d a.item).writable =? 1) a.held (record { 0 = a.start.0 + o.0 }) n)
+    found : range_place d img m k o n ≡ (if a.length <? o.0 + n then Err outside_table else allowed_by (fields_at d a.item).writable a.held (record { 0 = a.start.0 + o.0 }) n)
     found = (subst (λ (z : FoundRange). RangeTold d img o n z (range_place d img m k o n)) e told).1
 
     module _ (b : Bool) (within : b ≡ (o.0 + n ≤? a.length)) where
-      pub range_past : b ≡ false → Place.Refused outside_table ≡ range_place d img m k o n
+      pub range_past : b ≡ false → Err outside_table ≡ range_place d img m k o n
       range_past f = sym (found ∙ rw (lt-ltb a.length (o.0 + n) (leb-false (o.0 + n) a.length (sym within ∙ f))))
 
-      pub range_there : b ≡ true → (p : ℕ) → p ≡ a.start.0 + o.0 → (f : Fields) → f ≡ fields_at d a.item → allowed_by (f.writable =? 1) a.held (record { 0 = p }) n ≡ range_place d img m k o n
+      pub range_there : b ≡ true → (p : ℕ) → p ≡ a.start.0 + o.0 → (f : Fields) → f ≡ fields_at d a.item → allowed_by f.writable a.held (record { 0 = p }) n ≡ range_place d img m k o n
       range_there t p g f fe = rw (g, fe) (sym (found ∙ rw (le-ltb a.length (o.0 + n) (leb-true (o.0 + n) a.length (sym within ∙ t)))))
 
 -- READING A RANGE: by the place of the table found
 abbrev table_of : FoundRange → Place
-table_of (Err x) = Place.Refused x
-table_of (Ok a) = Place.At (record { 0 = a.start.0 }) a.length
+table_of (Err x) = Err x
+table_of (Ok a) = at (record { 0 = a.start.0 }) a.length
 
 module _ (d img : List ℕ) (m k : ℕ) (o : TableOffset) (n : ℕ) (r : FoundRange) (is : r ≡ ranges.range_in m k o n (open_image d img)) where
   table_told : table_place_reply d img m k ≡ table_of r
@@ -188,16 +187,16 @@ module _ (d img : List ℕ) (m k : ℕ) (o : TableOffset) (n : ℕ) (r : FoundRa
       go (opened ts es s total) = seated (table_named m k ts) es
       go (refused x) = refl
 
-  pub read_refused : (x : Refusal) → r ≡ Err x → Place.Refused x ≡ read_range_reply d img m k o n
+  pub read_refused : (x : Refusal) → r ≡ Err x → Err x ≡ read_range_reply d img m k o n
   unfolding read_range_reply range_at
   read_refused x e = rw (table_told, e)
 
   module _ (a : RangeTable) (e : r ≡ Ok a) (b : Bool) (within : b ≡ (o.0 + n ≤? a.length)) where
-    pub read_past : b ≡ false → Place.Refused outside_table ≡ read_range_reply d img m k o n
+    pub read_past : b ≡ false → Err outside_table ≡ read_range_reply d img m k o n
     unfolding read_range_reply range_at
     read_past f = rw (table_told, e, lt-ltb a.length (o.0 + n) (leb-false (o.0 + n) a.length (sym within ∙ f)))
 
-    pub read_there : b ≡ true → (p : ℕ) → p ≡ a.start.0 + o.0 → Place.At (record { 0 = p }) n ≡ read_range_reply d img m k o n
+    pub read_there : b ≡ true → (p : ℕ) → p ≡ a.start.0 + o.0 → at (record { 0 = p }) n ≡ read_range_reply d img m k o n
     unfolding read_range_reply range_at
     read_there t p g = rw (table_told, e, le-ltb a.length (o.0 + n) (leb-true (o.0 + n) a.length (sym within ∙ t)), g)
 
@@ -208,36 +207,36 @@ lies_in true x b w t = refl
 lies_in false x b w t = absurd (true≢false (sym t ∙ w))
 
 module _ (whole : Bool) (d img : List ℕ) (m k : ℕ) (o : TableOffset) (n : ℕ) (r : FoundRange) (is : r ≡ ranges.range_in m k o n (open_image d img)) where
-  pub place_refused : (x : Refusal) → r ≡ Err x → Place.Refused x ≡ place_to_write whole d img m k o n
+  pub place_refused : (x : Refusal) → r ≡ Err x → Err x ≡ place_to_write whole d img m k o n
   unfolding place_to_write other_size
   place_refused x e = rw (table_told d img m k o n r is, e) (go whole)
     where
-      go : (w : Bool) → Place.Refused x ≡ (if w && false then Place.Refused outside_table else range_place d img m k o n)
+      go : (w : Bool) → Err x ≡ (if w && false then Err outside_table else range_place d img m k o n)
       go true = range_refused d img m k o n r is x e
       go false = range_refused d img m k o n r is x e
 
   module _ (a : RangeTable) (e : r ≡ Ok a) (b : Bool) (within : b ≡ ((o.0 + n ≤? a.length) && (not whole || n =? a.length))) where
-    pub place_past : b ≡ false → Place.Refused outside_table ≡ place_to_write whole d img m k o n
+    pub place_past : b ≡ false → Err outside_table ≡ place_to_write whole d img m k o n
     unfolding place_to_write other_size
     place_past f = rw (table_told d img m k o n r is, e) (go whole (o.0 + n ≤? a.length) (n =? a.length) refl (sym within ∙ f))
       where
-        past : (x : Bool) → (o.0 + n ≤? a.length) ≡ false → Place.Refused outside_table ≡ (if x then Place.Refused outside_table else range_place d img m k o n)
+        past : (x : Bool) → (o.0 + n ≤? a.length) ≡ false → Err outside_table ≡ (if x then Err outside_table else range_place d img m k o n)
         past true g = refl
         past false g = range_past d img m k o n r is a e _ refl g
 
-        go : (w x y : Bool) → (o.0 + n ≤? a.length) ≡ x → (x && (not w || y)) ≡ false → Place.Refused outside_table ≡ (if w && not y then Place.Refused outside_table else range_place d img m k o n)
+        go : (w x y : Bool) → (o.0 + n ≤? a.length) ≡ x → (x && (not w || y)) ≡ false → Err outside_table ≡ (if w && not y then Err outside_table else range_place d img m k o n)
         go w false y g z = past (w && not y) g
         go true true true g z = absurd (true≢false z)
         go true true false g z = refl
         go false true y g z = absurd (true≢false z)
 
-    pub place_there : b ≡ true → (p : ℕ) → p ≡ a.start.0 + o.0 → (f : Fields) → f ≡ fields_at d a.item → allowed_by (f.writable =? 1) a.held (record { 0 = p }) n ≡ place_to_write whole d img m k o n
+    pub place_there : b ≡ true → (p : ℕ) → p ≡ a.start.0 + o.0 → (f : Fields) → f ≡ fields_at d a.item → allowed_by f.writable a.held (record { 0 = p }) n ≡ place_to_write whole d img m k o n
     unfolding place_to_write other_size
     place_there t p g f fe =
         range_there d img m k o n r is a e _ refl (lies_in _ _ b within t) p g f fe
         ∙ rw (table_told d img m k o n r is, e) (go whole (o.0 + n ≤? a.length) (n =? a.length) (sym within ∙ t))
       where
-        go : (w x y : Bool) → (x && (not w || y)) ≡ true → range_place d img m k o n ≡ (if w && not y then Place.Refused outside_table else range_place d img m k o n)
+        go : (w x y : Bool) → (x && (not w || y)) ≡ true → range_place d img m k o n ≡ (if w && not y then Err outside_table else range_place d img m k o n)
         go w false y z = absurd (true≢false (sym z))
         go true true true z = refl
         go true true false z = absurd (true≢false (sym z))
@@ -249,8 +248,8 @@ module _ (d img : List ℕ) (m k : ℕ) (new : List ℕ) (o : TableOffset) (v : 
   unfolding place_to_write write_table_reply write_range_reply place_verdict
   whole_reply = rw e (go (other_size (length new) (table_place_reply d img m k)))
     where
-      go : (b : Bool) → place_verdict (if b then Place.Refused outside_table else range_place d img m k o (length new))
-          ≡ (if b then Verdict.Refused outside_table else place_verdict (range_place d img m k (record { 0 = 0 }) (length new)))
+      go : (b : Bool) → place_verdict (if b then Err outside_table else range_place d img m k o (length new))
+          ≡ (if b then Err outside_table else place_verdict (range_place d img m k (record { 0 = 0 }) (length new)))
       go true = refl
       go false = ap (λ (z : ℕ). place_verdict (range_place d img m k (record { 0 = z }) (length new))) zeroth
 
@@ -258,7 +257,7 @@ module _ (d img : List ℕ) (m k : ℕ) (new : List ℕ) (o : TableOffset) (v : 
   unfolding place_to_write write_table_image write_range_image image_with
   whole_image = rw e (go (other_size (length new) (table_place_reply d img m k)))
     where
-      go : (b : Bool) → image_with img new (if b then Place.Refused outside_table else range_place d img m k o (length new))
+      go : (b : Bool) → image_with img new (if b then Err outside_table else range_place d img m k o (length new))
           ≡ (if b then img else image_with img new (range_place d img m k (record { 0 = 0 }) (length new)))
       go true = refl
       go false = ap (λ (z : ℕ). image_with img new (range_place d img m k (record { 0 = z }) (length new))) zeroth
@@ -281,13 +280,13 @@ written_told number fits d img q (opened ts es s total) = refl
 written_told number fits d img q (refused r) = refl
 
 -- 13 and 14 of an element: its octets hold one of a dimension if it is one
-pub element_is : (d img : List ℕ) (q : ElementName) (p n : ℕ) → element_place_reply d img q ≡ Place.At (record { 0 = p }) n
+pub element_is : (d img : List ℕ) (q : ElementName) (p n : ℕ) → element_place_reply d img q ≡ at (record { 0 = p }) n
     → allowed d img (elements_in (open_image d img)) (table_around d q.item) p n
-    ≡ allowed_by ((fields_at d (table_around d q.item)).writable =? 1) (is_dimension (fields_at d q.item)) (record { 0 = p }) n
+    ≡ allowed_by (fields_at d (table_around d q.item)).writable (is_dimension (fields_at d q.item)) (record { 0 = p }) n
 element_is d img q p n e =
     let a = where_opens d img q p n e in
     allowed_is d img (elements_in (open_image d img)) (table_around d q.item) p n
-    ∙ ap (λ (b : Bool). allowed_by ((fields_at d (table_around d q.item)).writable =? 1) b (record { 0 = p }) n) (ap (λ (o : Opened). any_dimension (elements_in o) p n) (opened_image a.opens) ∙ element_dimension a)
+    ∙ ap (λ (b : Bool). allowed_by (fields_at d (table_around d q.item)).writable b (record { 0 = p }) n) (ap (λ (o : Opened). any_dimension (elements_in o) p n) (opened_image a.opens) ∙ element_dimension a)
 
 -- 15
 fitted_is : (fits : ℕ → Bool) (w h : Bool) (p : ImageOffset) (n : ℕ) → fitted_by (fits n) (allowed_by w h p n) ≡ fitting fits (allowed_by w h p n)
@@ -302,11 +301,11 @@ module _ (number : Bool) (fits : ℕ → Bool) (d img : List ℕ) (q : ElementNa
   comes_to = ap (λ (v : Place). fitting fits (allowed_at d img q (elements_in (open_image d img)) v)) f ∙ written_told number fits d img q (open_image d img)
 
   -- refused as the place is
-  pub write_refused : (r : Refusal) → found ≡ Place.Refused r → found ≡ written_in number fits d img q (open_image d img)
+  pub write_refused : (r : Refusal) → found ≡ Err r → found ≡ written_in number fits d img q (open_image d img)
   unfolding allowed_at fitting
   write_refused r e = e ∙ ap (λ (v : Place). fitting fits (allowed_at d img q (elements_in (open_image d img)) v)) (sym e) ∙ comes_to
 
-  module _ (p n : ℕ) (e : found ≡ Place.At (record { 0 = p }) n) where
+  module _ (p n : ℕ) (e : found ≡ at (record { 0 = p }) n) where
     -- 13, 14, then 15
     pub write_there : element_to_write d q.item (record { 0 = p }) n (fits n) ≡ written_in number fits d img q (open_image d img)
     unfolding allowed_at
@@ -347,33 +346,33 @@ fits_fewer x n = rw (eight_bits n) (go (x <? 256 ^ n) refl)
 
 -- AN ELEMENT'S NUMBER, by its place
 module _ (d img : List ℕ) (q : ElementName) (v : Place) where
-  pub number_refused : (r : Refusal) → v ≡ integer_place_reply d img q → v ≡ Place.Refused r → Reply.Refused r ≡ element_number_reply d img q
+  pub number_refused : (r : Refusal) → v ≡ integer_place_reply d img q → v ≡ Err r → Err r ≡ element_number_reply d img q
   unfolding element_number_reply place_number
   number_refused r e h = rw (← e, h)
 
-  pub number_is : (p n x : ℕ) → v ≡ integer_place_reply d img q → v ≡ Place.At (record { 0 = p }) n → x ≡ number_at img p n → Reply.Number x ≡ element_number_reply d img q
+  pub number_is : (p n x : ℕ) → v ≡ integer_place_reply d img q → v ≡ at (record { 0 = p }) n → x ≡ number_at img p n → Ok (Answer.Number x) ≡ element_number_reply d img q
   unfolding element_number_reply place_number
   number_is p n x e h g = rw (← e, h, g)
 
 -- WHAT IS WRITTEN
 module _ (img new : List ℕ) (v : Place) where
-  pub kept_refused : (r : Refusal) → v ≡ Place.Refused r → (Verdict.Refused r ≡ place_verdict v) × (img ≡ image_with img new v)
+  pub kept_refused : (r : Refusal) → v ≡ Err r → (Err r ≡ place_verdict v) × (img ≡ image_with img new v)
   unfolding place_verdict image_with
   kept_refused r e = (rw e, rw e)
 
-  pub put_there : (p n : ℕ) (later : List ℕ) → v ≡ Place.At (record { 0 = p }) n → p + length new ≤ length img → later ≡ put img p new
-      → (Verdict.Passed ≡ place_verdict v) × (later ≡ image_with img new v)
+  pub put_there : (p n : ℕ) (later : List ℕ) → v ≡ at (record { 0 = p }) n → p + length new ≤ length img → later ≡ put img p new
+      → (passed ≡ place_verdict v) × (later ≡ image_with img new v)
   unfolding place_verdict image_with put
   put_there p n later e h l = (rw e, l ∙ rw (e, le-leb (p + length new) (length img) h))
 
 -- a number's octets
 module _ (img : List ℕ) (x : ℕ) (v : Place) where
-  pub number_kept : (r : Refusal) → v ≡ Place.Refused r → (Verdict.Refused r ≡ place_verdict v) × (img ≡ image_with_number img x v)
+  pub number_kept : (r : Refusal) → v ≡ Err r → (Err r ≡ place_verdict v) × (img ≡ image_with_number img x v)
   unfolding place_verdict image_with_number
   number_kept r e = (rw e, rw e)
 
-  pub number_there : (p n : ℕ) (later : List ℕ) → v ≡ Place.At (record { 0 = p }) n → p + n ≤ length img → later ≡ put img p (octets_in (data_order img) n x)
-      → (Verdict.Passed ≡ place_verdict v) × (later ≡ image_with_number img x v)
+  pub number_there : (p n : ℕ) (later : List ℕ) → v ≡ at (record { 0 = p }) n → p + n ≤ length img → later ≡ put img p (octets_in (data_order img) n x)
+      → (passed ≡ place_verdict v) × (later ≡ image_with_number img x v)
   unfolding place_verdict image_with_number put
   number_there p n later e h l =
       let k : p + length (octets_in (data_order img) n x) ≤ length img = rw (octets_long (data_order img) n x) h in

@@ -1,7 +1,5 @@
 -- WHAT IS KNOWN WHERE SOMETHING IS FOUND, for the contracts of the functions below the public calls. Assumes nothing.
-use Rattle.std.specs.Prelude.{ℕ, ◌+◌, ◌≤◌, ◌≡◌, Bool, ◌&&◌, List, length, if◌then◌else◌}
-use Rattle.meaning.specs.declared.Place.{Place}
-use Rattle.meaning.specs.Basics.{◌=?◌}
+use Rattle.std.specs.Prelude.{ℕ, ◌+◌, ◌≤◌, ◌≡◌, Bool, ◌&&◌, List, length, if◌then◌else◌, Ok, Err}
 use Rattle.meaning.specs.Description.{fields_at, is_dimension}
 use Rattle.meaning.specs.Numbers.{outside_table, not_writable, holds_dimension, wrong_size}
 use Rattle.meaning.specs.Refusals.{table_place_reply, table_around, range_place}
@@ -9,6 +7,7 @@ use Rattle.meaning.specs.Messages.{other_size}
 use Rattle.offsets.specs.declared.ImageOffset.{ImageOffset}
 use Rattle.offsets.specs.declared.TableOffset.{TableOffset}
 use Rattle.access.specs.declared.Seen.{Seen}
+use Rattle.meaning.specs.Values.{Place, at}
 
 -- an item, and the table that it stands in
 pub record SeenAs (d : List ℕ) (i : ℕ) (r : Seen) : Type 0 where
@@ -17,27 +16,27 @@ pub record SeenAs (d : List ℕ) (i : ℕ) (r : Seen) : Type 0 where
 
 -- where n octets from an offset on are written; 12 too where they are to be the whole table and aren't
 unfoldable pub place_to_write : (whole : Bool) → (description image : List ℕ) → (manufacturer number : ℕ) → TableOffset → (n : ℕ) → Place
-place_to_write whole d img m k o n = if whole && other_size n (table_place_reply d img m k) then Place.Refused outside_table else range_place d img m k o n
+place_to_write whole d img m k o n = if whole && other_size n (table_place_reply d img m k) then Err outside_table else range_place d img m k o n
 
 -- 13, then 14
 unfoldable pub allowed_by : (writable held : Bool) → ImageOffset → (n : ℕ) → Place
-allowed_by w h p n = if w then (if h then Place.Refused holds_dimension else Place.At p n) else Place.Refused not_writable
+allowed_by w h p n = if w then (if h then Err holds_dimension else at p n) else Err not_writable
 
 -- 15
 unfoldable pub fitted_by : (fits : Bool) → Place → Place
-fitted_by b (Place.At p n) = if b then Place.At p n else Place.Refused wrong_size
-fitted_by b (Place.Refused r) = Place.Refused r
+fitted_by b (Ok e) = if b then at e.start e.length else Err wrong_size
+fitted_by b (Err r) = Err r
 
 -- 13, 14, then 15 of an element where it is
 abbrev pub element_to_write : (description : List ℕ) → (item : ℕ) → ImageOffset → (n : ℕ) → (fits : Bool) → Place
-element_to_write d i p n b = fitted_by b (allowed_by ((fields_at d (table_around d i)).writable =? 1) (is_dimension (fields_at d i)) p n)
+element_to_write d i p n b = fitted_by b (allowed_by (fields_at d (table_around d i)).writable (is_dimension (fields_at d i)) p n)
 
 -- n octets from the place on lie inside the image
 abbrev pub FitsAt : (image : List ℕ) → (n : ℕ) → Place → Type 0
-FitsAt img n (Place.At p l) = p.0 + n ≤ length img
-FitsAt img n (Place.Refused r) = Unit {0}
+FitsAt img n (Ok e) = e.start.0 + n ≤ length img
+FitsAt img n (Err r) = Unit {0}
 
 -- the octets of the place itself do
 abbrev pub Inside : (image : List ℕ) → Place → Type 0
-Inside img (Place.At p l) = p.0 + l ≤ length img
-Inside img (Place.Refused r) = Unit {0}
+Inside img (Ok e) = e.start.0 + e.length ≤ length img
+Inside img (Err r) = Unit {0}

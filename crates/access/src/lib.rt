@@ -16,12 +16,9 @@ ghost use Rattle.access.specs.Access.{place_to_write, SeenAs, allowed_by, fitted
 
 use basics::{both, either, ends_within};
 use items::Cursor;
-use meaning::{ElementName, Fields, Place, Refusal, Reply, Verdict};
+use meaning::{Answer, ElementName, Fields, Kind, Location, Place, Refusal, Reply, Verdict};
 use offsets::{ImageOffset, TableOffset};
 use places::RangeTable;
-
-// The kind that descriptions give a TABLE.
-const TABLE: u32 = 1;
 
 // WHAT THE DESCRIPTION SAYS OF AN ITEM
 // An item, and the table that it stands in: the latest TABLE before it.
@@ -35,10 +32,10 @@ struct Seen {
 fn latest(fields: Fields, table: Fields) -> Fields
     ensures { result ≡ (if is_table fields then fields else table) }
 {
-    if fields.kind == TABLE {
-        return fields;
+    match fields.kind {
+        Kind::Table => fields,
+        _ => table,
     }
-    table
 }
 
 // Items are read one after another, up to the one asked for.
@@ -66,15 +63,15 @@ fn allowed(writable: bool, held: bool, start: ImageOffset, octets: usize) -> Pla
     ensures { result ≡ allowed_by writable held start octets }
 {
     if !writable {
-        return Place::Refused(Refusal::NOT_WRITABLE);
+        return Err(Refusal::NOT_WRITABLE);
     }
     if held {
-        return Place::Refused(Refusal::HOLDS_DIMENSION);
+        return Err(Refusal::HOLDS_DIMENSION);
     }
-    Place::At {
+    Ok(Location {
         start,
         length: octets,
-    }
+    })
 }
 
 // Whether octets from an offset on lie in a table of that length; where they are to be the whole of
@@ -101,24 +98,17 @@ fn write_place(
 ) -> Place
     ensures { result ≡ place_to_write whole description.now image.now manufacturer number offset octets }
 {
-    match places::range_in(description, image, manufacturer, number, offset, octets) {
-        Err(r) => Place::Refused(r),
-        Ok(
-            RangeTable {
-                item,
-                start,
-                length,
-                held,
-            },
-        ) => {
-            if fits_table(whole, offset.octets(), octets, length) {
-                let seen = around(description, item);
-                let table = seen.fields;
-                return allowed(table.writable == 1, held, start.in_image(offset), octets);
-            }
-            Place::Refused(Refusal::OUTSIDE_TABLE)
-        }
+    let RangeTable {
+        item,
+        start,
+        length,
+        held,
+    } = places::range_in(description, image, manufacturer, number, offset, octets)?;
+    if !fits_table(whole, offset.octets(), octets, length) {
+        return Err(Refusal::OUTSIDE_TABLE);
     }
+    let table = around(description, item).fields;
+    allowed(table.writable, held, start.in_image(offset), octets)
 }
 
 // 15: what is to be written doesn't fit the element's length.
@@ -126,31 +116,21 @@ fn write_place(
 fn fitted(place: Place, fits: bool) -> Place
     ensures { result ≡ fitted_by fits place }
 {
-    match place {
-        Place::Refused(_) => place,
-        Place::At { .. } => {
-            if fits {
-                return place;
-            }
-            Place::Refused(Refusal::WRONG_SIZE)
-        }
+    let at = place?;
+    if !fits {
+        return Err(Refusal::WRONG_SIZE);
     }
+    Ok(at)
 }
 
 // 13, 14, then 15, where an element is: it holds an octet of a dimension if it is one.
-fn element_to_write(
-    description: &[u8],
-    item: usize,
-    start: ImageOffset,
-    length: usize,
-    fits: bool,
-) -> Place
+fn element_to_write(description: &[u8], item: usize, at: Location, fits: bool) -> Place
     requires { item < item_count description.now }
-    ensures { result ≡ element_to_write description.now item start length fits }
+    ensures { result ≡ element_to_write description.now item at.start at.length fits }
 {
     let Seen { fields, table } = around(description, item);
     fitted(
-        allowed(table.writable == 1, 0 < fields.sets, start, length),
+        allowed(table.writable, 0 < fields.sets, at.start, at.length),
         fits,
     )
 }
@@ -158,13 +138,8 @@ fn element_to_write(
 fn octets_place(description: &[u8], image: &[u8], name: ElementName, octets: usize) -> Place
     ensures { result ≡ octets_place_in description.now image.now name octets (open_image description.now image.now) }
 {
-    let found = places::element_place(description, image, name);
-    match found {
-        Place::Refused(_) => found,
-        Place::At { start, length } => {
-            element_to_write(description, name.item, start, length, octets == length)
-        }
-    }
+    let at = places::element_place(description, image, name)?;
+    element_to_write(description, name.item, at, octets == at.length)
 }
 
 // Whether a number needs no more than so many octets.
@@ -180,17 +155,8 @@ fn fits_in(value: u64, octets: usize) -> bool
 fn number_place(description: &[u8], image: &[u8], name: ElementName, value: u64) -> Place
     ensures { result ≡ number_place_in description.now image.now name value (open_image description.now image.now) }
 {
-    let found = places::integer_place(description, image, name);
-    match found {
-        Place::Refused(_) => found,
-        Place::At { start, length } => element_to_write(
-            description,
-            name.item,
-            start,
-            length,
-            fits_in(value, length),
-        ),
-    }
+    let at = places::integer_place(description, image, name)?;
+    element_to_write(description, name.item, at, fits_in(value, at.length))
 }
 
 // THE OCTETS AT A PLACE
@@ -200,8 +166,8 @@ fn part_at<'a>(image: &'a [u8], place: Place) -> &'a [u8]
     ensures place { result.ref_ptr ≡ (image.entry.ref_ptr.0, image.entry.ref_ptr.1 + place_start place) }
 {
     match place {
-        Place::Refused(_) => &image[0..0],
-        Place::At { start, length } => octets::part(image, start, length),
+        Ok(at) => octets::part(image, at.start, at.length),
+        Err(_) => &image[0..0],
     }
 }
 
@@ -211,13 +177,9 @@ fn write_at(image: &mut [u8], place: Place, new: &[u8]) -> Verdict
     ensures reply { result ≡ place_verdict place }
     ensures image { image.new ≡ image_with image.old new.now place }
 {
-    match place {
-        Place::Refused(r) => Verdict::Refused(r),
-        Place::At { start, length: _ } => {
-            octets::put_octets(image, start, new);
-            Verdict::Passed
-        }
-    }
+    let at = place?;
+    octets::put_octets(image, at.start, new);
+    Ok(())
 }
 
 // THE PUBLIC CALLS
@@ -248,18 +210,21 @@ pub fn range_place(
 ) -> Place
     ensures { result ≡ read_range_reply description.now image.now manufacturer number offset octets }
 {
-    match places::range_in(description, image, manufacturer, number, offset, octets) {
-        Err(r) => Place::Refused(r),
-        Ok(RangeTable { start, length, .. }) => {
-            if ends_within(offset.octets(), octets, length) {
-                return Place::At {
-                    start: start.in_image(offset),
-                    length: octets,
-                };
-            }
-            Place::Refused(Refusal::OUTSIDE_TABLE)
-        }
+    let RangeTable { start, length, .. } = places::range_in(
+        description,
+        image,
+        manufacturer,
+        number,
+        offset,
+        octets,
+    )?;
+    if !ends_within(offset.octets(), octets, length) {
+        return Err(Refusal::OUTSIDE_TABLE);
     }
+    Ok(Location {
+        start: start.in_image(offset),
+        length: octets,
+    })
 }
 
 // A range of a table, as a part of the image; empty on refusal.
@@ -292,11 +257,9 @@ pub fn element_part<'a>(description: &[u8], image: &'a [u8], name: ElementName) 
 pub fn element_number(description: &[u8], image: &[u8], name: ElementName) -> Reply
     ensures { result ≡ element_number_reply description.now image.now name }
 {
-    let place = places::integer_place(description, image, name);
-    match place {
-        Place::Refused(r) => Reply::Refused(r),
-        Place::At { start, length } => Reply::Number(octets::number_at(image, start, length)),
-    }
+    let at = places::integer_place(description, image, name)?;
+    let number = octets::number_at(image, at.start, at.length);
+    Ok(Answer::Number(number))
 }
 
 // Writes a range of a table, from an offset in it on.
@@ -361,12 +324,7 @@ pub fn write_number(description: &[u8], image: &mut [u8], name: ElementName, val
     ensures reply { result ≡ write_number_reply description.now image.old name value }
     ensures image { image.new ≡ write_number_image description.now image.old name value }
 {
-    let place = number_place(description, image, name, value);
-    match place {
-        Place::Refused(r) => Verdict::Refused(r),
-        Place::At { start, length } => {
-            octets::put_number(image, start, length, value);
-            Verdict::Passed
-        }
-    }
+    let at = number_place(description, image, name, value)?;
+    octets::put_number(image, at.start, at.length, value);
+    Ok(())
 }

@@ -1,19 +1,22 @@
 -- `access::number_place`: by where the element is, case by case. Assumes nothing.
 use mathlib.Core.Path.{◌∙◌, sym}
+use Rattle.std.proofs.lemmas.Result.{err_from_is_err_and}
 use Rattle.meaning.specs.Refusals.{integer_place_reply}
 use Rattle.access.proofs.Laws.{write_refused, write_there}
 use Rattle.access.proofs.Inside.{stands_for}
 use Rattle.access.proofs.number_place.Goals as goal
 
+pub returns-in_err-at : goal.returns-in_err-at
+unfolding integer_place_reply
+returns-in_err-at c =
+    let p = err_from_is_err_and c.from_residual.result c.from_residual.ensures.1 in
+    rw (p.1, p.2) (sym c.in_err-at.was ∙ write_refused _ _ _ _ _ _ c.integer_place.ensures _ c.in_err-at.was)
+
 pub element_to_write-requires : goal.element_to_write-requires
 unfolding integer_place_reply
-element_to_write-requires c = (stands_for _ _ _ _ _ _ (sym c.integer_place-found.ensures ∙ c.in-At.is)).there
+element_to_write-requires c = (stands_for _ _ _ _ _ _ (sym c.integer_place.ensures ∙ c.in_ok-at.was)).there
 
-pub returns-in-Refused : goal.returns-in-Refused
+pub returns : goal.returns
 unfolding integer_place_reply
-returns-in-Refused c = write_refused _ _ _ _ _ _ c.integer_place-found.ensures _ c.in-Refused.is
-
-pub returns-in-At : goal.returns-in-At
-unfolding integer_place_reply
-returns-in-At c =
-    c.element_to_write.ensures ∙ rw c.fits_in.ensures (write_there _ _ _ _ _ _ c.integer_place-found.ensures _ _ c.in-At.is)
+returns c =
+    c.element_to_write.ensures ∙ rw c.fits_in.ensures (write_there _ _ _ _ _ _ c.integer_place.ensures _ _ c.in_ok-at.was)

@@ -6,11 +6,11 @@ use Rattle.octets.proofs.Laws.{stands_at}
 use Rattle.access.proofs.Inside.{first_told}
 use Rattle.access.proofs.part_at.Goals as goal
 
-pub returns-in-Refused : goal.returns-in-Refused
+pub returns-in-Err : goal.returns-in-Err
 unfolding place_part
-returns-in-Refused c = record { reply = rw c.in-Refused.is; place = rw c.in-Refused.is (stands_at _ _ refl) }
+returns-in-Err c = record { reply = rw c.in-Err.is; place = rw c.in-Err.is (stands_at _ _ refl) }
 
-pub returns-in-At : goal.returns-in-At
+pub returns-in-Ok : goal.returns-in-Ok
 unfolding place_part
-returns-in-At c =
-    record { reply = c.part.ensures.reply ∙ rw c.in-At.is; place = c.part.ensures.place ∙ (λ i. (c.args.image.ref_ptr.0, c.args.image.ref_ptr.1 + first_told _ _ _ _ c.requires c.in-At.is i)) }
+returns-in-Ok c =
+    record { reply = c.part.ensures.reply ∙ rw c.in-Ok.is; place = c.part.ensures.place ∙ (λ i. (c.args.image.ref_ptr.0, c.args.image.ref_ptr.1 + first_told _ _ _ _ c.requires c.in-Ok.is i)) }
