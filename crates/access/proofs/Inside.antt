@@ -2,7 +2,7 @@
 use Rattle.std.specs.Prelude.{if◌then◌else◌, Ok, Err}
 use Prim.Native.Nat.{ℕ, ◌+◌, ◌^◌, ◌<◌, ◌≤◌, min}
 use mathlib.Core.Path.{◌≡◌, refl, ◌∙◌, ap, sym, subst}
-use mathlib.Core.Bool.{Bool, true, false, not, ◌&&◌}
+use mathlib.Core.Bool.{Bool, true, false, not}
 use mathlib.Core.List.{List}
 use mathlib.Core.Option.{Option, some, none}
 use lib.ListN.{length}
@@ -25,6 +25,8 @@ use Rattle.octets.specs.Octets.{number_read}
 use Rattle.octets.proofs.Laws.{read_there}
 use Rattle.meaning.specs.Messages.{other_size}
 use Rattle.meaning.proofs.Either.{tested}
+use Rattle.access.specs.declared.Part.{Part}
+use Rattle.access.specs.declared.Part.TheVariants.{Range, Whole}
 use Rattle.access.specs.Access.{place_to_write, FitsAt, Inside}
 use Rattle.access.proofs.Laws.{elements_in, written_told}
 use Rattle.meaning.specs.Values.{Place, at}
@@ -113,12 +115,14 @@ range_fits d img m k o n v e = subst (FitsAt img n) (sym e) (go (came d img))
         let a = table_opens d img m k u.start u.size (table_laid h m k ∙ ap seat_place f) in
         omega (arith, table_ends a, total_inside d img a.seats a.elements a.slots a.total a.opens.laid)))
 
--- the same of a whole table
-pub place_fits : (whole : Bool) (d img : List ℕ) (m k : ℕ) (o : TableOffset) (n : ℕ) (v : Place) → v ≡ place_to_write whole d img m k o n → FitsAt img n v
+-- the same of a part of a table
+pub place_fits : (part : Part) (d img : List ℕ) (m k n : ℕ) (v : Place) → v ≡ place_to_write part d img m k n → FitsAt img n v
 unfolding place_to_write
-place_fits whole d img m k o n v e =
-    subst (FitsAt img n) (sym e)
-    (tested (FitsAt img n) (whole && other_size n (table_place_reply d img m k)) _ _ (λ h. tt) (λ h. range_fits d img m k o n _ refl))
+place_fits part d img m k n v e = subst (FitsAt img n) (sym e) (go part)
+  where
+    go : (p : Part) → FitsAt img n (place_to_write p d img m k n)
+    go (Range o) = range_fits d img m k o n _ refl
+    go Whole = tested (FitsAt img n) (other_size n (table_place_reply d img m k)) _ _ (λ h. tt) (λ h. range_fits d img m k (record { 0 = 0 }) n _ refl)
 
 -- an element, where it is
 module _ (d img : List ℕ) (q : ElementName) (es : List Placed) where

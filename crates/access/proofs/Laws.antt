@@ -2,11 +2,11 @@
 use Rattle.std.specs.Prelude.{Ok, Err, if◌then◌else◌}
 use Prim.Native.Nat.{ℕ, zero, suc, ◌+◌, ◌-◌, ◌*◌, ◌^◌, ◌/◌, ◌<◌, ◌≤◌, min}
 use mathlib.Core.Path.{◌≡◌, refl, ◌∙◌, ap, sym, subst}
-use mathlib.Core.Bool.{Bool, true, false, not, ◌&&◌, ◌||◌, true≢false}
+use mathlib.Core.Bool.{Bool, true, false, not}
 use mathlib.Core.Option.{Option, some, none}
 use mathlib.Core.List.{List, []}
 use lib.ListN.{length}
-use borrow.Author.Tests.{ltb-false, ltb-true, le-ltb, lt-ltb, le-leb, leb-true, leb-false, eq-eqb, ne_eqb}
+use borrow.Author.Tests.{ltb-false, ltb-true, le-ltb, lt-ltb, le-leb, leb-true, leb-false, eqb-true, eq-eqb, ne_eqb}
 use native.Mathlib.Numerals.{add-one}
 use native.Mathlib.Omega.{arith}
 use native.Mathlib.Nat.{pow-le-pow_right, pow-suc, div-eq_of_lt, div-eq-sub-div}
@@ -36,7 +36,9 @@ use Rattle.places.specs.Found.{FoundRange}
 use Rattle.places.specs.Opening as ranges
 use Rattle.places.specs.Surveying.{held_in}
 use Rattle.meaning.specs.Messages.{other_size, write_table_reply, write_table_image}
-use Rattle.access.specs.Access.{element_to_write, SeenAs, place_to_write, allowed_by, fitted_by}
+use Rattle.access.specs.declared.Part.{Part}
+use Rattle.access.specs.declared.Part.TheVariants.{Range, Whole}
+use Rattle.access.specs.Access.{part_start, part_fits, element_to_write, SeenAs, place_to_write, allowed_by, fitted_by}
 use Rattle.meaning.specs.Values.{Place, passed, at}
 use Rattle.meaning.specs.declared.Answer.{Answer}
 
@@ -201,70 +203,68 @@ module _ (d img : List ℕ) (m k : ℕ) (o : TableOffset) (n : ℕ) (r : FoundRa
     read_there t p g = rw (table_told, e, le-ltb a.length (o.0 + n) (leb-true (o.0 + n) a.length (sym within ∙ t)), g)
 
 -- WRITING A RANGE, OR A WHOLE TABLE
--- what fits a table lies in it
-pub lies_in : (e x b : Bool) → b ≡ (e && x) → b ≡ true → e ≡ true
-lies_in true x b w t = refl
-lies_in false x b w t = absurd (true≢false (sym t ∙ w))
+-- n octets that are such a part lie in the table
+pub part_within : (part : Part) (n l : ℕ) {b : Bool} → b ≡ part_fits part n l → b ≡ true → (part_start part).0 + n ≤ l
+unfolding part_fits part_start
+part_within (Range o) n l e t = leb-true _ _ (sym e ∙ t)
+part_within Whole n l e t = omega (arith, eqb-true n l (sym e ∙ t))
 
-module _ (whole : Bool) (d img : List ℕ) (m k : ℕ) (o : TableOffset) (n : ℕ) (r : FoundRange) (is : r ≡ ranges.range_in m k o n (open_image d img)) where
-  pub place_refused : (x : Refusal) → r ≡ Err x → Err x ≡ place_to_write whole d img m k o n
-  unfolding place_to_write other_size
-  place_refused x e = rw (table_told d img m k o n r is, e) (go whole)
+module _ (part : Part) (d img : List ℕ) (m k n : ℕ) (r : FoundRange) (is : r ≡ ranges.range_in m k (part_start part) n (open_image d img)) where
+  abbrev o : TableOffset
+  o = part_start part
+
+  pub place_refused : (x : Refusal) → r ≡ Err x → Err x ≡ place_to_write part d img m k n
+  unfolding place_to_write other_size part_start
+  place_refused x e = go part is
     where
-      go : (w : Bool) → Err x ≡ (if w && false then Err outside_table else range_place d img m k o n)
-      go true = range_refused d img m k o n r is x e
-      go false = range_refused d img m k o n r is x e
+      go : (p : Part) → r ≡ ranges.range_in m k (part_start p) n (open_image d img) → Err x ≡ place_to_write p d img m k n
+      go (Range o) h = range_refused d img m k o n r h x e
+      go Whole h = rw (table_told d img m k (record { 0 = 0 }) n r h, e) (range_refused d img m k (record { 0 = 0 }) n r h x e)
 
-  module _ (a : RangeTable) (e : r ≡ Ok a) (b : Bool) (within : b ≡ ((o.0 + n ≤? a.length) && (not whole || n =? a.length))) where
-    pub place_past : b ≡ false → Err outside_table ≡ place_to_write whole d img m k o n
-    unfolding place_to_write other_size
-    place_past f = rw (table_told d img m k o n r is, e) (go whole (o.0 + n ≤? a.length) (n =? a.length) refl (sym within ∙ f))
+  module _ (a : RangeTable) (e : r ≡ Ok a) (b : Bool) (fits : b ≡ part_fits part n a.length) where
+    pub place_past : b ≡ false → Err outside_table ≡ place_to_write part d img m k n
+    unfolding place_to_write other_size part_start part_fits
+    place_past f = go part is fits
       where
-        past : (x : Bool) → (o.0 + n ≤? a.length) ≡ false → Err outside_table ≡ (if x then Err outside_table else range_place d img m k o n)
-        past true g = refl
-        past false g = range_past d img m k o n r is a e _ refl g
+        go : (p : Part) → r ≡ ranges.range_in m k (part_start p) n (open_image d img) → b ≡ part_fits p n a.length → Err outside_table ≡ place_to_write p d img m k n
+        go (Range o) h w = range_past d img m k o n r h a e b w f
+        go Whole h w = rw (table_told d img m k (record { 0 = 0 }) n r h, e, sym w ∙ f)
 
-        go : (w x y : Bool) → (o.0 + n ≤? a.length) ≡ x → (x && (not w || y)) ≡ false → Err outside_table ≡ (if w && not y then Err outside_table else range_place d img m k o n)
-        go w false y g z = past (w && not y) g
-        go true true true g z = absurd (true≢false z)
-        go true true false g z = refl
-        go false true y g z = absurd (true≢false z)
-
-    pub place_there : b ≡ true → (p : ℕ) → p ≡ a.start.0 + o.0 → (f : Fields) → f ≡ fields_at d a.item → allowed_by f.writable a.held (record { 0 = p }) n ≡ place_to_write whole d img m k o n
-    unfolding place_to_write other_size
-    place_there t p g f fe =
-        range_there d img m k o n r is a e _ refl (lies_in _ _ b within t) p g f fe
-        ∙ rw (table_told d img m k o n r is, e) (go whole (o.0 + n ≤? a.length) (n =? a.length) (sym within ∙ t))
+    pub place_there : b ≡ true → (p : ℕ) → p ≡ a.start.0 + o.0 → (f : Fields) → f ≡ fields_at d a.item → allowed_by f.writable a.held (record { 0 = p }) n ≡ place_to_write part d img m k n
+    unfolding place_to_write other_size part_start part_fits
+    place_there t p g f fe = go part is fits g
       where
-        go : (w x y : Bool) → (x && (not w || y)) ≡ true → range_place d img m k o n ≡ (if w && not y then Err outside_table else range_place d img m k o n)
-        go w false y z = absurd (true≢false (sym z))
-        go true true true z = refl
-        go true true false z = absurd (true≢false (sym z))
-        go false true y z = refl
+        go : (q : Part) → r ≡ ranges.range_in m k (part_start q) n (open_image d img) → b ≡ part_fits q n a.length → p ≡ a.start.0 + (part_start q).0
+            → allowed_by f.writable a.held (record { 0 = p }) n ≡ place_to_write q d img m k n
+        go (Range o) h w z = range_there d img m k o n r h a e b w t p z f fe
+        go Whole h w z =
+            let l : 0 + n ≤ a.length = omega (arith, eqb-true n a.length (sym w ∙ t)) in
+            rw (table_told d img m k (record { 0 = 0 }) n r h, e, sym w ∙ t)
+            (range_there d img m k (record { 0 = 0 }) n r h a e true (sym (le-leb (0 + n) a.length l)) refl p z f fe)
 
 -- a whole table's verdict and image
-module _ (d img : List ℕ) (m k : ℕ) (new : List ℕ) (o : TableOffset) (v : Place) (zeroth : o.0 ≡ 0) (e : v ≡ place_to_write true d img m k o (length new)) where
+module _ (d img : List ℕ) (m k : ℕ) (new : List ℕ) (v : Place) (e : v ≡ place_to_write Whole d img m k (length new)) where
   pub whole_reply : place_verdict v ≡ write_table_reply d img m k new
   unfolding place_to_write write_table_reply write_range_reply place_verdict
   whole_reply = rw e (go (other_size (length new) (table_place_reply d img m k)))
     where
-      go : (b : Bool) → place_verdict (if b then Err outside_table else range_place d img m k o (length new))
+      go : (b : Bool) → place_verdict (if b then Err outside_table else range_place d img m k (record { 0 = 0 }) (length new))
           ≡ (if b then Err outside_table else place_verdict (range_place d img m k (record { 0 = 0 }) (length new)))
       go true = refl
-      go false = ap (λ (z : ℕ). place_verdict (range_place d img m k (record { 0 = z }) (length new))) zeroth
+      go false = refl
 
   pub whole_image : image_with img new v ≡ write_table_image d img m k new
   unfolding place_to_write write_table_image write_range_image image_with
   whole_image = rw e (go (other_size (length new) (table_place_reply d img m k)))
     where
-      go : (b : Bool) → image_with img new (if b then Err outside_table else range_place d img m k o (length new))
+      go : (b : Bool) → image_with img new (if b then Err outside_table else range_place d img m k (record { 0 = 0 }) (length new))
           ≡ (if b then img else image_with img new (range_place d img m k (record { 0 = 0 }) (length new)))
       go true = refl
-      go false = ap (λ (z : ℕ). image_with img new (range_place d img m k (record { 0 = z }) (length new))) zeroth
+      go false = refl
 
 -- an offset in a table inside the image is counted on from the table's start
-pub counted_on : (s f n l long p : ℕ) (b : Bool) → p ≡ min (s + f) 18446744073709551615 → s + l ≤ long → long ≤ 65535 → b ≡ (f + n ≤? l) → b ≡ true → p ≡ s + f
-counted_on s f n l long p b e h k w t = let i : f + n ≤ l = leb-true _ _ (sym w ∙ t) in omega arith
+pub counted_on : (s f n l long p : ℕ) → p ≡ min (s + f) 18446744073709551615 → s + l ≤ long → long ≤ 65535 → f + n ≤ l → p ≡ s + f
+counted_on s f n l long p e h k w = omega arith
 
 -- AN ELEMENT
 -- the elements of an image that is opened

@@ -1,11 +1,14 @@
 -- WHAT IS KNOWN WHERE SOMETHING IS FOUND, for the contracts of the functions below the public calls. Assumes nothing.
-use Rattle.std.specs.Prelude.{ℕ, ◌+◌, ◌≤◌, ◌≡◌, Bool, ◌&&◌, List, length, if◌then◌else◌, Ok, Err}
+use Rattle.std.specs.Prelude.{ℕ, ◌+◌, ◌≤◌, ◌≡◌, Bool, List, length, if◌then◌else◌, Ok, Err}
+use Rattle.meaning.specs.Basics.{◌=?◌, ◌≤?◌}
 use Rattle.meaning.specs.Description.{fields_at, is_dimension}
 use Rattle.meaning.specs.Numbers.{outside_table, not_writable, holds_dimension, wrong_size}
 use Rattle.meaning.specs.Refusals.{table_place_reply, table_around, range_place}
 use Rattle.meaning.specs.Messages.{other_size}
 use Rattle.offsets.specs.declared.ImageOffset.{ImageOffset}
 use Rattle.offsets.specs.declared.TableOffset.{TableOffset}
+use Rattle.access.specs.declared.Part.{Part}
+use Rattle.access.specs.declared.Part.TheVariants.{Range, Whole}
 use Rattle.access.specs.declared.Seen.{Seen}
 use Rattle.meaning.specs.Values.{Place, at}
 
@@ -14,9 +17,20 @@ pub record SeenAs (d : List ℕ) (i : ℕ) (r : Seen) : Type 0 where
   pub fields : r.fields ≡ fields_at d i
   pub table : r.table ≡ fields_at d (table_around d i)
 
--- where n octets from an offset on are written; 12 too where they are to be the whole table and aren't
-unfoldable pub place_to_write : (whole : Bool) → (description image : List ℕ) → (manufacturer number : ℕ) → TableOffset → (n : ℕ) → Place
-place_to_write whole d img m k o n = if whole && other_size n (table_place_reply d img m k) then Err outside_table else range_place d img m k o n
+-- where a part of a table starts
+unfoldable pub part_start : Part → TableOffset
+part_start (Range o) = o
+part_start Whole = record { 0 = 0 }
+
+-- n octets are such a part of a table of that length
+unfoldable pub part_fits : Part → (n length : ℕ) → Bool
+part_fits (Range o) n l = o.0 + n ≤? l
+part_fits Whole n l = n =? l
+
+-- where n octets are written, as a part of a table; 12 too where they are to be the whole table and aren't
+unfoldable pub place_to_write : Part → (description image : List ℕ) → (manufacturer number : ℕ) → (n : ℕ) → Place
+place_to_write (Range o) d img m k n = range_place d img m k o n
+place_to_write Whole d img m k n = if other_size n (table_place_reply d img m k) then Err outside_table else range_place d img m k (record { 0 = 0 }) n
 
 -- 13, then 14
 unfoldable pub allowed_by : (writable held : Bool) → ImageOffset → (n : ℕ) → Place

@@ -7,14 +7,14 @@
 // Nothing is kept: each call lays the image out anew.
 #![tactic(auto)]
 
-ghost use Rattle.std.specs.Prelude.{◌≡◌, not, ◌&&◌, ◌||◌, ◌+◌, ◌^◌, ◌<◌, length, if◌then◌else◌};
+ghost use Rattle.std.specs.Prelude.{◌≡◌, ◌+◌, ◌^◌, ◌<◌, length, if◌then◌else◌};
 ghost use Rattle.meaning.specs.Basics.{◌<?◌, ◌≤?◌, ◌=?◌};
 ghost use Rattle.meaning.specs.Description.{item_count, is_table, is_dimension};
 ghost use Rattle.meaning.specs.Refusals.{open_image, table_place_reply, element_place_reply, place_part, place_start, table_part_reply, element_part_reply, read_range_reply, read_range_part, element_number_reply, place_verdict, image_with, octets_place_in, number_place_in, write_range_reply, write_range_image, write_octets_reply, write_octets_image, write_number_reply, write_number_image};
 ghost use Rattle.meaning.specs.Messages.{write_table_reply, write_table_image};
-ghost use Rattle.access.specs.Access.{place_to_write, SeenAs, allowed_by, fitted_by, element_to_write, FitsAt, Inside};
+ghost use Rattle.access.specs.Access.{part_start, part_fits, place_to_write, SeenAs, allowed_by, fitted_by, element_to_write, FitsAt, Inside};
 
-use basics::{both, either, ends_within};
+use basics::ends_within;
 use items::Cursor;
 use meaning::{Answer, ElementName, Fields, Kind, Location, Place, Refusal, Reply, Verdict};
 use offsets::{ImageOffset, TableOffset};
@@ -74,37 +74,57 @@ fn allowed(writable: bool, held: bool, start: ImageOffset, octets: usize) -> Pla
     })
 }
 
-// Whether octets from an offset on lie in a table of that length; where they are to be the whole of
-// it, whether they are as many.
-fn fits_table(whole: bool, offset: usize, octets: usize, length: usize) -> bool
-    ensures { result ≡ ((offset + octets ≤? length) && (not whole || octets =? length)) }
-{
-    both(
-        ends_within(offset, octets, length),
-        either(!whole, octets == length),
-    )
+// What of a table is written: as many octets as there are from an offset in it on, or the whole of it.
+#[derive(Clone, Copy)]
+enum Part {
+    Range(TableOffset),
+    Whole,
 }
 
-// Where a range of a table is written, or the whole of it: 10, 12, then 13 and 14. The table's start
-// turns the offset in it into one in the image.
+impl Part {
+    // Where it starts in the table.
+    #[tactic(auto, unfolding(crate::specs::Access::part_start))]
+    fn start(self) -> TableOffset
+        ensures { result ≡ part_start self }
+    {
+        match self {
+            Part::Range(offset) => offset,
+            Part::Whole => TableOffset::new(0),
+        }
+    }
+
+    // Whether so many octets are such a part of a table of that length.
+    #[tactic(auto, unfolding(crate::specs::Access::part_fits))]
+    fn fits(self, octets: usize, length: usize) -> bool
+        ensures { result ≡ part_fits self octets length }
+    {
+        match self {
+            Part::Range(offset) => ends_within(offset.octets(), octets, length),
+            Part::Whole => octets == length,
+        }
+    }
+}
+
+// Where a part of a table is written: 10, 12, then 13 and 14. The table's start turns the offset in it
+// into one in the image.
 fn write_place(
     description: &[u8],
     image: &[u8],
     manufacturer: u32,
     number: u32,
-    offset: TableOffset,
+    part: Part,
     octets: usize,
-    whole: bool,
 ) -> Place
-    ensures { result ≡ place_to_write whole description.now image.now manufacturer number offset octets }
+    ensures { result ≡ place_to_write part description.now image.now manufacturer number octets }
 {
+    let offset = part.start();
     let RangeTable {
         item,
         start,
         length,
         held,
     } = places::range_in(description, image, manufacturer, number, offset, octets)?;
-    if !fits_table(whole, offset.octets(), octets, length) {
+    if !part.fits(octets, length) {
         return Err(Refusal::OUTSIDE_TABLE);
     }
     let table = around(description, item).fields;
@@ -279,9 +299,8 @@ pub fn write_range(
         image,
         manufacturer,
         number,
-        offset,
+        Part::Range(offset),
         new.len(),
-        false,
     );
     write_at(image, place, new)
 }
@@ -297,15 +316,13 @@ pub fn write_table(
     ensures reply { result ≡ write_table_reply description.now image.old manufacturer number new.now }
     ensures image { image.new ≡ write_table_image description.now image.old manufacturer number new.now }
 {
-    let start = TableOffset::new(0);
     let place = write_place(
         description,
         image,
         manufacturer,
         number,
-        start,
+        Part::Whole,
         new.len(),
-        true,
     );
     write_at(image, place, new)
 }

@@ -1,5 +1,6 @@
 -- `access::range_place`: by what a walk tells of the table, case by case. Assumes nothing.
-use mathlib.Core.Path.{◌∙◌}
+use mathlib.Core.Path.{sym, ◌∙◌}
+use borrow.Author.Tests.{leb-true}
 use Rattle.std.proofs.lemmas.Result.{err_from_is_err_and}
 use Rattle.access.proofs.Laws.{table_in, read_refused, read_past, read_there, counted_on}
 use Rattle.access.proofs.range_place.Goals as goal
@@ -18,4 +19,4 @@ returns c =
     let a = table_in _ _ _ _ _ _ _ c.range_in.ensures _ c.in_ok-start.was in
     let w = rw c.octets.ensures at c.ends_within.ensures in
     read_there _ _ _ _ _ _ _ c.range_in.ensures _ c.in_ok-start.was _ w c.if-not-ends_within.false _
-    (counted_on _ _ _ _ _ _ _ c.in_image.ensures a.inside a.small w c.if-not-ends_within.false)
+    (counted_on _ _ _ _ _ _ c.in_image.ensures a.inside a.small (leb-true _ _ (sym w ∙ c.if-not-ends_within.false)))

@@ -1,24 +1,22 @@
 -- `access::write_place`: by what a walk tells of the table, case by case; a table found lies inside the image, so its start and the offset are counted on. Assumes nothing.
-use mathlib.Core.Path.{refl, ◌∙◌}
+use mathlib.Core.Path.{◌∙◌}
 use Rattle.std.proofs.lemmas.Result.{err_from_is_err_and}
-use Rattle.access.proofs.Laws.{table_in, place_refused, place_past, place_there, lies_in, counted_on}
+use Rattle.access.proofs.Laws.{table_in, place_refused, place_past, place_there, part_within, counted_on}
 use Rattle.access.proofs.write_place.Goals as goal
 
 pub returns-in_err-item : goal.returns-in_err-item
 returns-in_err-item c =
     let p = err_from_is_err_and c.from_residual.result c.from_residual.ensures.1 in
-    rw (p.1, p.2) (place_refused _ _ _ _ _ _ _ _ c.range_in.ensures _ c.in_err-item.was)
+    rw (p.1, p.2) (place_refused _ _ _ _ _ _ _ (rw c.start-offset.ensures at c.range_in.ensures) _ c.in_err-item.was)
 
-pub returns-then-not-fits_table : goal.returns-then-not-fits_table
-returns-then-not-fits_table c =
-    place_past _ _ _ _ _ _ _ _ c.range_in.ensures _ c.in_ok-item.was _ (c.fits_table.ensures ∙ rw c.octets.ensures) c.if-not-fits_table.true
+pub returns-then-not-fits : goal.returns-then-not-fits
+returns-then-not-fits c = place_past _ _ _ _ _ _ _ (rw c.start-offset.ensures at c.range_in.ensures) _ c.in_ok-item.was _ c.fits.ensures c.if-not-fits.true
 
 pub around-requires : goal.around-requires
-around-requires c = (table_in _ _ _ _ _ _ _ c.range_in.ensures _ c.in_ok-item.was).there
+around-requires c = (table_in _ _ _ _ _ _ _ (rw c.start-offset.ensures at c.range_in.ensures) _ c.in_ok-item.was).there
 
 pub returns : goal.returns
 returns c =
-    let a = table_in _ _ _ _ _ _ _ c.range_in.ensures _ c.in_ok-item.was in
-    let w = rw c.octets.ensures at c.fits_table.ensures in
-    c.allowed.ensures ∙ place_there _ _ _ _ _ _ _ _ c.range_in.ensures _ c.in_ok-item.was _ w c.if-not-fits_table.false _
-    (counted_on _ _ _ _ _ _ _ c.in_image.ensures a.inside a.small refl (lies_in _ _ _ w c.if-not-fits_table.false)) _ c.around.ensures.fields
+    let a = table_in _ _ _ _ _ _ _ (rw c.start-offset.ensures at c.range_in.ensures) _ c.in_ok-item.was in
+    c.allowed.ensures ∙ place_there _ _ _ _ _ _ _ (rw c.start-offset.ensures at c.range_in.ensures) _ c.in_ok-item.was _ c.fits.ensures c.if-not-fits.false _
+    (counted_on _ _ _ _ _ _ (rw c.start-offset.ensures at c.in_image.ensures) a.inside a.small (part_within _ _ _ c.fits.ensures c.if-not-fits.false)) _ c.around.ensures.fields

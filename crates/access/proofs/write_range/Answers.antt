@@ -6,7 +6,7 @@ use Rattle.access.proofs.Inside.{place_fits}
 use Rattle.access.proofs.write_range.Goals as goal
 
 pub write_at-requires : goal.write_at-requires
-write_at-requires c = place_fits _ _ _ _ _ _ _ _ c.write_place-place.ensures
+write_at-requires c = place_fits _ _ _ _ _ _ _ c.write_place-place.ensures
 
 pub returns : goal.returns
 unfolding write_range_reply write_range_image place_to_write
