@@ -10,6 +10,7 @@ use Rattle.octets.proofs.Laws.{stands_at}
 use Rattle.messages.proofs.Puts.{both_hold}
 use Rattle.messages.proofs.Serving.{Came, came_as, data_cut}
 use Rattle.std.specs.Prelude.{Ok, Err, Result}
+use Rattle.meaning.specs.declared.Refusal.{Refusal}
 
 module _ (xs : List ℕ) where
   abbrev from : (start n : ℕ) → List ℕ

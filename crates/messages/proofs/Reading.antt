@@ -9,6 +9,7 @@ use Rattle.messages.specs.Messages.{Stands}
 use Rattle.messages.proofs.Checks.{data_long}
 use Rattle.std.specs.Prelude.{Ok, Err, Result}
 use Rattle.meaning.specs.Numbers.{not_a_reply}
+use Rattle.meaning.specs.declared.Refusal.{Refusal}
 
 -- A REQUEST
 module _ (xs : List ℕ) where

@@ -5,7 +5,7 @@
 // octet on; where it doesn't fit, or a number doesn't fit its field, the call is refused by 21 and
 // changes no octet. What a request asks of the tables is asked of the layers below. A write's reply
 // is one octet, so that it fits is known before the write is made.
-#![tactic(auto)]
+#![tactic(auto, unfolding(meaning::specs::Messages::code_of, meaning::specs::Messages::request_of, meaning::specs::Messages::request_sent, meaning::specs::Messages::request_room, meaning::specs::Messages::reply_of, meaning::specs::Messages::reply_sent, meaning::specs::Messages::reply_room, crate::specs::Messages::verdict_answer, crate::specs::Messages::place_answer))]
 
 mod check;
 mod replying;
@@ -82,7 +82,9 @@ pub fn request_data<'a>(request: &'a [u8]) -> &'a [u8]
             let end = requests::OFFSET_DATA + count;
             &request[requests::OFFSET_DATA..end]
         }
-        _ => &request[0..0],
+        Ok(Requested::FullRead { .. }) => &request[0..0],
+        Ok(Requested::OffsetRead { .. }) => &request[0..0],
+        Err(_) => &request[0..0],
     }
 }
 
@@ -124,7 +126,9 @@ pub fn reply_data<'a>(reply: &'a [u8]) -> &'a [u8]
             let end = replying::DATA + count;
             &reply[replying::DATA..end]
         }
-        _ => &reply[0..0],
+        Ok(Heard::Done) => &reply[0..0],
+        Ok(Heard::Refused(_)) => &reply[0..0],
+        Err(_) => &reply[0..0],
     }
 }
 

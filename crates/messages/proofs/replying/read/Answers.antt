@@ -7,16 +7,16 @@ use Rattle.messages.proofs.replying.read.Goals as goal
 pub returns-then-reply-eq1 : goal.returns-then-reply-eq1
 returns-then-reply-eq1 c = of_one _ c.if-reply-eq1.true c.read_short.ensures
 
-pub bounds-reply-0-in-Are : goal.bounds-reply-0-in-Are
-bounds-reply-0-in-Are c = omega (arith, (counted_are _ _ c.counted_from-counted.ensures c.in-Are.is).long)
+pub bounds-reply-0-in-Some : goal.bounds-reply-0-in-Some
+bounds-reply-0-in-Some c = omega (arith, (counted_are _ _ c.counted_from.ensures c.in-Some.is).long)
 
 pub returns-then-reply-eq-GOOD : goal.returns-then-reply-eq-GOOD
 returns-then-reply-eq-GOOD c =
-    has_data _ c.if-reply-eq1.false (counted_are _ _ c.counted_from-counted.ensures c.in-Are.is) c.if-reply-eq-GOOD.true
+    has_data _ c.if-reply-eq1.false (counted_are _ _ c.counted_from.ensures c.in-Some.is) c.if-reply-eq-GOOD.true
 
-pub returns-in-Not : goal.returns-in-Not
-returns-in-Not c = no_data _ c.if-reply-eq1.false (counted_not _ _ c.counted_from-counted.ensures c.in-Not.is)
+pub returns-in-None : goal.returns-in-None
+returns-in-None c = no_data _ c.if-reply-eq1.false (counted_not _ _ c.counted_from.ensures c.in-None.is)
 
 pub returns-else-reply-eq-GOOD : goal.returns-else-reply-eq-GOOD
 returns-else-reply-eq-GOOD c =
-    not_good _ c.if-reply-eq1.false (counted_are _ _ c.counted_from-counted.ensures c.in-Are.is) c.if-reply-eq-GOOD.false
+    not_good _ c.if-reply-eq1.false (counted_are _ _ c.counted_from.ensures c.in-Some.is) c.if-reply-eq-GOOD.false

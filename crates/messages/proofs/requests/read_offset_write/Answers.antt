@@ -5,16 +5,16 @@ use Rattle.messages.proofs.Checks.{counted_are, counted_not, data_long}
 use Rattle.messages.proofs.requests.read_offset_write.Goals as goal
 
 pub id_of-requires : goal.id_of-requires
-id_of-requires c = omega (arith, (counted_are _ _ c.counted_from-counted.ensures c.in-Are.is).long)
+id_of-requires c = omega (arith, (counted_are _ _ c.counted_from.ensures c.in-Some.is).long)
 
 pub offset_of-requires : goal.offset_of-requires
-offset_of-requires c = omega (arith, (counted_are _ _ c.counted_from-counted.ensures c.in-Are.is).long)
+offset_of-requires c = omega (arith, (counted_are _ _ c.counted_from.ensures c.in-Some.is).long)
 
-pub returns-in-Not : goal.returns-in-Not
+pub returns-in-None : goal.returns-in-None
 unfolding request_by as_request requested_by
-returns-in-Not c = rw (counted_not _ _ c.counted_from-counted.ensures c.in-Not.is)
+returns-in-None c = rw (counted_not _ _ c.counted_from.ensures c.in-None.is)
 
-pub returns-in-Are : goal.returns-in-Are
+pub returns-in-Some : goal.returns-in-Some
 unfolding request_by as_request requested_by
-returns-in-Are c =
-    let s = counted_are _ _ c.counted_from-counted.ensures c.in-Are.is in rw (s.is, ← c.id_of.ensures, ← c.offset_of.ensures, data_long _ 6 s)
+returns-in-Some c =
+    let s = counted_are _ _ c.counted_from.ensures c.in-Some.is in rw (s.is, ← c.id_of.ensures, ← c.offset_of.ensures, data_long _ 6 s)
