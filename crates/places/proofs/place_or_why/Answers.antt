@@ -1,10 +1,7 @@
 -- `places::place_or_why`: refused by 1 to 9, the place that the row and the subscripts give, or why there is none. Assumes nothing.
 use mathlib.Core.Path.{refl}
-use Rattle.places.proofs.Replies.{element_refused, standing_few, element_here, element_missing}
+use Rattle.places.proofs.Replies.{element_refused, element_here, element_missing}
 use Rattle.places.proofs.place_or_why.Goals as goal
-
-pub found_by-requires : goal.found_by-requires
-found_by-requires c = standing_few _ _ _ _ c.in-Ok.ensures
 
 pub returns-in-Err : goal.returns-in-Err
 returns-in-Err c = element_refused _ _ _ c.in-Err.ensures _ _

@@ -1,8 +1,8 @@
 -- `measure::body_size` and `measure::item_size`: what is measured so far goes with what is left, and an item is measured by what it comes to. Assumes nothing.
 use native.Mathlib.Omega.{arith}
 use Rattle.items.proofs.ReadLaws.{range_read}
-use Rattle.places.proofs.Measures.{started, ended, next_ready, less, counted, stepped_on}
-use Rattle.places.proofs.Opened.{opened, entered, leaf_done, level_left, body_ready, array_ready, array_done, choice_done}
+use Rattle.places.proofs.Measures.{started, ended, next_ready, stepped_on}
+use Rattle.places.proofs.Opened.{opened, entered, leaf_done, level_left, body_ready, array_done, choice_done}
 use Rattle.places.proofs.measure.+body_size_item_size.Goals as goal
 
 pub body_size-loop-numbers-init : goal.body_size-loop-numbers-init
@@ -12,14 +12,6 @@ body_size-loop-numbers-init t c =
 pub body_size-item_size-one-requires : goal.body_size-item_size-one-requires
 body_size-item_size-one-requires t c =
     (omega arith, next_ready _ _ _ _ _ _ _ _ c.loop-numbers.invariant (omega arith))
-
-pub body_size-joined-span-requires : goal.body_size-joined-span-requires
-body_size-joined-span-requires t c =
-    counted _ _ _ _ _ _ _ _ c.loop-numbers.invariant (omega arith) _ c.item_size-one.ensures
-
-pub body_size-loop-numbers-smaller : goal.body_size-loop-numbers-smaller
-body_size-loop-numbers-smaller t c =
-    less _ _ _ _ _ _ _ _ c.loop-numbers.invariant (omega arith) _ c.item_size-one.ensures
 
 pub body_size-loop-numbers-preserved : goal.body_size-loop-numbers-preserved
 body_size-loop-numbers-preserved t c =
@@ -48,12 +40,6 @@ item_size-body_size-body-requires t c =
     let o = opened c.requires c.read-read.ensures c.value-value.ensures c.past-after.ensures in
     let e = entered o c.nests.ensures c.if-nests.true c.inner_of-taken.ensures c.past.ensures in
     (omega (arith, level_left e), body_ready e)
-
-pub item_size-array_span-requires : goal.item_size-array_span-requires
-item_size-array_span-requires t c =
-    let o = opened c.requires c.read-read.ensures c.value-value.ensures c.past-after.ensures in
-    let e = entered o c.nests.ensures c.if-nests.true c.inner_of-taken.ensures c.past.ensures in
-    array_ready e _ c.body_size-body.ensures
 
 pub item_size-returns-then-f-eq-ARRAY : goal.item_size-returns-then-f-eq-ARRAY
 item_size-returns-then-f-eq-ARRAY t c =

@@ -6,9 +6,6 @@ use Rattle.places.proofs.survey.open_image.Goals as goal
 pub returns-then-image-gt65535 : goal.returns-then-image-gt65535
 returns-then-image-gt65535 c = opened_long _ _ c.args.asked (sym c.check.ensures ∙ c.in-Passed.is) c.if-image-gt65535.true
 
-pub survey_image-requires : goal.survey_image-requires
-survey_image-requires c = record { passes = sym c.check.ensures ∙ c.in-Passed.is; small = c.if-image-gt65535.false }
-
 pub returns-in-Refused : goal.returns-in-Refused
 returns-in-Refused c = opened_refused _ _ c.args.asked _ (sym c.check.ensures ∙ c.in-Refused.is)
 

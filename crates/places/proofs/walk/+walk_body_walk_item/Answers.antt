@@ -4,14 +4,10 @@ use mathlib.Core.Path.{refl}
 use native.Mathlib.Omega.{arith}
 use Rattle.items.proofs.ReadLaws.{range_read}
 use Rattle.places.proofs.Opened.{level_left}
-use Rattle.places.proofs.Through.{sets_out, arrives, item_ready, stops, further, goes_on}
-use Rattle.places.proofs.Walking.{here, valued, leaf_ready, leaf_walks, array_step, array_walks}
+use Rattle.places.proofs.Through.{arrives, item_ready, stops, goes_on}
+use Rattle.places.proofs.Walking.{here, valued, leaf_ready, leaf_walks, array_walks}
 use Rattle.places.proofs.Walking.{choosing, through_ready, choice_stops, choice_walks}
 use Rattle.places.proofs.walk.+walk_body_walk_item.Goals as goal
-
-pub walk_body-loop-aim-init : goal.walk_body-loop-aim-init
-walk_body-loop-aim-init t c =
-    sets_out _ _ _ _ _ _ c.requires
 
 pub walk_body-walk_item-requires : goal.walk_body-walk_item-requires
 walk_body-walk_item-requires t c =
@@ -21,10 +17,6 @@ pub walk_body-returns-in_err-walk : goal.walk_body-returns-in_err-walk
 walk_body-returns-in_err-walk t c =
     let e : c.from_residual.result ≡ Err c.in_err-walk.field-0.0 = search rules in
     rw e (stops _ _ _ _ _ _ _ c.loop-aim.invariant (omega arith) c.in_err-walk.ensures)
-
-pub walk_body-loop-aim-smaller : goal.walk_body-loop-aim-smaller
-walk_body-loop-aim-smaller t c =
-    omega (arith, further _ _ _ _ _ _ _ c.loop-aim.invariant (omega arith) c.in_ok-walk.ensures)
 
 pub walk_body-loop-aim-preserved : goal.walk_body-loop-aim-preserved
 walk_body-loop-aim-preserved t c =
@@ -66,16 +58,6 @@ walk_item-returns-then-is_choice t c =
     let h = here c.requires c.read-read.ensures c.value_here-value.ensures c.past-after.ensures in
     let g = choosing h c.is_choice.ensures c.if-is_choice.true c.chosen-taken.ensures c.past.ensures refl in
     choice_walks g c.in_ok-inner.ensures
-
-pub walk_item-item_size-all-requires : goal.walk_item-item_size-all-requires
-walk_item-item_size-all-requires t c =
-    let h = here c.requires c.read-read.ensures c.value_here-value.ensures c.past-after.ensures in
-    h.item.ready
-
-pub walk_item-step-requires : goal.walk_item-step-requires
-walk_item-step-requires t c =
-    let h = here c.requires c.read-read.ensures c.value_here-value.ensures c.past-after.ensures in
-    array_step h c.if-f-eq-ARRAY.true c.item_size-all.ensures
 
 pub walk_item-returns-then-f-eq-ARRAY : goal.walk_item-returns-then-f-eq-ARRAY
 walk_item-returns-then-f-eq-ARRAY t c =
