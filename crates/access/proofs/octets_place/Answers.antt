@@ -1,17 +1,13 @@
 -- `access::octets_place`: by where the element is, case by case. Assumes nothing.
 use mathlib.Core.Path.{◌∙◌, sym}
 use Rattle.meaning.specs.Refusals.{element_place_reply}
-use Rattle.access.proofs.Laws.{write_refused, write_there}
+use Rattle.access.proofs.Laws.{write_there}
 use Rattle.access.proofs.Inside.{stands}
 use Rattle.access.proofs.octets_place.Goals as goal
 
 pub element_to_write-requires : goal.element_to_write-requires
 unfolding element_place_reply
 element_to_write-requires c = (stands _ _ _ _ _ (sym c.element_place-found.ensures ∙ c.in-At.is)).there
-
-pub returns-in-Refused : goal.returns-in-Refused
-unfolding element_place_reply
-returns-in-Refused c = write_refused _ _ _ _ _ _ c.element_place-found.ensures _ c.in-Refused.is
 
 pub returns-in-At : goal.returns-in-At
 unfolding element_place_reply

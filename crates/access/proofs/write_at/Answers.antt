@@ -2,11 +2,8 @@
 use mathlib.Core.Path.{subst}
 use lib.ListN.{length}
 use Rattle.access.specs.Access.{FitsAt}
-use Rattle.access.proofs.Laws.{kept_refused, put_there}
+use Rattle.access.proofs.Laws.{put_there}
 use Rattle.access.proofs.write_at.Goals as goal
-
-pub returns-in-Refused : goal.returns-in-Refused
-returns-in-Refused c = let both = kept_refused _ _ _ _ c.in-Refused.is in record { reply = both.0; image = both.1 }
 
 pub returns-in-At : goal.returns-in-At
 returns-in-At c =
