@@ -347,20 +347,12 @@ fits_fewer x n = rw (eight_bits n) (go (x <? 256 ^ n) refl)
 
 -- AN ELEMENT'S NUMBER, by its place
 module _ (d img : List ℕ) (q : ElementName) (v : Place) where
-  pub number_refused : (r : Refusal) → v ≡ integer_place_reply d img q → v ≡ Place.Refused r → Reply.Refused r ≡ element_number_reply d img q
-  unfolding element_number_reply place_number
-  number_refused r e h = rw (← e, h)
-
   pub number_is : (p n x : ℕ) → v ≡ integer_place_reply d img q → v ≡ Place.At (record { 0 = p }) n → x ≡ number_at img p n → Reply.Number x ≡ element_number_reply d img q
   unfolding element_number_reply place_number
   number_is p n x e h g = rw (← e, h, g)
 
 -- WHAT IS WRITTEN
 module _ (img new : List ℕ) (v : Place) where
-  pub kept_refused : (r : Refusal) → v ≡ Place.Refused r → (Verdict.Refused r ≡ place_verdict v) × (img ≡ image_with img new v)
-  unfolding place_verdict image_with
-  kept_refused r e = (rw e, rw e)
-
   pub put_there : (p n : ℕ) (later : List ℕ) → v ≡ Place.At (record { 0 = p }) n → p + length new ≤ length img → later ≡ put img p new
       → (Verdict.Passed ≡ place_verdict v) × (later ≡ image_with img new v)
   unfolding place_verdict image_with put

@@ -105,16 +105,6 @@ module _ {d img : List ℕ} {a : Aim} {w : Walk} {k : ℕ} {r : Read} {x : ℕ} 
 
   -- AN ARRAY
   module _ (five : r.fields.kind ≡ 5) {s : Sized} (m : ItemAs d w.numbers w.next.at k a.wanted s) where
-    pub array_step : StepReady img a w s.span 0
-    array_step =
-        record {
-          small = ready.ready.small;
-          inside = ready.ready.inside;
-          size = omega (arith, m.span.size_is);
-          slots = omega arith;
-          dimension = λ z. absurd (omega arith);
-        }
-
     pub array_walks : {y : Result Walk Refusal} → y ≡ step_of img a w s.span 0 after → WalksItem d img a w k y
     array_walks = stepped s.span 0 (array_comes d img a w k after ready (rw o.fields at five) s.span (span_wider ready.ready.deep m.span))
 
