@@ -155,6 +155,7 @@ fn element_to_write(description: &[u8], item: usize, at: Location, fits: bool) -
     )
 }
 
+#[tactic(auto, unfolding(meaning::specs::Refusals::element_place_reply), using(crate::proofs::Laws::write_refused, crate::proofs::Laws::write_there))]
 fn octets_place(description: &[u8], image: &[u8], name: ElementName, octets: usize) -> Place
     ensures { result ≡ octets_place_in description.now image.now name octets (open_image description.now image.now) }
 {
@@ -163,6 +164,7 @@ fn octets_place(description: &[u8], image: &[u8], name: ElementName, octets: usi
 }
 
 // Whether a number needs no more than so many octets.
+#[tactic(auto, using(crate::proofs::Laws::fits_eight, crate::proofs::Laws::fits_fewer))]
 fn fits_in(value: u64, octets: usize) -> bool
     ensures { result ≡ (value <? 256 ^ octets) }
 {
@@ -172,6 +174,7 @@ fn fits_in(value: u64, octets: usize) -> bool
     value >> (octets * 8) == 0
 }
 
+#[tactic(auto, unfolding(meaning::specs::Refusals::integer_place_reply), using(crate::proofs::Laws::write_refused, crate::proofs::Laws::write_there))]
 fn number_place(description: &[u8], image: &[u8], name: ElementName, value: u64) -> Place
     ensures { result ≡ number_place_in description.now image.now name value (open_image description.now image.now) }
 {
@@ -180,6 +183,7 @@ fn number_place(description: &[u8], image: &[u8], name: ElementName, value: u64)
 }
 
 // THE OCTETS AT A PLACE
+#[tactic(auto, unfolding(meaning::specs::Refusals::place_part), using(crate::proofs::Inside::first_told))]
 fn part_at<'a>(image: &'a [u8], place: Place) -> &'a [u8]
     requires { Inside image.now place }
     ensures reply { result.now ≡ place_part image.now place }
@@ -192,6 +196,7 @@ fn part_at<'a>(image: &'a [u8], place: Place) -> &'a [u8]
 }
 
 // Writes octets at a place; none where there is a refusal.
+#[tactic(auto, unfolding(meaning::specs::Refusals::place_verdict, meaning::specs::Refusals::image_with), using(crate::proofs::Laws::put_there))]
 fn write_at(image: &mut [u8], place: Place, new: &[u8]) -> Verdict
     requires { FitsAt image.old (length new.now) place }
     ensures reply { result ≡ place_verdict place }
@@ -204,6 +209,7 @@ fn write_at(image: &mut [u8], place: Place, new: &[u8]) -> Verdict
 
 // THE PUBLIC CALLS
 // The table itself, as a part of the image; empty on refusal.
+#[tactic(auto, unfolding(meaning::specs::Refusals::table_part_reply), using(crate::proofs::Inside::table_inside))]
 pub fn table_part<'a>(
     description: &[u8],
     image: &'a [u8],
@@ -248,6 +254,7 @@ pub fn range_place(
 }
 
 // A range of a table, as a part of the image; empty on refusal.
+#[tactic(auto, unfolding(meaning::specs::Refusals::read_range_part), using(crate::proofs::Inside::range_inside))]
 pub fn range_part<'a>(
     description: &[u8],
     image: &'a [u8],
@@ -266,6 +273,7 @@ pub fn range_part<'a>(
 }
 
 // An element's octets, as a part of the image; empty on refusal.
+#[tactic(auto, unfolding(meaning::specs::Refusals::element_part_reply), using(crate::proofs::Inside::element_inside))]
 pub fn element_part<'a>(description: &[u8], image: &'a [u8], name: ElementName) -> &'a [u8]
     ensures reply { result.now ≡ element_part_reply description.now image.now name }
     ensures place { result.ref_ptr ≡ (image.entry.ref_ptr.0, image.entry.ref_ptr.1 + place_start (element_place_reply description.now image.now name)) }
@@ -274,6 +282,7 @@ pub fn element_part<'a>(description: &[u8], image: &'a [u8], name: ElementName) 
 }
 
 // An element's number.
+#[tactic(auto, unfolding(meaning::specs::Refusals::element_number_reply, meaning::specs::Refusals::place_number), using(crate::proofs::Inside::read_integer))]
 pub fn element_number(description: &[u8], image: &[u8], name: ElementName) -> Reply
     ensures { result ≡ element_number_reply description.now image.now name }
 {
@@ -283,6 +292,7 @@ pub fn element_number(description: &[u8], image: &[u8], name: ElementName) -> Re
 }
 
 // Writes a range of a table, from an offset in it on.
+#[tactic(auto, unfolding(meaning::specs::Refusals::write_range_reply, meaning::specs::Refusals::write_range_image, crate::specs::Access::place_to_write), using(crate::proofs::Inside::place_fits))]
 pub fn write_range(
     description: &[u8],
     image: &mut [u8],
@@ -306,6 +316,7 @@ pub fn write_range(
 }
 
 // Writes a whole table: data of another length than the table's are 12.
+#[tactic(auto, using(crate::proofs::Inside::place_fits, crate::proofs::Laws::whole_reply, crate::proofs::Laws::whole_image))]
 pub fn write_table(
     description: &[u8],
     image: &mut [u8],
@@ -328,6 +339,7 @@ pub fn write_table(
 }
 
 // Writes an element's octets.
+#[tactic(auto, unfolding(meaning::specs::Refusals::write_octets_reply, meaning::specs::Refusals::write_octets_image), using(crate::proofs::Inside::octets_fits))]
 pub fn write_octets(description: &[u8], image: &mut [u8], name: ElementName, new: &[u8]) -> Verdict
     ensures reply { result ≡ write_octets_reply description.now image.old name new.now }
     ensures image { image.new ≡ write_octets_image description.now image.old name new.now }

@@ -3,7 +3,7 @@ use Prim.Native.Nat.{ℕ, zero, suc, ◌*◌, ◌/◌, ◌^◌, ◌<◌, ◌≤�
 use mathlib.Core.Path.{◌≡◌}
 use mathlib.Core.Bool.{Bool, true, false, cond}
 use native.Mathlib.Decide.{dec_lt}
-use native.Mathlib.Nat.{mul-le-mul_left, mul-le-mul_right, one-mul, zero-mul, pow-le-pow_right, mod-lt}
+use native.Mathlib.Nat.{mul-le-mul_right, one-mul, zero-mul, pow-le-pow_right, mod-lt}
 use native.Mathlib.Omega.{arith}
 use lib.Pow.{pow_pos}
 use Rattle.meaning.specs.declared.Fields.{Fields}
@@ -25,9 +25,6 @@ value_few v f h = go (refers f)
     go : (b : Bool) → cond b (bit_range (v f.slot) f) 0 < 4294967296
     go true = range_few (v f.slot) f h
     go false = omega arith
-
-pub product_few : (t w : ℕ) → t < 4294967296 → w ≤ 65536 → t * w < 281474976710656
-product_few t w h k = omega (arith, mul-le-mul_left t k)
 
 -- a size may be cut before it is multiplied
 pub cut_mul : (t w : ℕ) → cut (t * cut w) ≡ cut (t * w)

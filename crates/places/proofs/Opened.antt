@@ -1,5 +1,5 @@
 -- An item as the code has it open: one record of what it has read, one more where the item has bodies, and what those come to. Assumes nothing.
-use Prim.Native.Nat.{ℕ, ◌+◌, ◌-◌, ◌<◌, ◌≤◌, min}
+use Prim.Native.Nat.{ℕ, ◌+◌, ◌-◌, ◌<◌, min}
 use mathlib.Core.Path.{◌≡◌, sym, ◌∙◌}
 use mathlib.Core.Bool.{Bool, true, false, ◌||◌, true≢false}
 use mathlib.Core.List.{List}
@@ -14,8 +14,6 @@ use Rattle.items.specs.Read.{read_at}
 use Rattle.items.proofs.ReadLaws.{fields_read, next_read}
 use Rattle.places.specs.declared.measure.Span.{Span}
 use Rattle.places.specs.Measuring.{numbers_in, inner_of, leaf_span, array_span, BodyReady, ItemReady, BodyAs, ItemAs}
-use Rattle.places.specs.Rows.{Few}
-use Rattle.places.proofs.RowLaws.{as_wider}
 use Rattle.places.proofs.Measures.{leaf_measured, deeper, within, inner_ready, array_measured, choice_measured}
 
 -- of two of which one holds, the other where the first doesn't
@@ -73,9 +71,6 @@ module _ {d numbers : List ℕ} {at k : ℕ} {r : Read} {x : ℕ} {after : Curso
   body_ready = rw (e.starts, e.takes) (inner_ready d numbers at k 0 o.ready e.bodies)
 
   module _ {b : Span} (i : ℕ) (h : BodyAs d numbers from c.items (k - 1) i b) where
-    pub array_ready : (x < 4294967296) × (b.size ≤ 65536) × Few 3 b.row.arrays
-    array_ready = (o.few, omega (arith, h.size_is), (as_wider (k - 1) 3 b.row _ (omega (arith, o.ready.deep)) h.row_as).few)
-
     taken_as : BodyAs d numbers (at + 1 + (inner d numbers at).skip) (inner d numbers at).items (k - 1) i b
     taken_as = rw (e.starts, e.takes) at h
 

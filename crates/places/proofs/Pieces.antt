@@ -1,13 +1,12 @@
 -- One piece of a walk, a leaf or a whole ARRAY: it ends inside the image, or the walk is short there; and so it is in laying out. Assumes nothing.
 use Rattle.std.specs.Prelude.{Result, Ok, Err}
-use Prim.Native.Nat.{ℕ, ◌+◌, ◌-◌, ◌<◌, ◌≤◌, min, max}
+use Prim.Native.Nat.{ℕ, ◌+◌, ◌<◌, ◌≤◌}
 use mathlib.Core.Path.{◌≡◌, refl, ◌∙◌, ap, sym}
-use mathlib.Core.Bool.{Bool, true, false, cond, ◌&&◌, ◌||◌, or-false}
+use mathlib.Core.Bool.{Bool, true, false, cond, ◌||◌, or-false}
 use mathlib.Core.List.{List}
 use lib.ListN.{length}
-use lib.Dec.{leb, ltb}
-use borrow.Author.Tests.{le-leb, lt-leb, leb-true, leb-false, ltb-true, ltb-false, lt-ltb}
-use native.Mathlib.Omega.{arith}
+use lib.Dec.{leb}
+use borrow.Author.Tests.{le-leb, lt-leb, leb-true, leb-false, lt-ltb}
 use Rattle.meaning.specs.declared.Refusal.{Refusal}
 use Rattle.items.specs.declared.Cursor.{Cursor}
 use Rattle.offsets.specs.declared.TableOffset.{TableOffset}
@@ -17,29 +16,6 @@ use Rattle.places.specs.declared.walk.Aim.{Aim}
 use Rattle.places.specs.declared.walk.Walk.{Walk}
 use Rattle.places.specs.Rows.{first_of, onward_by}
 use Rattle.places.specs.Walking.{meets, dimension_at, place, noted, past_piece, short_here, step_of}
-use Rattle.meaning.proofs.Either.{clash}
-
--- A DIMENSION'S OCTETS
--- two tests are one, where they come to it
-two_tests : (a b c d x y : ℕ) → (a < b → c < d → x < y) → (x < y → (a < b) × (c < d)) → (ltb a b && ltb c d) ≡ ltb x y
-two_tests a b c d x y on off = go (ltb a b) refl (ltb c d) refl
-  where
-    neither : (t : Bool) → ltb x y ≡ t → (x < y → ⊥) → false ≡ t
-    neither true e clash = absurd (clash (ltb-true x y e))
-    neither false e clash = refl
-
-    go : (t : Bool) → ltb a b ≡ t → (u : Bool) → ltb c d ≡ u → (t && u) ≡ ltb x y
-    go true e true f = sym (lt-ltb x y (on (ltb-true a b e) (ltb-true c d f)))
-    go true e false f = neither (ltb x y) refl (λ h. omega (arith, (off h).1, ltb-false c d f))
-    go false e u f = neither (ltb x y) refl (λ h. omega (arith, (off h).0, ltb-false a b e))
-
--- what stands at q, m octets long, for n octets at p
-module _ (q m p n : ℕ) where
-  pub meets_later : p < q → (ltb 0 m && ltb (q - p) n) ≡ meets q m p n
-  meets_later h = two_tests 0 m (q - p) n (max p q) (min (p + n) (q + m)) (λ a b. omega arith) (λ a. (omega arith, omega arith))
-
-  pub meets_earlier : q ≤ p → (ltb 0 n && ltb (p - q) m) ≡ meets q m p n
-  meets_earlier h = two_tests 0 n (p - q) m (max p q) (min (p + n) (q + m)) (λ a b. omega arith) (λ a. (omega arith, omega arith))
 
 -- A PIECE
 module _ (img : List ℕ) (a : Aim) (w : Walk) (piece : Span) (k : ℕ) (next : Cursor) where

@@ -2,20 +2,19 @@
 use Rattle.std.specs.Prelude.{Result, Ok, Err, if◌then◌else◌}
 use Prim.Native.Nat.{ℕ, suc, ◌+◌, ◌-◌, ◌<◌, ◌≤◌, min}
 use mathlib.Core.Path.{◌≡◌, refl, sym, ◌∙◌, ap}
-use mathlib.Core.Bool.{Bool, true, false, ◌&&◌, and-eq-true_iff}
+use mathlib.Core.Bool.{Bool, true, false, ◌&&◌}
 use mathlib.Core.List.{List}
-use lib.ListN.{length, get_or}
-use lib.Seq.{length-take-le}
-use borrow.Author.Tests.{lt-ltb, le-ltb, ltb-true, lt-leb, le-leb, leb-true}
+use lib.ListN.{get_or}
+use borrow.Author.Tests.{lt-ltb, le-ltb, lt-leb, le-leb}
 use native.Mathlib.Decide.{dec_lt}
 use native.Mathlib.Omega.{arith}
-use Rattle.meaning.specs.Basics.{◌=?◌, ◌<?◌, ◌≤?◌}
+use Rattle.meaning.specs.Basics.{◌<?◌}
 use Rattle.meaning.specs.declared.ElementName.{ElementName}
 use Rattle.meaning.specs.declared.Fields.{Fields}
 use Rattle.meaning.specs.declared.Inner.{Inner}
 use Rattle.meaning.specs.declared.Refusal.{Refusal}
 use Rattle.meaning.specs.Causes.{encloses, arrays_round, in_branch, is_one, subscripts_of, right_count, is_below, is_taken, in_the_way, suits, why_none}
-use Rattle.meaning.specs.Description.{item_count, fields_at, is_element, is_array, is_choice, count, malformed}
+use Rattle.meaning.specs.Description.{item_count, fields_at, is_array, is_choice, count, malformed}
 use Rattle.meaning.specs.Layout.{Numbers, value, branches_in, taken}
 use Rattle.meaning.specs.Numbers.{nothing_refused, not_an_element, branch_not_chosen, subscript_count, subscript_too_large, not_a_number}
 use Rattle.meaning.proofs.Causes.{way_none, way_step}
@@ -119,9 +118,6 @@ module _ (d : List ℕ) (v : Numbers) (q : ElementName) where
     pub few : k ≤ at
     pub leads : left at k ≡ in_the_way d v q.item (subscripts_of q) q.item 0 0
 
-  pub way_starts : {at : ℕ} → at ≡ 0 → OnTheWay at 0
-  way_starts z = let e : q.item - 0 ≡ q.item = omega arith in record { upto = omega arith; few = omega arith; leads = rw (z, e) }
-
   pub way_ends : {at k : ℕ} → OnTheWay at k → q.item ≤ at → nothing_refused ≡ in_the_way d v q.item (subscripts_of q) q.item 0 0
   way_ends {at} {k} h l = let e : q.item - at ≡ 0 = omega (arith, h.upto) in sym (way_none d v q.item (subscripts_of q) at k) ∙ rw e at h.leads
 
@@ -190,18 +186,6 @@ module _ (at i : ℕ) (l : at < i) (c : Inner) where
 -- the item that is read there
 pub item_there : (i : ℕ) {z p : ℕ} → z ≡ 0 → p ≡ min (z + i) 18446744073709551615 → i ≤ 18446744073709551615 → p ≡ i
 item_there i z p l = omega arith
-
--- of four places, as many as are counted
-pub counted_is : (q : ElementName) (n : ℕ) → length q.subscripts ≡ 4 → (q.count ≤? 4 && q.count =? n) ≡ (q.count ≤? 4 && length (subscripts_of q) =? n)
-counted_is q n four = go (q.count ≤? 4) refl
-  where
-    go : (b : Bool) → (q.count ≤? 4) ≡ b → (b && q.count =? n) ≡ (b && length (subscripts_of q) =? n)
-    go true g = let l = leb-true q.count 4 g in rw (length-take-le q.count q.subscripts (omega arith))
-    go false g = refl
-
-module _ (d : List ℕ) (q : ElementName) where
-  pub one_there : {one : Bool} → one ≡ is_one d q → one ≡ true → q.item < item_count d
-  one_there e h = ltb-true q.item (item_count d) ((and-eq-true_iff (q.item <? item_count d) (is_element (fields_at d q.item))).0 (sym e ∙ h)).0
 
 module _ (number : Bool) (d : List ℕ) (v : Numbers) (q : ElementName) {one : Bool} (is_one_lem : one ≡ is_one d q) where
   pub not_one : one ≡ false → not_an_element ≡ why_none number d v q

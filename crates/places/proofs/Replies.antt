@@ -34,7 +34,6 @@ use Rattle.places.specs.declared.survey.TableSpot.{TableSpot}
 use Rattle.places.specs.Found.{FoundTable, FoundElement, FoundRange}
 use Rattle.places.specs.Opening.{spot_found, found_by, place_or, found_place, range_of, range_in}
 use Rattle.places.specs.Measuring.{numbers_in}
-use Rattle.places.specs.Rows.{Few}
 use Rattle.places.specs.Surveying.{table_found, held_in, StandsAs, AnswerAs}
 use Rattle.places.proofs.Reach.{spot_as}
 use Rattle.meaning.proofs.Either.{clash}
@@ -142,13 +141,6 @@ module _ (d img : List ℕ) (q : Asked) (r : Answer) (a : AnswerAs d img q (Ok r
       go (refused y) h = absurd h
 
   -- THE ELEMENT
-  pub standing_few : Few 4 r.element.row.arrays
-  standing_few = go (open_image d img) a
-    where
-      go : (o : Opened) → AnswerAs d img q (Ok r) o → Few 4 r.element.row.arrays
-      go (opened ts es s n) h = h.element.row_as.few
-      go (refused y) h = absurd h
-
   -- by its item's row, or why there is none
   module _ (name : ElementName) (number : Bool) (same : q.item ≡ name.item) where
     element_told : length name.subscripts ≡ 4 → place_or (why_none number d (numbers_in r.numbers) name) (found_by (suits number d name) r.element name)

@@ -413,7 +413,3 @@ module _ (d img : List ℕ) (q : Asked) where
   pub opened_laid : (r : Result Answer Refusal) → check_reply d ≡ passed → length img ≤ 65535 → AnswerAs d img q r (open_laid (lay_out d img)) → AnswerAs d img q r (open_image d img)
   unfolding open_image open_sound
   opened_laid r e l h = rw (e, le-ltb 65535 (length img) l) h
-
-  -- the refusal that laying out comes to
-  pub laid_refused : (x : Refusal) → open_laid (lay_out d img) ≡ refused x → AnswerAs d img q (Err x) (open_laid (lay_out d img))
-  laid_refused x e = rw e

@@ -22,7 +22,7 @@ use Rattle.laying.proofs.Steps.{body_none}
 use Rattle.places.specs.declared.walk.Aim.{Aim}
 use Rattle.places.specs.declared.walk.Walk.{Walk}
 use Rattle.places.specs.Measuring.{node_in}
-use Rattle.places.specs.Walking.{place, WalkEnds, Ends, From, WalkBodyReady, WalkItemReady, WalksItem, WalksBody, Leads, OnItsWay}
+use Rattle.places.specs.Walking.{place, WalkEnds, Ends, From, WalkItemReady, WalksItem, WalksBody, Leads, OnItsWay}
 use Rattle.places.proofs.Measures.{FirstOf, first_of}
 
 -- ONE AFTER ANOTHER
@@ -78,16 +78,6 @@ goes a before held y R κ r (stopped ps (short i p)) h g = absurd h
 module _ (d img : List ℕ) (a : Aim) (w : Walk) (n depth : ℕ) where
   abbrev end : ℕ
   end = w.next.at + n
-
-  -- at the start all is left
-  pub sets_out : WalkBodyReady d img a w n depth → OnItsWay d img a w n depth w
-  sets_out ready =
-      let e : end - w.next.at ≡ n = omega arith in
-      record {
-        rest = rw e ready;
-        ordered = omega arith;
-        leads = λ s κ free before from sound. record { slots = s; known = κ; row = before; from = from; sound = rw e sound; so = λ r h. rw e at h };
-      }
 
   module _ (x : Walk) (way : OnItsWay d img a w n depth x) where
     -- at the end the walk has come to what the body comes to

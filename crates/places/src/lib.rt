@@ -167,6 +167,7 @@ pub fn table_place(description: &[u8], image: &[u8], manufacturer: u32, number: 
 }
 
 // Where an element is: its first octet in the image, and its length.
+#[tactic(auto, unfolding(meaning::specs::Refusals::element_place_reply))]
 pub fn element_place(description: &[u8], image: &[u8], name: ElementName) -> Place
     ensures { result ≡ element_place_reply description.now image.now name }
 {
@@ -174,6 +175,7 @@ pub fn element_place(description: &[u8], image: &[u8], name: ElementName) -> Pla
 }
 
 // Where an element is whose number is asked: of a UINT alone.
+#[tactic(auto, unfolding(meaning::specs::Refusals::integer_place_reply))]
 pub fn integer_place(description: &[u8], image: &[u8], name: ElementName) -> Place
     ensures { result ≡ integer_place_reply description.now image.now name }
 {

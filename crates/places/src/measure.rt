@@ -23,6 +23,7 @@ pub(crate) fn is_array(f: Fields) -> bool
 }
 
 // The value of an item's reference, where slots have these numbers; 0 for an item without one.
+#[tactic(auto, unfolding(meaning::specs::Layout::value, meaning::specs::Layout::bit_range), using(crate::proofs::Numbers::value_few))]
 pub(crate) fn value(numbers: [u32; 64], f: Fields) -> usize
     requires { FieldsRange f × (length numbers ≡ 64) }
     ensures { (result ≡ value (numbers_in numbers) f) × (result < 4294967296) }
@@ -35,6 +36,7 @@ pub(crate) fn value(numbers: [u32; 64], f: Fields) -> usize
 }
 
 // The octets of a UINT, BLOCK or SET.
+#[tactic(auto, unfolding(meaning::specs::Layout::leaf_octets, meaning::specs::Layout::set_octets))]
 fn leaf_octets(f: Fields, value: usize) -> usize
     requires { FieldsRange f × (value < 4294967296) }
     ensures { (result ≡ leaf_octets f value) × (result < 4294967296) }
@@ -50,6 +52,7 @@ fn leaf_octets(f: Fields, value: usize) -> usize
 
 // The branch that a choice takes, whose items come next. IF: the items if true, or those if false, which
 // follow them; it tells so by its fields, and no other item of the description is looked at.
+#[tactic(auto, unfolding(meaning::specs::Layout::branches_in, meaning::specs::Layout::if_branches, meaning::specs::Layout::taken))]
 pub(crate) fn chosen(d: &[u8], f: Fields, next: Cursor, value: usize) -> Inner
     ensures { result ≡ taken (branches_in d.now f next.at) value }
 {
@@ -66,6 +69,7 @@ pub(crate) fn chosen(d: &[u8], f: Fields, next: Cursor, value: usize) -> Inner
 }
 
 // The body that an ARRAY or a choice takes.
+#[tactic(auto, unfolding(crate::specs::Measuring::inner_of))]
 fn inner_of(d: &[u8], f: Fields, next: Cursor, value: usize) -> Inner
     ensures { result ≡ inner_of d.now f next.at value }
 {
@@ -87,6 +91,7 @@ pub struct Span {
 }
 
 // What the element of item `at` takes.
+#[tactic(auto, unfolding(crate::specs::Measuring::leaf_span))]
 pub(crate) fn leaf_span(f: Fields, value: usize, at: usize, wanted: usize) -> Span
     requires { FieldsRange f × (value < 4294967296) }
     ensures { result ≡ leaf_span f value at wanted }

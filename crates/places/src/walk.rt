@@ -135,6 +135,7 @@ fn step(
 
 // The value of an item's reference, as far as the walk has come. Most items have none, and then the
 // numbers of the slots aren't copied.
+#[tactic(auto, unfolding(meaning::specs::Layout::value))]
 fn value_here(w: Walk, f: Fields) -> usize
     requires { FieldsRange f × (length w.numbers ≡ 64) }
     ensures { (result ≡ value (numbers_in w.numbers) f) × (result < 4294967296) }

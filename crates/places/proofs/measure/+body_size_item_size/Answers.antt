@@ -4,7 +4,7 @@ use mathlib.Core.Path.{sym, ◌∙◌}
 use native.Mathlib.Omega.{arith}
 use Rattle.items.proofs.ReadLaws.{range_read}
 use Rattle.places.proofs.Measures.{started, ended, next_ready, less, counted, stepped_on}
-use Rattle.places.proofs.Opened.{opened, entered, leaf_done, level_left, body_ready, array_ready, array_done, choice_done}
+use Rattle.places.proofs.Opened.{opened, entered, leaf_done, level_left, body_ready, array_done, choice_done}
 use Rattle.places.proofs.measure.+body_size_item_size.Goals as goal
 
 pub body_size-loop-numbers-init : goal.body_size-loop-numbers-init
@@ -50,12 +50,6 @@ item_size-body_size-body-requires t c =
     let o = opened c.requires c.read-read.ensures c.value-value.ensures c.past-after.ensures in
     let e = entered o c.nests.ensures c.if-nests.true c.inner_of-taken.ensures c.past.ensures in
     (omega (arith, level_left e), body_ready e)
-
-pub item_size-array_span-requires : goal.item_size-array_span-requires
-item_size-array_span-requires t c =
-    let o = opened c.requires c.read-read.ensures c.value-value.ensures c.past-after.ensures in
-    let e = entered o c.nests.ensures c.if-nests.true c.inner_of-taken.ensures c.past.ensures in
-    array_ready e _ c.body_size-body.ensures
 
 pub item_size-returns-then-is_array : goal.item_size-returns-then-is_array
 item_size-returns-then-is_array t c =

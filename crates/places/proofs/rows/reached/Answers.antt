@@ -22,9 +22,6 @@ returns-then-level-subscript c =
     let s = Zip-more c.loop-level.level-iterator c.next.new.self _ _ c.in-Some.is c.next.ensures.steps in
     left_past c.loop-level.octet _ _ _ _ c.if-level-subscript.true ∙ rw (s.0, s.1) at c.loop-level.invariant.leads
 
-pub overflow_add-octet : goal.overflow_add-octet
-overflow_add-octet c = omega (arith, c.cut.ensures, c.loop-level.invariant.small)
-
 pub loop-level-preserved : goal.loop-level-preserved
 loop-level-preserved c =
     let s = Zip-more c.loop-level.level-iterator c.next.new.self _ _ c.in-Some.is c.next.ensures.steps in

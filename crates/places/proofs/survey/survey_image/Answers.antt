@@ -8,10 +8,6 @@ pub loop-asked-init : goal.loop-asked-init
 loop-asked-init c =
     rw c.alone.ensures (set_out _ _ _ _ _ c.first-start.ensures c.first.ensures c.requires.passes)
 
-pub survey_table-requires : goal.survey_table-requires
-survey_table-requires c =
-    record { ready = c.requires; surveyed = c.loop-asked.invariant; more = omega (arith, c.loop-asked-test.true, c.item.ensures) }
-
 pub returns : goal.returns
 returns c =
     laid_all _ _ _ _ c.loop-asked.invariant (omega (arith, c.loop-asked-test.false, c.item.ensures)) _

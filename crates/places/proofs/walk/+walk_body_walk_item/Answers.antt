@@ -5,14 +5,10 @@ use mathlib.Core.Path.{refl, sym, ◌∙◌}
 use native.Mathlib.Omega.{arith}
 use Rattle.items.proofs.ReadLaws.{range_read}
 use Rattle.places.proofs.Opened.{level_left}
-use Rattle.places.proofs.Through.{sets_out, arrives, item_ready, stops, further, goes_on}
+use Rattle.places.proofs.Through.{arrives, item_ready, stops, further, goes_on}
 use Rattle.places.proofs.Walking.{here, valued, leaf_ready, leaf_walks, array_step, array_walks}
 use Rattle.places.proofs.Walking.{choosing, through_ready, choice_stops, choice_walks}
 use Rattle.places.proofs.walk.+walk_body_walk_item.Goals as goal
-
-pub walk_body-loop-aim-init : goal.walk_body-loop-aim-init
-walk_body-loop-aim-init t c =
-    sets_out _ _ _ _ _ _ c.requires
 
 pub walk_body-walk_item-requires : goal.walk_body-walk_item-requires
 walk_body-walk_item-requires t c =

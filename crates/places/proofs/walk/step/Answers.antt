@@ -14,16 +14,6 @@ pub returns-then-slot-eq0 : goal.returns-then-slot-eq0
 returns-then-slot-eq0 c =
     step_plain _ _ _ _ _ _ c.if-slot-eq0.true _ _ (omega (arith, c.if-image-octet.false, c.octet.ensures, c.in_image-here.ensures, c.requires.inside, c.requires.small)) (c.new-octets.ensures ∙ rw c.octets-far.ensures) (c.first_row-row.ensures ∙ rw (c.onward.ensures, c.octets-far.ensures))
 
-pub noted-requires : goal.noted-requires
-noted-requires c = (
-  omega (arith, c.if-slot-eq0.false),
-  c.requires.slots,
-  record {
-    few = (c.requires.dimension (omega (arith, c.if-slot-eq0.false))).1;
-    inside = omega (arith, c.if-image-octet.false, c.octet.ensures, c.in_image-here.ensures, c.requires.inside, c.requires.small);
-  },
-)
-
 pub returns : goal.returns
 returns c =
     let here : c.in_image-here.result.0 ≡ place c.args.aim c.args.w = omega (arith, c.in_image-here.ensures, c.requires.inside, c.requires.small) in

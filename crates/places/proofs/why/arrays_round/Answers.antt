@@ -1,7 +1,7 @@
 -- `why::arrays_round`: those among the items before the place are counted. Assumes nothing.
 use native.Mathlib.Omega.{arith}
 use Rattle.items.proofs.ReadLaws.{range_read, next_read}
-use Rattle.places.proofs.Reasons.{counted_none, counted_next, counted_all}
+use Rattle.places.proofs.Reasons.{counted_none, counted_next}
 use Rattle.places.proofs.why.arrays_round.Goals as goal
 
 pub loop-at-init : goal.loop-at-init
@@ -10,9 +10,6 @@ loop-at-init c = record { here = c.first-place.ensures; counted = counted_none _
 pub one_round-arrays-requires : goal.one_round-arrays-requires
 one_round-arrays-requires c = (range_read _ _ c.read-read.ensures, c.loop-at-test.true)
 
-pub overflow_add-arrays : goal.overflow_add-arrays
-overflow_add-arrays c = omega (arith, c.one_round-arrays.ensures.1, c.loop-at.invariant.counted.few, c.loop-at-test.true)
-
 pub loop-at-preserved : goal.loop-at-preserved
 loop-at-preserved c =
     let read = rw c.loop-at.invariant.here at c.read-read.ensures in
@@ -20,6 +17,3 @@ loop-at-preserved c =
       here = next_read _ _ (omega (arith, c.requires, c.loop-at-test.true)) read;
       counted = counted_next _ _ c.requires c.loop-at.invariant.counted c.loop-at-test.true read c.one_round-arrays.ensures.1 c.one_round-arrays.ensures.0;
     }
-
-pub returns : goal.returns
-returns c = counted_all _ _ c.loop-at.invariant.counted c.loop-at-test.false

@@ -1,14 +1,8 @@
 -- `why::in_the_way`: what is left from the place on leads to the same as all of it. Assumes nothing.
 use Rattle.std.proofs.Common.{◌≡◌, Err, rules}
 use native.Mathlib.Omega.{arith}
-use Rattle.places.proofs.Reasons.{way_starts, way_past, way_stops, way_ends}
+use Rattle.places.proofs.Reasons.{way_past, way_stops, way_ends}
 use Rattle.places.proofs.why.in_the_way.Goals as goal
-
-pub loop-init : goal.loop-init
-loop-init c = record { here = c.first-place.ensures; way = way_starts _ _ _ c.first-place.ensures }
-
-pub step_in-requires : goal.step_in-requires
-step_in-requires c = (c.loop.invariant.way.few, omega (arith, c.loop.invariant.here, c.loop-test.true), c.requires)
 
 pub returns-in_err-depth : goal.returns-in_err-depth
 returns-in_err-depth c =
