@@ -9,19 +9,13 @@ ghost use Rattle.dates.specs.Days.{day_of};
 use basics::{both, either};
 use meaning::{Date, Refusal, Reply};
 
-// A day's number, 1 January 1990 being 0; or that there is no such date.
-#[derive(Clone, Copy)]
-pub enum Day {
-    NotReal,
-    Number(u32),
-}
-
 // The lengths of months by their numbers, in a year that is no leap year.
 const MONTHS: [u32; 13] = [0, 31, 28, 31, 30, 31, 30, 31, 31, 30, 31, 30, 31];
 
 // And how many days come before each.
 const DAYS_BEFORE: [u32; 13] = [0, 0, 31, 59, 90, 120, 151, 181, 212, 243, 273, 304, 334];
 
+#[tactic(auto, unfolding(meaning::specs::Calendar::leap))]
 fn is_leap(year: u32) -> bool
     ensures { result ≡ leap year }
 {
@@ -44,6 +38,7 @@ fn month_length(year: u32, month: u32) -> u32
     MONTHS[month as usize]
 }
 
+#[tactic(auto, unfolding(meaning::specs::Calendar::real_date))]
 fn is_real(year: u32, month: u32, day: u32) -> bool
     ensures { result ≡ real_date year month day }
 {
@@ -72,17 +67,19 @@ fn month_days(year: u32, month: u32) -> u32
     days
 }
 
-// Worked out at once: it takes as long for every date.
-pub fn day_of(year: u32, month: u32, day: u32) -> Day
+// A day's number, 1 January 1990 being 0; none where there is no such date. It is worked out at once: it
+// takes as long for every date.
+pub fn day_of(year: u32, month: u32, day: u32) -> Option<u32>
     ensures { result ≡ day_of year month day }
 {
     if is_real(year, month, day) {
-        return Day::Number(year_days(year - 1990) + month_days(year, month) + (day - 1));
+        return Some(year_days(year - 1990) + month_days(year, month) + (day - 1));
     }
-    Day::NotReal
+    None
 }
 
 // 0 is Sunday, 6 Saturday. The remainder is taken first, as the number after the last wouldn't fit.
+#[tactic(auto, unfolding(meaning::specs::Calendar::weekday_of))]
 pub fn weekday(day: u32) -> u32
     ensures { result ≡ weekday_of day }
 {
@@ -93,14 +90,14 @@ pub fn weekday(day: u32) -> u32
 pub fn weekday_of(date: Date) -> Reply
     ensures { result ≡ weekday_reply date }
 {
-    let day = day_of(date.year, date.month, date.day);
-    match day {
-        Day::NotReal => Reply::Refused(Refusal::NOT_A_DATE),
-        Day::Number(number) => Reply::Weekday(weekday(number)),
+    match day_of(date.year, date.month, date.day) {
+        None => Reply::Refused(Refusal::NOT_A_DATE),
+        Some(day) => Reply::Weekday(weekday(day)),
     }
 }
 
 // Whether it is a time 00:00 to 23:59.
+#[tactic(auto, unfolding(meaning::specs::Calendar::real_time))]
 pub fn is_time(hour: u32, minute: u32) -> bool
     ensures { result ≡ real_time hour minute }
 {
