@@ -6,6 +6,7 @@ use mathlib.Core.List.{List, ◌∷◌}
 use lib.ListN.{length, take, drop, length-drop}
 use lib.Seq.{length-take-le}
 use native.Mathlib.Omega.{arith}
+use Rattle.std.specs.Prelude.{Option, Some, None}
 use Rattle.meaning.specs.Basics.{◌=?◌, ◌≤?◌, part, number_in}
 use Rattle.meaning.specs.Calendar.{triple_at, triples, entry_if, or_later, latest, real_time, year_of, record_real, record_day, action, counts, switch_minute, switch_entry}
 use Rattle.meaning.specs.declared.Chosen.{Chosen}
@@ -16,7 +17,6 @@ use Rattle.meaning.proofs.Splices.{part_long, part_at, part_part}
 use Rattle.basics.proofs.Bits.{from_bit_0}
 use Rattle.octets.specs.Octets.{number_of}
 use Rattle.octets.proofs.Laws.{number_few}
-use Rattle.dates.specs.declared.Day.{Day}
 use Rattle.dates.specs.Days.{day_of}
 use Rattle.dates.proofs.Laws.{told}
 use Rattle.records.specs.declared.Wanted.{Wanted}
@@ -43,22 +43,22 @@ action_is r = from_bit_0 r.octet 32
 
 -- A DATE
 -- a record's date, by its three fields
-pub date_is : (r : Triple) (y : ℕ) (d : Day) → y ≡ year_of (r.word % 128) → d ≡ day_of y (r.word / 128 % 16) (r.word / 2048 % 32) → d ≡ record_date r
+pub date_is : (r : Triple) (y : ℕ) (d : Option ℕ) → y ≡ year_of (r.word % 128) → d ≡ day_of y (r.word / 128 % 16) (r.word / 2048 % 32) → d ≡ record_date r
 unfolding record_date
 date_is r y d e h = h ∙ rw (e, from_bit_0 r.word 128)
 
 -- what it brings on a day, where its action is one of some: nothing without a real date
-module _ (once : Bool) (low high today : ℕ) (r : Triple) (date : Day) (is : date ≡ record_date r) where
-  pub date_none : date ≡ Day.NotReal → Nothing ≡ date_entry once low high today r
+module _ (once : Bool) (low high today : ℕ) (r : Triple) (date : Option ℕ) (is : date ≡ record_date r) where
+  pub date_none : date ≡ None → Nothing ≡ date_entry once low high today r
   unfolding record_date date_entry record_real
-  date_none e = rw (told _ _ _ Day.NotReal (sym is ∙ e))
+  date_none e = rw (told _ _ _ None (sym is ∙ e))
 
   -- else by its day and its action
-  pub date_some : (n : ℕ) (due a b : Bool) (k : ℕ) (x : Chosen) → date ≡ Day.Number n → due ≡ due_on once n today → a ≡ (due && low ≤? r.octet % 32)
+  pub date_some : (n : ℕ) (due a b : Bool) (k : ℕ) (x : Chosen) → date ≡ Some n → due ≡ due_on once n today → a ≡ (due && low ≤? r.octet % 32)
       → b ≡ (a && r.octet % 32 ≤? high) → k ≡ r.octet % 32 - low → x ≡ entry_if b n k → x ≡ date_entry once low high today r
   unfolding record_date date_entry record_real record_day
   date_some n due a b k x e d-is a-is b-is k-is x_is =
-      let t = told _ _ _ (Day.Number n) (sym is ∙ e) in x_is ∙ rw (b-is, a-is, d-is, k-is, t.0, t.1, action_is r)
+      let t = told _ _ _ (Some n) (sym is ∙ e) in x_is ∙ rw (b-is, a-is, d-is, k-is, t.0, t.1, action_is r)
 
 -- A SWITCH, by its number, its time and its flags
 pub switch_is : (separate : Bool) (q : Quantity) (n m : ℕ) (r : Triple) (time a b c k : Bool) (x : Chosen) → time ≡ real_time (r.word / 2048 % 32) (r.word / 32 % 64)

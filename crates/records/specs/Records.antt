@@ -1,16 +1,15 @@
 -- RECORDS OF TABLE 54: what they bring to whoever asks. Assumes nothing.
-use Rattle.std.specs.Prelude.{ℕ, ◌-◌, ◌*◌, ◌/◌, ◌≤◌, ◌≡◌, Bool, ◌&&◌, List, length, if◌then◌else◌}
+use Rattle.std.specs.Prelude.{ℕ, Option, ◌-◌, ◌*◌, ◌/◌, ◌≤◌, ◌≡◌, Bool, ◌&&◌, List, length, if◌then◌else◌}
 use Rattle.meaning.specs.Basics.{bits, ◌=?◌, ◌≤?◌}
 use Rattle.meaning.specs.Calendar.{triples, entry_if, latest, year_of, record_real, record_day, action, season_entry, special_entry, switch_entry}
 use Rattle.meaning.specs.declared.Chosen.{Chosen}
 use Rattle.meaning.specs.declared.Triple.{Triple}
-use Rattle.dates.specs.declared.Day.{Day}
 use Rattle.dates.specs.Days.{day_of}
 use Rattle.records.specs.declared.Wanted.{Wanted}
 use Rattle.records.specs.declared.Wanted.TheVariants.{Season, Special, Switch}
 
--- a record's date, as a day's number or as no real date
-unfoldable pub record_date : Triple → Day
+-- a record's date, as a day's number, where it is real
+unfoldable pub record_date : Triple → Option ℕ
 record_date r = day_of (year_of (bits 6 0 r.word)) (bits 10 7 r.word) (bits 15 11 r.word)
 
 -- a season holds from its day on, a special schedule on that day alone

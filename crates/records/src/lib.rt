@@ -10,7 +10,6 @@ ghost use Rattle.meaning.specs.Calendar.{triple_at, entry_if, or_later, year_of,
 ghost use Rattle.records.specs.Records.{record_date, due_on, date_entry, brought_to, latest_in};
 
 use basics::{both, either, wide};
-use dates::Day;
 use meaning::{Chosen, Quantity, Triple};
 
 // What is wanted of some records.
@@ -52,16 +51,6 @@ fn entry_if(holds: bool, when: u32, brings: u32) -> Chosen
     Chosen::Nothing
 }
 
-// What is left of a number above another; 0 where it isn't above.
-fn above(x: u32, low: u32) -> u32
-    ensures { result ≡ x - low }
-{
-    if x < low {
-        return 0;
-    }
-    x - low
-}
-
 // WHAT A DATE BRINGS
 // The year of two digits; 100 and over are no years.
 fn year_of(digits: u32) -> u32
@@ -76,7 +65,7 @@ fn year_of(digits: u32) -> u32
     0
 }
 
-fn record_date(triple: Triple) -> Day
+fn record_date(triple: Triple) -> Option<u32>
     ensures { result ≡ record_date triple }
 {
     let year = year_of(triple.word % 128);
@@ -97,17 +86,16 @@ fn is_due(once: bool, when: u32, today: u32) -> bool
 fn date_entry(once: bool, low: u32, high: u32, today: u32, triple: Triple) -> Chosen
     ensures { result ≡ date_entry once low high today triple }
 {
-    let date = record_date(triple);
     let action = triple.octet % 32;
-    match date {
-        Day::NotReal => Chosen::Nothing,
-        Day::Number(when) => entry_if(
+    match record_date(triple) {
+        None => Chosen::Nothing,
+        Some(when) => entry_if(
             both(
                 both(is_due(once, when, today), low <= action),
                 action <= high,
             ),
             when,
-            above(action, low),
+            action.saturating_sub(low),
         ),
     }
 }

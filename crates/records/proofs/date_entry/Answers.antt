@@ -2,11 +2,11 @@
 use Rattle.records.proofs.Laws.{date_none, date_some}
 use Rattle.records.proofs.date_entry.Goals as goal
 
-pub returns-in-NotReal : goal.returns-in-NotReal
-returns-in-NotReal c = date_none _ _ _ _ _ _ c.record_date-date.ensures c.in-NotReal.is
+pub returns-in-None : goal.returns-in-None
+returns-in-None c = date_none _ _ _ _ _ _ c.record_date.ensures c.in-None.is
 
-pub returns-in-Number : goal.returns-in-Number
-returns-in-Number c =
-    date_some _ _ _ _ _ _ c.record_date-date.ensures _ _ _ _ _ _
-    c.in-Number.is c.is_due.ensures
-    c.both.ensures c.both-in-Number.ensures c.above.ensures c.entry_if.ensures
+pub returns-in-Some : goal.returns-in-Some
+returns-in-Some c =
+    date_some _ _ _ _ _ _ c.record_date.ensures _ _ _ _ _ _
+    c.in-Some.is c.is_due.ensures
+    c.both.ensures c.both-in-Some.ensures c.saturating_sub.ensures c.entry_if.ensures
