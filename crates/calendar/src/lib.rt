@@ -14,7 +14,6 @@ ghost use Rattle.records.specs.Records.{brought_to};
 ghost use Rattle.calendar.specs.Sections.{Small, sections_of, Sized, Stands, stood, HasCell, HasRow, row_of};
 
 use basics::{either, wide};
-use dates::Day;
 use meaning::{Chosen, Controls, Date, Moment, Place, Quantity, Refusal, Reply, Verdict};
 use offsets::ImageOffset;
 use records::Wanted;
@@ -301,15 +300,14 @@ fn tier_in(
     if !dates::is_time(moment.hour, moment.minute) {
         return Reply::Refused(Refusal::NOT_A_DATE);
     }
-    let day = dates::day_of(moment.year, moment.month, moment.day);
-    match day {
-        Day::NotReal => Reply::Refused(Refusal::NOT_A_DATE),
-        Day::Number(number) => {
+    match dates::day_of(moment.year, moment.month, moment.day) {
+        None => Reply::Refused(Refusal::NOT_A_DATE),
+        Some(day) => {
             if controls.armed {
                 return Reply::Refused(Refusal::SEASON_CHANGE_ARMED);
             }
             let minute = 60 * moment.hour + moment.minute;
-            tier_day(order, controls, table, number, minute, quantity)
+            tier_day(order, controls, table, day, minute, quantity)
         }
     }
 }
@@ -332,11 +330,10 @@ fn seasoned_in(order: u32, controls: Controls, table: &[u8], date: Date) -> Repl
     requires { Sized controls table.now }
     ensures { result ≡ seasoned_in date (found order controls table.now) }
 {
-    let day = dates::day_of(date.year, date.month, date.day);
-    match day {
-        Day::NotReal => Reply::Refused(Refusal::NOT_A_DATE),
-        Day::Number(number) => {
-            if season_stands(order, controls, table, number) {
+    match dates::day_of(date.year, date.month, date.day) {
+        None => Reply::Refused(Refusal::NOT_A_DATE),
+        Some(day) => {
+            if season_stands(order, controls, table, day) {
                 return Reply::Yes;
             }
             Reply::No

@@ -3,7 +3,7 @@ use mathlib.Core.Bool.{and-false}
 use mathlib.Core.Path.{sym, ◌∙◌}
 use native.Mathlib.Omega.{arith}
 use Rattle.meaning.specs.Calendar.{tier_in}
-use Rattle.dates.specs.declared.Day.{Day}
+use Rattle.std.specs.Prelude.{Some, None}
 use Rattle.dates.proofs.Laws.{told}
 use Rattle.calendar.proofs.Laws.{few_minutes}
 use Rattle.calendar.proofs.tier_in.Goals as goal
@@ -15,7 +15,7 @@ returns-then-not-is_time c = rw (← c.is_time.ensures, c.if-not-is_time.true, a
 pub returns-then-controls : goal.returns-then-controls
 unfolding tier_in
 returns-then-controls c =
-    let real = told _ _ _ (Day.Number _) (sym c.day_of-day.ensures ∙ c.in-Number.is) in
+    let real = told _ _ _ (Some _) (sym c.day_of.ensures ∙ c.in-Some.is) in
     let time = c.if-not-is_time.false in
     rw (real.0, ← c.is_time.ensures, time, c.if-controls.true)
 
@@ -31,14 +31,14 @@ overflow_add-minute c =
     omega
     (arith, few_minutes c.args.moment _ c.is_time.ensures (c.if-not-is_time.false))
 
-pub returns-in-NotReal : goal.returns-in-NotReal
+pub returns-in-None : goal.returns-in-None
 unfolding tier_in
-returns-in-NotReal c = rw (told _ _ _ Day.NotReal (sym c.day_of-day.ensures ∙ c.in-NotReal.is))
+returns-in-None c = rw (told _ _ _ None (sym c.day_of.ensures ∙ c.in-None.is))
 
 pub returns-else-controls : goal.returns-else-controls
 unfolding tier_in
 returns-else-controls c =
-    let day = sym c.day_of-day.ensures ∙ c.in-Number.is in
-    let real = told _ _ _ (Day.Number _) day in
+    let day = sym c.day_of.ensures ∙ c.in-Some.is in
+    let real = told _ _ _ (Some _) day in
     let time = c.if-not-is_time.false in
     c.tier_day.ensures ∙ rw (real.0, ← c.is_time.ensures, time, c.if-controls.false, real.1)
