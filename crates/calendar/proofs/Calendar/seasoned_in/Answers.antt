@@ -1,9 +1,9 @@
--- `calendar::seasoned_in`: no date, a season record that stands, none. Assumes nothing.
+-- `Calendar::seasoned_in`: no date, a season record that stands, none. Assumes nothing.
 use mathlib.Core.Path.{sym, ◌∙◌}
 use Rattle.meaning.specs.Calendar.{seasoned_in}
 use Rattle.std.specs.Prelude.{Some, None}
 use Rattle.dates.proofs.Laws.{told}
-use Rattle.calendar.proofs.seasoned_in.Goals as goal
+use Rattle.calendar.proofs.Calendar.seasoned_in.Goals as goal
 
 pub returns-then-season_stands : goal.returns-then-season_stands
 unfolding seasoned_in
