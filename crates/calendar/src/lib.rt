@@ -6,10 +6,11 @@
 // two-octet fields in the image's DATA_ORDER. Nothing is kept: each call lays the image out anew.
 #![tactic(auto)]
 
-ghost use Rattle.std.specs.Prelude.{◌≡◌, ◌<◌, length, IfOk, IfErr};
-ghost use Rattle.meaning.specs.Calendar.{controls_of, dates_at, day_columns, row_width, sized, calendar, day_column, column_on, missing_special, cell_at, tier_by_schedule, tier_on, tier_day, tier_in, found, missing, tier_reply, latest, dates_of, in_season, season_stands, seasoned_in, seasoned_reply, matrix_of, matrix_reply, matrix_verdict, cells_after};
+ghost use Rattle.std.specs.Prelude.{◌≡◌, ◌+◌, ◌*◌, ◌<◌, ◌≤◌, length, get_or, IfOk, IfErr};
+ghost use Rattle.meaning.specs.Basics.{part, build};
+ghost use Rattle.meaning.specs.Calendar.{controls_of, dates_at, matrix_at, day_columns, row_width, sized, calendar, day_column, column_on, missing_special, cell_at, tier_by_schedule, tier_on, tier_day, tier_in, found, missing, tier_reply, latest, dates_of, in_season, season_stands, seasoned_in, seasoned_reply, matrix_of, matrix_reply, matrix_verdict, cells_after};
 ghost use Rattle.records.specs.Records.{brought_to};
-ghost use Rattle.calendar.specs.Sections.{Small, sections_of, Sized, HasRow, row_of};
+ghost use Rattle.calendar.specs.Sections.{Small, sections_of, Sized};
 
 use basics::{either, wide};
 use meaning::{Chosen, Controls, Date, Moment, Place, Quantity, Refusal, Reply, Verdict};
@@ -315,33 +316,36 @@ impl<'a> Calendar<'a> {
     }
 
     // THE MATRIX
+    // The octets of a row.
+    #[tactic(auto, using(crate::proofs::Cells::row_inside), unfolding(crate::specs::Sections::sections_of, meaning::specs::Basics::part))]
+    fn row(&self, row: usize) -> &[u8]
+        requires { row < self.now.controls.seasons }
+        ensures { result.now ≡ part self.now.table.now (matrix_at self.now.controls + row * row_width self.now.controls) (row_width self.now.controls) }
+    {
+        let from = self.sections.matrix + row * self.sections.width;
+        let end = from + self.sections.width;
+        &self.table[from..end]
+    }
+
     fn rows(&self) -> [[u8; 22]; 15]
         ensures { result ≡ matrix_of self.now.controls self.now.table.now }
     {
-        let seasons = self.controls.seasons;
-        let width = self.sections.width;
         let mut rows = [[0u8; 22]; 15];
-        let mut row = 0;
-        let mut at = self.sections.matrix;
-        while row < seasons {
-            rows[row] = row_at(self.table, at, width);
-            at += width;
-            row += 1;
+        for row in 0..self.controls.seasons {
+            rows[row] = cells_of(self.row(row));
         }
         rows
     }
 }
 
-// A row: the first cells are octets of the table, the others 0.
-fn row_at(table: &[u8], at: usize, width: usize) -> [u8; 22]
-    requires { HasRow table.now at width }
-    ensures { result ≡ row_of table.now at width }
+// Octets as a row of cells; the cells behind them are 0.
+fn cells_of(octets: &[u8]) -> [u8; 22]
+    requires { length octets.now ≤ 22 }
+    ensures { result ≡ build 22 (λ column. get_or octets.now column 0) }
 {
     let mut row = [0u8; 22];
-    let mut column = 0;
-    while column < width {
-        row[column] = table[at + column];
-        column += 1;
+    for (column, octet) in octets.iter().enumerate() {
+        row[column] = *octet;
     }
     row
 }
