@@ -2,15 +2,21 @@
 use Prim.Native.Nat.{ℕ, zero, suc, ◌+◌, ◌-◌, ◌*◌, ◌/◌, ◌%◌, ◌^◌, ◌<◌, ◌≤◌}
 use mathlib.Core.Path.{◌≡◌, refl, sym, ◌∙◌, ap, ap₂, subst}
 use mathlib.Core.Bool.{Bool, ◌&&◌}
-use mathlib.Core.List.{List, ◌∷◌}
-use lib.ListN.{length, take, drop, length-drop}
+use mathlib.Core.Logic.{⊎_elim}
+use mathlib.Core.List.{List, [], ◌∷◌, ◌++◌}
+use lib.ListN.{length, get_or, take, drop, length-drop}
 use lib.Seq.{length-take-le}
 use native.Mathlib.Omega.{arith}
-use Rattle.std.specs.Prelude.{Option, Some, None}
+use Rattle.std.specs.Prelude.{Option, Some, None, map}
+use Rattle.std.specs.Simd.{first_chunks}
+use borrow.Author.Tests.{le-leb, lt-leb}
+use Rattle.std.proofs.lemmas.List.{map_more, drop-drop}
+use Rattle.almanac.proofs.Tests.{lt_or_ge}
+use Rattle.almanac.proofs.Latest.{none_later}
 use Rattle.meaning.specs.Basics.{◌=?◌, ◌≤?◌, part, number_in}
 use Rattle.meaning.specs.Calendar.{triple_at, triples, entry_if, or_later, latest, real_time, year_of, record_real, record_day, action, counts, switch_minute, switch_entry}
 use Rattle.meaning.specs.declared.Chosen.{Chosen}
-use Rattle.meaning.specs.declared.Chosen.TheVariants.{Nothing}
+use Rattle.meaning.specs.declared.Chosen.TheVariants.{Nothing, Entry}
 use Rattle.meaning.specs.declared.Quantity.{Quantity}
 use Rattle.meaning.specs.declared.Triple.{Triple}
 use Rattle.meaning.proofs.Splices.{part_long, part_at, part_part}
@@ -20,7 +26,7 @@ use Rattle.octets.proofs.Laws.{number_few}
 use Rattle.dates.specs.Days.{day_of}
 use Rattle.dates.proofs.Laws.{told}
 use Rattle.records.specs.declared.Wanted.{Wanted}
-use Rattle.records.specs.Records.{record_date, due_on, date_entry, brought_to, latest_in, Searching}
+use Rattle.records.specs.Records.{record_date, due_on, date_entry, brought_to, latest_in}
 
 -- A RECORD
 -- the two octets of its number, cut out
@@ -67,30 +73,6 @@ pub switch_is : (separate : Bool) (q : Quantity) (n m : ℕ) (r : Triple) (time 
 unfolding switch_entry switch_minute
 switch_is separate q n m r time a b c k x t-is a-is b-is k-is c-is x_is = x_is ∙ rw (c-is, b-is, a-is, k-is, t-is, from_bit_0 r.word 8)
 
--- THE LATEST, from the last record back
-module _ (o : ℕ) (xs : List ℕ) (w : Wanted) where
-  -- before the last
-  pub search_none : (left : ℕ) → left ≡ length xs / 3 → Searching o xs w left Nothing
-  unfolding triples latest
-  search_none left e = let z : length xs / 3 - left ≡ 0 = omega arith in record { within = omega arith; is = rw z }
-
-  -- one record more
-  pub search_next : (left : ℕ) (chosen brought later : Chosen) (r : Triple) → Searching o xs w left chosen → 0 < left → r ≡ triple_at o xs (3 * (left - 1))
-      → brought ≡ brought_to w r → later ≡ or_later brought chosen → Searching o xs w (left - 1) later
-  unfolding triples latest
-  search_next left chosen brought later r s h e b l =
-      let z : length xs / 3 - (left - 1) ≡ suc (length xs / 3 - left) = omega (arith, s.within) in
-      let n : 3 * (left - 1) + 3 ≡ 3 * left = omega arith in
-      record { within = omega (arith, s.within); is = l ∙ ap₂ or_later (b ∙ ap (brought_to w) e) s.is ∙ rw (z, n) }
-
-  -- all of them
-  pub search_all : (left : ℕ) (chosen : Chosen) → Searching o xs w left chosen → left ≤ 0 → chosen ≡ latest_in o xs w
-  unfolding latest_in
-  search_all left chosen s h =
-      let z : left ≡ 0 = omega arith in
-      let n : length xs / 3 - 0 ≡ length xs / 3 = omega arith in
-      s.is ∙ rw (z, n)
-
 -- RECORDS OF A TABLE, cut out of it
 module _ (o : ℕ) (t : List ℕ) (at m : ℕ) (inside : at + m ≤ length t) where
   triple_part : (k : ℕ) → k + 3 ≤ m → triple_at o (part t at m) k ≡ triple_at o t (at + k)
@@ -103,6 +85,47 @@ module _ (o : ℕ) (t : List ℕ) (at m : ℕ) (inside : at + m ≤ length t) wh
   triples_part k (suc n) h =
       let z : at + k + 3 ≡ at + (k + 3) = omega arith in
       ap₂ (λ (r : Triple) (rs : List Triple). r ∷ rs) (triple_part k (omega arith)) (triples_part (k + 3) n (omega arith) ∙ ap (λ (p : ℕ). triples o t p n) (sym z))
+
+-- THE LATEST, from the first record on
+or_later_assoc : (a b c : Chosen) → or_later (or_later a b) c ≡ or_later a (or_later b c)
+unfolding or_later
+or_later_assoc Nothing b c = refl
+or_later_assoc (Entry w x) Nothing c = refl
+or_later_assoc (Entry w x) (Entry v y) Nothing = none_later _
+or_later_assoc (Entry w x) (Entry v y) (Entry u z) =
+    ⊎_elim
+    (λ p. ⊎_elim (λ q. rw (lt-leb w v p, lt-leb v u q, lt-leb w v p, lt-leb w u (omega arith))) (λ q. rw (lt-leb w v p, le-leb v u q)) (lt_or_ge u v))
+    (λ p. ⊎_elim (λ q. rw (le-leb w v p, lt-leb v u q, le-leb w v p)) (λ q. rw (le-leb w v p, le-leb v u q, le-leb w u (omega arith))) (lt_or_ge u v))
+    (lt_or_ge v w)
+
+latest_more : (f : Triple → Chosen) (rs : List Triple) (r : Triple) → latest f (rs ++ r ∷ []) ≡ or_later (latest f rs) (f r)
+unfolding latest or_later
+latest_more f [] r = none_later (f r)
+latest_more f (s ∷ rs) r = rw (latest_more f rs r) (sym (or_later_assoc (f s) (latest f rs) (f r)))
+
+-- of whole records, the latest of the first so many
+module _ (o : ℕ) (w : Wanted) where
+  abbrev pub latest_of : List (List ℕ) → Chosen
+  latest_of whole = latest (brought_to w) (map (λ r. triple_at o r 0) whole)
+
+  -- one record more
+  pub latest_next : (whole : List (List ℕ)) (k : ℕ) → k < length whole
+      → or_later (latest_of (take k whole)) (brought_to w (triple_at o (get_or whole k []) 0)) ≡ latest_of (take (k + 1) whole)
+  latest_next whole k h = rw (map_more _ whole k [] h) (sym (latest_more (brought_to w) _ _))
+
+  -- whole records are those that a table is cut into
+  records_of : (t : List ℕ) (at n : ℕ) → at + 3 * n ≤ length t → map (λ r. triple_at o r 0) (first_chunks 3 n (drop at t)) ≡ triples o t at n
+  unfolding triples part
+  records_of t at zero h = refl
+  records_of t at (suc n) h =
+      let z : at + 0 ≡ at = omega arith in
+      ap₂ (λ (r : Triple) (rs : List Triple). r ∷ rs) (triple_part o t at 3 (omega arith) 0 (omega arith) ∙ ap (triple_at o t) z)
+      (rw drop-drop (records_of t (at + 3) n (omega arith)))
+
+  -- all of them
+  pub latest_whole : (xs : List ℕ) → latest_of (first_chunks 3 (length xs / 3) xs) ≡ latest_in o xs w
+  unfolding latest_in
+  latest_whole xs = ap (latest (brought_to w)) (records_of xs 0 (length xs / 3) (omega arith))
 
 pub latest_part : (o : ℕ) (t : List ℕ) (at n : ℕ) (w : Wanted) → at + 3 * n ≤ length t → latest_in o (part t at (3 * n)) w ≡ latest (brought_to w) (triples o t at n)
 unfolding latest_in

@@ -1,5 +1,5 @@
 -- RECORDS OF TABLE 54: what they bring to whoever asks. Assumes nothing.
-use Rattle.std.specs.Prelude.{ℕ, Option, ◌-◌, ◌*◌, ◌/◌, ◌≤◌, ◌≡◌, Bool, ◌&&◌, List, length, if◌then◌else◌}
+use Rattle.std.specs.Prelude.{ℕ, Option, ◌-◌, ◌/◌, Bool, ◌&&◌, List, length, if◌then◌else◌}
 use Rattle.meaning.specs.Basics.{bits, ◌=?◌, ◌≤?◌}
 use Rattle.meaning.specs.Calendar.{triples, entry_if, latest, year_of, record_real, record_day, action, season_entry, special_entry, switch_entry}
 use Rattle.meaning.specs.declared.Chosen.{Chosen}
@@ -29,8 +29,3 @@ brought_to (Switch separate q n m) r = switch_entry separate q n m r
 -- the latest of what whole records of three octets bring
 unfoldable pub latest_in : (order : ℕ) → (records : List ℕ) → Wanted → Chosen
 latest_in o xs w = latest (brought_to w) (triples o xs 0 (length xs / 3))
-
--- of the last records, all but the first so many, the latest is chosen
-pub record Searching (o : ℕ) (xs : List ℕ) (w : Wanted) (left : ℕ) (chosen : Chosen) : Type 0 where
-  pub within : left ≤ length xs / 3
-  pub is : chosen ≡ latest (brought_to w) (triples o xs (3 * left) (length xs / 3 - left))

@@ -5,7 +5,7 @@
 // made into a reply by functions without a branch, so that each reply is one equation.
 #![tactic(auto)]
 
-ghost use Rattle.std.specs.Prelude.{◌≡◌, ◌+◌, ◌-◌, ◌≤◌, length};
+ghost use Rattle.std.specs.Prelude.{◌≡◌};
 ghost use Rattle.meaning.specs.Calendar.{triple_at, entry_if, or_later, year_of, flagged_for, counts, switch_entry};
 ghost use Rattle.records.specs.Records.{record_date, due_on, date_entry, brought_to, latest_in};
 
@@ -32,14 +32,13 @@ pub enum Wanted {
 }
 
 // A RECORD
-fn triple_at(order: u32, records: &[u8], at: usize) -> Triple
-    requires { at + 3 ≤ length records.now }
-    ensures { result ≡ triple_at order records.now at }
+fn triple_of(order: u32, raw: &[u8; 3]) -> Triple
+    ensures { result ≡ triple_at order raw.now 0 }
 {
-    let last = at + 2;
-    let word = octets::number_in(&records[at..last], order) as u32;
-    let octet = wide(records[last]);
-    Triple { word, octet }
+    Triple {
+        word: octets::number_in(&raw[..2], order) as u32,
+        octet: wide(raw[2]),
+    }
 }
 
 fn entry_if(holds: bool, when: u32, brings: u32) -> Chosen
@@ -178,16 +177,14 @@ fn or_later(earlier: Chosen, later: Chosen) -> Chosen
     }
 }
 
-// The latest of what some records bring, from the last record back to the first.
+// The latest of what some records bring.
 pub fn latest(order: u32, records: &[u8], wanted: Wanted) -> Chosen
     ensures { result ≡ latest_in order records.now wanted }
 {
-    let mut left = records.len() / 3;
+    let (whole, _) = records.as_chunks::<3>();
     let mut chosen = Chosen::Nothing;
-    while 0 < left {
-        left -= 1;
-        let triple = triple_at(order, records, 3 * left);
-        chosen = or_later(brought_to(wanted, triple), chosen);
+    for record in whole {
+        chosen = or_later(chosen, brought_to(wanted, triple_of(order, record)));
     }
     chosen
 }
