@@ -1,20 +1,20 @@
 -- What records bring, case by case. Assumes nothing.
 use Prim.Native.Nat.{ℕ, zero, suc, ◌+◌, ◌-◌, ◌*◌, ◌/◌, ◌%◌, ◌^◌, ◌<◌, ◌≤◌}
 use mathlib.Core.Path.{◌≡◌, refl, sym, ◌∙◌, ap, ap₂, subst}
-use mathlib.Core.Bool.{Bool, ◌&&◌}
+use mathlib.Core.Bool.{Bool, true, false, ◌&&◌, and-true, and-false}
 use mathlib.Core.Logic.{⊎_elim}
 use mathlib.Core.List.{List, [], ◌∷◌, ◌++◌}
 use lib.ListN.{length, get_or, take, drop, length-drop}
 use lib.Seq.{length-take-le}
 use native.Mathlib.Omega.{arith}
-use Rattle.std.specs.Prelude.{Option, Some, None, map}
+use Rattle.std.specs.Prelude.{Option, Some, None, map, if◌then◌else◌}
 use Rattle.std.specs.Simd.{first_chunks}
 use borrow.Author.Tests.{le-leb, lt-leb}
 use Rattle.std.proofs.lemmas.List.{map_more, drop-drop}
 use Rattle.almanac.proofs.Tests.{lt_or_ge}
 use Rattle.almanac.proofs.Latest.{none_later}
 use Rattle.meaning.specs.Basics.{◌=?◌, ◌≤?◌, part, number_in}
-use Rattle.meaning.specs.Calendar.{triple_at, triples, entry_if, or_later, latest, real_time, year_of, record_real, record_day, action, counts, switch_minute, switch_entry}
+use Rattle.meaning.specs.Calendar.{triple_at, triples, entry_if, or_later, latest, real_time, year_of, record_real, record_day, action, selects_season, season_entry, special_entry, counts, switch_minute, switch_entry}
 use Rattle.meaning.specs.declared.Chosen.{Chosen}
 use Rattle.meaning.specs.declared.Chosen.TheVariants.{Nothing, Entry}
 use Rattle.meaning.specs.declared.Quantity.{Quantity}
@@ -24,9 +24,8 @@ use Rattle.basics.proofs.Bits.{from_bit_0}
 use Rattle.octets.specs.Octets.{number_of}
 use Rattle.octets.proofs.Laws.{number_few}
 use Rattle.dates.specs.Days.{day_of}
-use Rattle.dates.proofs.Laws.{told}
 use Rattle.records.specs.declared.Wanted.{Wanted}
-use Rattle.records.specs.Records.{record_date, due_on, date_entry, brought_to, latest_in}
+use Rattle.records.specs.Records.{record_date, selected, brought_to, latest_in}
 
 -- A RECORD
 -- the two octets of its number, cut out
@@ -53,18 +52,25 @@ pub date_is : (r : Triple) (y : ℕ) (d : Option ℕ) → y ≡ year_of (r.word 
 unfolding record_date
 date_is r y d e h = h ∙ rw (e, from_bit_0 r.word 128)
 
--- what it brings on a day, where its action is one of some: nothing without a real date
-module _ (once : Bool) (low high today : ℕ) (r : Triple) (date : Option ℕ) (is : date ≡ record_date r) where
-  pub date_none : date ≡ None → Nothing ≡ date_entry once low high today r
-  unfolding record_date date_entry record_real
-  date_none e = rw (told _ _ _ None (sym is ∙ e))
+-- what is brought by a date, where it is due, and by what its action selects
+abbrev pub dated : (due : ℕ → Bool) → (date selected : Option ℕ) → Chosen
+dated due (Some w) (Some x) = if due w then Entry w x else Nothing
+dated due (Some w) None = Nothing
+dated due None x = Nothing
 
-  -- else by its day and its action
-  pub date_some : (n : ℕ) (due a b : Bool) (k : ℕ) (x : Chosen) → date ≡ Some n → due ≡ due_on once n today → a ≡ (due && low ≤? r.octet % 32)
-      → b ≡ (a && r.octet % 32 ≤? high) → k ≡ r.octet % 32 - low → x ≡ entry_if b n k → x ≡ date_entry once low high today r
-  unfolding record_date date_entry record_real record_day
-  date_some n due a b k x e d-is a-is b-is k-is x_is =
-      let t = told _ _ _ (Some n) (sym is ∙ e) in x_is ∙ rw (b-is, a-is, d-is, k-is, t.0, t.1, action_is r)
+dated_is : (due : ℕ → Bool) (w x : ℕ) (real a b : Bool) → entry_if (real && due w && a && b) w x ≡ dated due (if real then Some w else None) (if a && b then Some x else None)
+dated_is due w x false a b = refl
+dated_is due w x true false b = rw and-false
+dated_is due w x true true false = rw and-false
+dated_is due w x true true true = rw (and-true, and-true)
+
+pub season_is : (today : ℕ) (r : Triple) → season_entry today r ≡ dated (λ w. w ≤? today) (record_date r) (selected 3 18 (r.octet % 32))
+unfolding season_entry selects_season record_date record_real record_day selected day_of
+season_is today r = rw action_is (dated_is (λ w. w ≤? today) _ _ _ _ _)
+
+pub special_is : (today : ℕ) (r : Triple) → special_entry today r ≡ dated (λ w. w =? today) (record_date r) (selected 19 30 (r.octet % 32))
+unfolding special_entry record_date record_real record_day selected day_of
+special_is today r = rw action_is (dated_is (λ w. w =? today) _ _ _ _ _)
 
 -- A SWITCH, by its number, its time and its flags
 pub switch_is : (separate : Bool) (q : Quantity) (n m : ℕ) (r : Triple) (time a b c k : Bool) (x : Chosen) → time ≡ real_time (r.word / 2048 % 32) (r.word / 32 % 64)

@@ -1,7 +1,7 @@
 -- RECORDS OF TABLE 54: what they bring to whoever asks. Assumes nothing.
-use Rattle.std.specs.Prelude.{ℕ, Option, ◌-◌, ◌/◌, Bool, ◌&&◌, List, length, if◌then◌else◌}
-use Rattle.meaning.specs.Basics.{bits, ◌=?◌, ◌≤?◌}
-use Rattle.meaning.specs.Calendar.{triples, entry_if, latest, year_of, record_real, record_day, action, season_entry, special_entry, switch_entry}
+use Rattle.std.specs.Prelude.{ℕ, Option, Some, None, ◌-◌, ◌/◌, ◌&&◌, List, length, if◌then◌else◌}
+use Rattle.meaning.specs.Basics.{bits, ◌≤?◌}
+use Rattle.meaning.specs.Calendar.{triples, latest, year_of, season_entry, special_entry, switch_entry}
 use Rattle.meaning.specs.declared.Chosen.{Chosen}
 use Rattle.meaning.specs.declared.Triple.{Triple}
 use Rattle.dates.specs.Days.{day_of}
@@ -12,13 +12,9 @@ use Rattle.records.specs.declared.Wanted.TheVariants.{Season, Special, Switch}
 unfoldable pub record_date : Triple → Option ℕ
 record_date r = day_of (year_of (bits 6 0 r.word)) (bits 10 7 r.word) (bits 15 11 r.word)
 
--- a season holds from its day on, a special schedule on that day alone
-unfoldable pub due_on : (once : Bool) → (when today : ℕ) → Bool
-due_on once w n = if once then w =? n else w ≤? n
-
--- what a date brings on a day, where its action is one of some: season_entry and special_entry are so
-unfoldable pub date_entry : (once : Bool) → (low high today : ℕ) → Triple → Chosen
-date_entry once l h n r = entry_if (record_real r && due_on once (record_day r) n && l ≤? action r && action r ≤? h) (record_day r) (action r - l)
+-- what an action selects, where it is one of some: the first of them selects 0
+unfoldable pub selected : (first last action : ℕ) → Option ℕ
+selected f l a = if f ≤? a && a ≤? l then Some (a - f) else None
 
 -- what a record brings to whoever asks
 unfoldable pub brought_to : Wanted → Triple → Chosen

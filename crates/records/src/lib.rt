@@ -6,8 +6,8 @@
 #![tactic(auto)]
 
 ghost use Rattle.std.specs.Prelude.{◌≡◌};
-ghost use Rattle.meaning.specs.Calendar.{triple_at, entry_if, or_later, year_of, flagged_for, counts, switch_entry};
-ghost use Rattle.records.specs.Records.{record_date, due_on, date_entry, brought_to, latest_in};
+ghost use Rattle.meaning.specs.Calendar.{triple_at, entry_if, or_later, year_of, flagged_for, counts, season_entry, special_entry, switch_entry};
+ghost use Rattle.records.specs.Records.{record_date, selected, brought_to, latest_in};
 
 use basics::{both, either, wide};
 use meaning::{Chosen, Quantity, Triple};
@@ -71,31 +71,38 @@ fn record_date(triple: Triple) -> Option<u32>
     dates::day_of(year, triple.word / 128 % 16, triple.word / 2048 % 32)
 }
 
-// A season holds from its day on, a special schedule on that day alone: `once`.
-fn is_due(once: bool, when: u32, today: u32) -> bool
-    ensures { result ≡ due_on once when today }
+// What an action selects, where it is one of `first` to `last`: the first selects 0.
+#[tactic(auto, unfolding(crate::specs::Records::selected))]
+fn selected(first: u32, last: u32, action: u32) -> Option<u32>
+    ensures { result ≡ selected first last action }
 {
-    if once {
-        return when == today;
+    if both(first <= action, action <= last) {
+        return Some(action - first);
     }
-    when <= today
+    None
 }
 
-// What a date brings on a day, where its action is one of `low` to `high`.
-fn date_entry(once: bool, low: u32, high: u32, today: u32, triple: Triple) -> Chosen
-    ensures { result ≡ date_entry once low high today triple }
+// A season holds from its day on, and actions 3 to 18 select it.
+#[tactic(auto, using(crate::proofs::Laws::season_is))]
+fn season_entry(today: u32, triple: Triple) -> Chosen
+    ensures { result ≡ season_entry today triple }
 {
-    let action = triple.octet % 32;
-    match record_date(triple) {
-        None => Chosen::Nothing,
-        Some(when) => entry_if(
-            both(
-                both(is_due(once, when, today), low <= action),
-                action <= high,
-            ),
-            when,
-            action.saturating_sub(low),
-        ),
+    let season = selected(3, 18, triple.octet % 32);
+    match (record_date(triple), season) {
+        (Some(when), Some(brings)) if when <= today => Chosen::Entry { when, brings },
+        _ => Chosen::Nothing,
+    }
+}
+
+// A special schedule holds on its day alone, and actions 19 to 30 select it.
+#[tactic(auto, using(crate::proofs::Laws::special_is))]
+fn special_entry(today: u32, triple: Triple) -> Chosen
+    ensures { result ≡ special_entry today triple }
+{
+    let special = selected(19, 30, triple.octet % 32);
+    match (record_date(triple), special) {
+        (Some(when), Some(brings)) if when == today => Chosen::Entry { when, brings },
+        _ => Chosen::Nothing,
     }
 }
 
@@ -138,12 +145,13 @@ fn switch_entry(
 }
 
 // THE LATEST
+#[tactic(auto, unfolding(crate::specs::Records::brought_to))]
 fn brought_to(wanted: Wanted, triple: Triple) -> Chosen
     ensures { result ≡ brought_to wanted triple }
 {
     match wanted {
-        Wanted::Season { today } => date_entry(false, 3, 18, today, triple),
-        Wanted::Special { today } => date_entry(true, 19, 30, today, triple),
+        Wanted::Season { today } => season_entry(today, triple),
+        Wanted::Special { today } => special_entry(today, triple),
         Wanted::Switch {
             separate,
             quantity,
