@@ -14,10 +14,9 @@ use Rattle.std.proofs.lemmas.List.{map_more, drop-drop}
 use Rattle.almanac.proofs.Tests.{lt_or_ge}
 use Rattle.almanac.proofs.Latest.{none_later}
 use Rattle.meaning.specs.Basics.{◌=?◌, ◌≤?◌, part, number_in}
-use Rattle.meaning.specs.Calendar.{triple_at, triples, entry_if, or_later, latest, real_time, year_of, record_real, record_day, action, selects_season, season_entry, special_entry, counts, switch_minute, switch_entry}
+use Rattle.meaning.specs.Calendar.{triple_at, triples, entry_if, or_later, latest, record_real, record_day, action, selects_season, season_entry, special_entry}
 use Rattle.meaning.specs.declared.Chosen.{Chosen}
 use Rattle.meaning.specs.declared.Chosen.TheVariants.{Nothing, Entry}
-use Rattle.meaning.specs.declared.Quantity.{Quantity}
 use Rattle.meaning.specs.declared.Triple.{Triple}
 use Rattle.meaning.proofs.Splices.{part_long, part_at, part_part}
 use Rattle.basics.proofs.Bits.{from_bit_0}
@@ -47,11 +46,6 @@ unfolding action
 action_is r = from_bit_0 r.octet 32
 
 -- A DATE
--- a record's date, by its three fields
-pub date_is : (r : Triple) (y : ℕ) (d : Option ℕ) → y ≡ year_of (r.word % 128) → d ≡ day_of y (r.word / 128 % 16) (r.word / 2048 % 32) → d ≡ record_date r
-unfolding record_date
-date_is r y d e h = h ∙ rw (e, from_bit_0 r.word 128)
-
 -- what is brought by a date, where it is due, and by what its action selects
 abbrev pub dated : (due : ℕ → Bool) → (date selected : Option ℕ) → Chosen
 dated due (Some w) (Some x) = if due w then Entry w x else Nothing
@@ -62,7 +56,7 @@ dated_is : (due : ℕ → Bool) (w x : ℕ) (real a b : Bool) → entry_if (real
 dated_is due w x false a b = refl
 dated_is due w x true false b = rw and-false
 dated_is due w x true true false = rw and-false
-dated_is due w x true true true = rw (and-true, and-true)
+dated_is due w x true true true = simp and-true
 
 pub season_is : (today : ℕ) (r : Triple) → season_entry today r ≡ dated (λ w. w ≤? today) (record_date r) (selected 3 18 (r.octet % 32))
 unfolding season_entry selects_season record_date record_real record_day selected day_of
@@ -71,13 +65,6 @@ season_is today r = rw action_is (dated_is (λ w. w ≤? today) _ _ _ _ _)
 pub special_is : (today : ℕ) (r : Triple) → special_entry today r ≡ dated (λ w. w =? today) (record_date r) (selected 19 30 (r.octet % 32))
 unfolding special_entry record_date record_real record_day selected day_of
 special_is today r = rw action_is (dated_is (λ w. w =? today) _ _ _ _ _)
-
--- A SWITCH, by its number, its time and its flags
-pub switch_is : (separate : Bool) (q : Quantity) (n m : ℕ) (r : Triple) (time a b c k : Bool) (x : Chosen) → time ≡ real_time (r.word / 2048 % 32) (r.word / 32 % 64)
-    → a ≡ (r.octet =? n && time) → b ≡ (a && 60 * (r.word / 2048 % 32) + r.word / 32 % 64 ≤? m) → k ≡ counts separate q r.word → c ≡ (b && k)
-    → x ≡ entry_if c (60 * (r.word / 2048 % 32) + r.word / 32 % 64) (r.word % 8) → x ≡ switch_entry separate q n m r
-unfolding switch_entry switch_minute
-switch_is separate q n m r time a b c k x t-is a-is b-is k-is c-is x_is = x_is ∙ rw (c-is, b-is, a-is, k-is, t-is, from_bit_0 r.word 8)
 
 -- RECORDS OF A TABLE, cut out of it
 module _ (o : ℕ) (t : List ℕ) (at m : ℕ) (inside : at + m ≤ length t) where

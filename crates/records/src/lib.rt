@@ -1,12 +1,12 @@
 // Records of Table 54, three octets each: what a record brings to whoever asks, and the latest of
 // what some records bring.
 //
-// Any octets may be given; one or two past the last whole record aren't read. Tests are joined and
-// made into a reply by functions without a branch, so that each reply is one equation.
+// Any octets may be given; one or two past the last whole record aren't read. Tests are joined by
+// functions without a branch, so that the proofs have few cases.
 #![tactic(auto)]
 
 ghost use Rattle.std.specs.Prelude.{◌≡◌};
-ghost use Rattle.meaning.specs.Calendar.{triple_at, entry_if, or_later, year_of, flagged_for, counts, season_entry, special_entry, switch_entry};
+ghost use Rattle.meaning.specs.Calendar.{triple_at, or_later, year_of, flagged_for, counts, season_entry, special_entry, switch_entry};
 ghost use Rattle.records.specs.Records.{record_date, selected, brought_to, latest_in};
 
 use basics::{both, either, wide};
@@ -41,17 +41,9 @@ fn triple_of(order: u32, raw: &[u8; 3]) -> Triple
     }
 }
 
-fn entry_if(holds: bool, when: u32, brings: u32) -> Chosen
-    ensures { result ≡ entry_if holds when brings }
-{
-    if holds {
-        return Chosen::Entry { when, brings };
-    }
-    Chosen::Nothing
-}
-
 // WHAT A DATE BRINGS
 // The year of two digits; 100 and over are no years.
+#[tactic(auto, unfolding(meaning::specs::Calendar::year_of))]
 fn year_of(digits: u32) -> u32
     ensures { result ≡ year_of digits }
 {
@@ -64,6 +56,7 @@ fn year_of(digits: u32) -> u32
     0
 }
 
+#[tactic(auto, using(basics::proofs::Bits::from_bit_0), unfolding(crate::specs::Records::record_date))]
 fn record_date(triple: Triple) -> Option<u32>
     ensures { result ≡ record_date triple }
 {
@@ -107,6 +100,7 @@ fn special_entry(today: u32, triple: Triple) -> Chosen
 }
 
 // WHAT A SWITCH BRINGS
+#[tactic(auto, unfolding(meaning::specs::Calendar::flagged_for))]
 fn flagged_for(quantity: Quantity, word: u32) -> bool
     ensures { result ≡ flagged_for quantity word }
 {
@@ -116,12 +110,14 @@ fn flagged_for(quantity: Quantity, word: u32) -> bool
     }
 }
 
+#[tactic(auto, unfolding(meaning::specs::Calendar::counts))]
 fn does_count(separate: bool, quantity: Quantity, word: u32) -> bool
     ensures { result ≡ counts separate quantity word }
 {
     either(!separate, flagged_for(quantity, word))
 }
 
+#[tactic(auto, using(basics::proofs::Bits::from_bit_0), unfolding(meaning::specs::Calendar::switch_entry, meaning::specs::Calendar::switch_minute))]
 fn switch_entry(
     separate: bool,
     quantity: Quantity,
@@ -137,11 +133,13 @@ fn switch_entry(
     let when = 60 * hours + minutes;
     let of_it = both(triple.octet == schedule, dates::is_time(hours, minutes));
     let come = both(of_it, when <= minute);
-    entry_if(
-        both(come, does_count(separate, quantity, word)),
-        when,
-        word % 8,
-    )
+    if both(come, does_count(separate, quantity, word)) {
+        return Chosen::Entry {
+            when,
+            brings: word % 8,
+        };
+    }
+    Chosen::Nothing
 }
 
 // THE LATEST
@@ -162,26 +160,28 @@ fn brought_to(wanted: Wanted, triple: Triple) -> Chosen
 }
 
 // Of what two records bring, the later; of equals, what the later record brings.
+#[tactic(auto, unfolding(meaning::specs::Calendar::or_later))]
 fn or_later(earlier: Chosen, later: Chosen) -> Chosen
     ensures { result ≡ or_later earlier later }
 {
-    match earlier {
-        Chosen::Nothing => later,
-        Chosen::Entry {
-            when: first,
-            brings: _,
-        } => match later {
-            Chosen::Nothing => earlier,
+    match (earlier, later) {
+        (Chosen::Nothing, _) => later,
+        (_, Chosen::Nothing) => earlier,
+        (
+            Chosen::Entry {
+                when: first,
+                brings: _,
+            },
             Chosen::Entry {
                 when: second,
                 brings: _,
-            } => {
-                if first <= second {
-                    return later;
-                }
-                earlier
+            },
+        ) => {
+            if first <= second {
+                return later;
             }
-        },
+            earlier
+        }
     }
 }
 
