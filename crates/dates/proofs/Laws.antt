@@ -9,15 +9,7 @@ use Rattle.almanac.specs.Days.{Real}
 use Rattle.almanac.proofs.Days.{month_most, months_most, years_most}
 use Rattle.dates.specs.Days.{day_of}
 
-pub is_day : (y m d : ℕ) → real_date y m d ≡ true → Some (year_days (y - 1990) + month_days y m + (d - 1)) ≡ day_of y m d
-unfolding day_of day_number
-is_day y m d e = rw e
-
-pub no_day : (y m d : ℕ) → real_date y m d ≡ false → None ≡ day_of y m d
-unfolding day_of
-no_day y m d e = rw e
-
--- its number fits
+-- a real date's number fits
 pub day_fits : {y m d : ℕ} → Real y m d → year_days (y - 1990) + month_days y m + (d - 1) < 40000
 day_fits {y} {m} {d} r = omega (arith, years_most (y - 1990), months_most y m, month_most y m)
 

@@ -47,13 +47,11 @@ fn triple_of(order: u32, raw: &[u8; 3]) -> Triple
 fn year_of(digits: u32) -> u32
     ensures { result ≡ year_of digits }
 {
-    if digits < 90 {
-        return 2000 + digits;
+    match digits {
+        0..=89 => 2000 + digits,
+        90..=99 => 1900 + digits,
+        _ => 0,
     }
-    if digits < 100 {
-        return 1900 + digits;
-    }
-    0
 }
 
 #[tactic(auto, using(basics::proofs::Bits::from_bit_0), unfolding(crate::specs::Records::record_date))]
