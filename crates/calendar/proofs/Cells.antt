@@ -1,16 +1,15 @@
 -- The rows of the matrix, cell by cell. Assumes nothing.
-use Prim.Native.Nat.{ℕ, suc, ◌+◌, ◌*◌, ◌<◌, ◌≤◌}
-use mathlib.Core.Path.{◌≡◌, refl, sym, ◌∙◌}
-use mathlib.Core.Bool.{Bool, true, false}
+use Prim.Native.Nat.{ℕ, ◌+◌, ◌*◌, ◌<◌, ◌≤◌}
+use mathlib.Core.Path.{◌≡◌}
 use mathlib.Core.List.{List}
 use lib.Dec.{ltb}
 use lib.ListN.{length, get_or, get_or-eq_default, replicate}
 use native.Mathlib.Omega.{arith}
 use native.Mathlib.Nat.{mul-le-mul_right, suc-mul}
 use borrow.Author.Tests.{lt-ltb, le-ltb, ltb-true, ltb-false}
-use Rattle.meaning.specs.Basics.{◌<?◌, build, part}
+use Rattle.meaning.specs.Basics.{build, part}
 use Rattle.meaning.specs.declared.Controls.{Controls}
-use Rattle.meaning.specs.Calendar.{matrix_at, row_width, table54_size, cell_at, Found, found, missing, matrix_cell, matrix_of, matrix_in, matrix_verdict_in, cells_after}
+use Rattle.meaning.specs.Calendar.{matrix_at, row_width, table54_size, cell_at, matrix_cell}
 use Rattle.meaning.proofs.Either.{tested}
 use Rattle.meaning.proofs.Splices.{part_long, part_at}
 use Rattle.calendar.specs.Sections.{sections_of, Sized}
@@ -47,9 +46,3 @@ row_cells c t row h =
 pub no_row : (c : Controls) (t : List ℕ) (row : ℕ) → c.seasons ≤ row → replicate 22 0 ≡ row_of c t row
 unfolding matrix_cell build
 no_row c t row h = rw (le-ltb _ _ h)
-
--- LENT CELLS that are all 0 hold the matrix afterwards, also on refusal
-pub zeros_lent : (x : Found) → cells_after (matrix_verdict_in x) (matrix_in x) (replicate 15 (replicate 22 0)) ≡ matrix_in x
-unfolding cells_after matrix_verdict_in matrix_in build
-zeros_lent (found o c t) = refl
-zeros_lent (missing r) = refl

@@ -149,42 +149,6 @@ impl<'a> Calendar<'a> {
     }
 }
 
-// THE SCHEDULE
-#[tactic(auto, unfolding(meaning::specs::Calendar::day_column))]
-fn day_column(controls: Controls, weekday: u32) -> usize
-    ensures { result ≡ day_column controls weekday }
-{
-    if controls.weekdays {
-        return weekday as usize;
-    }
-    if weekday == 6 {
-        return 0;
-    }
-    if weekday == 0 {
-        return 1;
-    }
-    2
-}
-
-fn column_on(controls: Controls, day: u32, special: Chosen) -> usize
-    ensures { result ≡ column_on controls day special }
-{
-    match special {
-        Chosen::Nothing => day_column(controls, dates::weekday(day)),
-        Chosen::Entry { when: _, brings } => day_columns(controls) + brings as usize,
-    }
-}
-
-#[tactic(auto, unfolding(meaning::specs::Calendar::missing_special))]
-fn missing_special(controls: Controls, special: Chosen) -> bool
-    ensures { result ≡ missing_special controls special }
-{
-    match special {
-        Chosen::Nothing => false,
-        Chosen::Entry { when: _, brings } => controls.specials <= brings as usize,
-    }
-}
-
 // The season that is chosen; season 0 on a day before every season record.
 #[tactic(auto, unfolding(meaning::specs::Calendar::in_season))]
 fn in_season(chosen: Chosen) -> usize
@@ -205,6 +169,41 @@ impl<'a> Calendar<'a> {
         let from = self.sections.dates;
         let end = from + 3 * self.controls.dates;
         records::latest(self.order, &self.table[from..end], wanted)
+    }
+
+    // THE SCHEDULE
+    #[tactic(auto, unfolding(meaning::specs::Calendar::day_column))]
+    fn day_column(&self, weekday: u32) -> usize
+        ensures { result ≡ day_column self.now.controls weekday }
+    {
+        if self.controls.weekdays {
+            return weekday as usize;
+        }
+        match weekday {
+            6 => 0,
+            0 => 1,
+            _ => 2,
+        }
+    }
+
+    #[tactic(auto, using(almanac::proofs::Matrix::days_most), unfolding(meaning::specs::Calendar::column_on))]
+    fn column_on(&self, day: u32, special: Chosen) -> usize
+        ensures { result ≡ column_on self.now.controls day special }
+    {
+        match special {
+            Chosen::Nothing => self.day_column(dates::weekday(day)),
+            Chosen::Entry { when: _, brings } => day_columns(self.controls) + brings as usize,
+        }
+    }
+
+    #[tactic(auto, unfolding(meaning::specs::Calendar::missing_special))]
+    fn missing_special(&self, special: Chosen) -> bool
+        ensures { result ≡ missing_special self.now.controls special }
+    {
+        match special {
+            Chosen::Nothing => false,
+            Chosen::Entry { when: _, brings } => self.controls.specials <= brings as usize,
+        }
     }
 
     // The schedule in a cell of the matrix.
@@ -250,11 +249,11 @@ impl<'a> Calendar<'a> {
     {
         if either(
             self.controls.seasons <= season,
-            missing_special(self.controls, special),
+            self.missing_special(special),
         ) {
             return Reply::Refused(Refusal::NO_ROW_OR_COLUMN);
         }
-        let column = column_on(self.controls, day, special);
+        let column = self.column_on(day, special);
         let schedule = self.cell_at(season, column);
         self.tier_at(quantity, schedule, minute)
     }
@@ -374,12 +373,14 @@ pub fn seasoned(description: &[u8], image: &[u8], date: Date) -> Reply
 }
 
 // The matrix; all cells 0 on refusal.
+#[tactic(auto, unfolding(meaning::specs::Calendar::matrix_reply, meaning::specs::Calendar::matrix_in, meaning::specs::Basics::build))]
 pub fn matrix(description: &[u8], image: &[u8]) -> [[u8; 22]; 15]
     ensures { result ≡ matrix_reply description.now image.now }
 {
-    let mut cells = [[0u8; 22]; 15];
-    matrix_into(description, image, &mut cells);
-    cells
+    match Calendar::of(description, image) {
+        Err(_) => [[0; 22]; 15],
+        Ok(calendar) => calendar.rows(),
+    }
 }
 
 // The matrix's refusal.
