@@ -85,6 +85,7 @@ fn day_columns(controls: Controls) -> usize
     SHARED
 }
 
+#[tactic(auto, using(crate::proofs::Laws::records_few, crate::proofs::Laws::columns_few, crate::proofs::Laws::cells_few), unfolding(crate::specs::Sections::sections_of, meaning::specs::Calendar::switches_at, meaning::specs::Calendar::matrix_at, meaning::specs::Calendar::row_width, meaning::specs::Calendar::table54_size))]
 fn sections_of(controls: Controls) -> Sections
     requires { Small controls }
     ensures { result ≡ sections_of controls }
@@ -100,6 +101,17 @@ fn sections_of(controls: Controls) -> Sections
         matrix,
         width,
         size,
+    }
+}
+
+// The season that is chosen; season 0 on a day before every season record.
+#[tactic(auto, unfolding(meaning::specs::Calendar::in_season))]
+fn in_season(chosen: Chosen) -> usize
+    ensures { result ≡ in_season chosen }
+{
+    match chosen {
+        Chosen::Nothing => 0,
+        Chosen::Entry { when: _, brings } => brings as usize,
     }
 }
 
@@ -147,20 +159,7 @@ impl<'a> Calendar<'a> {
             table: table54,
         })
     }
-}
 
-// The season that is chosen; season 0 on a day before every season record.
-#[tactic(auto, unfolding(meaning::specs::Calendar::in_season))]
-fn in_season(chosen: Chosen) -> usize
-    ensures { result ≡ in_season chosen }
-{
-    match chosen {
-        Chosen::Nothing => 0,
-        Chosen::Entry { when: _, brings } => brings as usize,
-    }
-}
-
-impl<'a> Calendar<'a> {
     // What the non-recurring dates bring.
     #[tactic(auto, using(crate::proofs::Laws::dates_inside, crate::proofs::Laws::dates_latest))]
     fn chosen_by(&self, wanted: Wanted) -> Chosen
@@ -337,7 +336,8 @@ impl<'a> Calendar<'a> {
     }
 }
 
-// Octets as a row of cells; the cells behind them are 0.
+// Octets as a row of cells; the cells behind them are 0. Written by their index: of cells that `iter_mut`
+// hands to a `zip` a proof knows nothing afterwards.
 fn cells_of(octets: &[u8]) -> [u8; 22]
     requires { length octets.now ≤ 22 }
     ensures { result ≡ build 22 (λ column. get_or octets.now column 0) }
