@@ -44,8 +44,7 @@ struct Calendar<'a> {
 }
 
 // TABLES 51 AND 54
-fn controls_of(order: u32, table: &[u8]) -> Controls
-    requires { length table.now ≡ 9 }
+fn controls_of(order: u32, table: &[u8; 9]) -> Controls
     ensures reply { result ≡ controls_of order table.now }
     ensures small { Small result }
 {
@@ -144,9 +143,7 @@ impl<'a> Calendar<'a> {
         ensures found { IfOk result (λ k. found k.order k.controls k.table.now ≡ sized order table51.now table54.now) }
         ensures missing { IfErr result (λ r. missing r ≡ sized order table51.now table54.now) }
     {
-        if table51.len() != 9 {
-            return Err(Refusal::NOT_A_CALENDAR);
-        }
+        let table51 = table51.as_array().ok_or(Refusal::NOT_A_CALENDAR)?;
         let controls = controls_of(order, table51);
         let sections = sections_of(controls);
         if table54.len() != sections.size {
