@@ -163,8 +163,8 @@ fn or_later(earlier: Chosen, later: Chosen) -> Chosen
     ensures { result ≡ or_later earlier later }
 {
     match (earlier, later) {
-        (Chosen::Nothing, _) => later,
         (_, Chosen::Nothing) => earlier,
+        (Chosen::Nothing, _) => later,
         (
             Chosen::Entry {
                 when: first,
