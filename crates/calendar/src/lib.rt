@@ -271,15 +271,13 @@ impl<'a> Calendar<'a> {
         if !dates::is_time(moment.hour, moment.minute) {
             return Reply::Refused(Refusal::NOT_A_DATE);
         }
-        match dates::day_of(moment.year, moment.month, moment.day) {
-            None => Reply::Refused(Refusal::NOT_A_DATE),
-            Some(day) => {
-                if self.controls.armed {
-                    return Reply::Refused(Refusal::SEASON_CHANGE_ARMED);
-                }
-                self.tier_day(day, 60 * moment.hour + moment.minute, quantity)
-            }
+        let Some(day) = dates::day_of(moment.year, moment.month, moment.day) else {
+            return Reply::Refused(Refusal::NOT_A_DATE);
+        };
+        if self.controls.armed {
+            return Reply::Refused(Refusal::SEASON_CHANGE_ARMED);
         }
+        self.tier_day(day, 60 * moment.hour + moment.minute, quantity)
     }
 
     // THE SEASON RECORDS
@@ -299,15 +297,13 @@ impl<'a> Calendar<'a> {
     fn seasoned_in(&self, date: Date) -> Reply
         ensures { result ≡ seasoned_in date (found self.now.order self.now.controls self.now.table.now) }
     {
-        match dates::day_of(date.year, date.month, date.day) {
-            None => Reply::Refused(Refusal::NOT_A_DATE),
-            Some(day) => {
-                if self.season_stands(day) {
-                    return Reply::Yes;
-                }
-                Reply::No
-            }
+        let Some(day) = dates::day_of(date.year, date.month, date.day) else {
+            return Reply::Refused(Refusal::NOT_A_DATE);
+        };
+        if self.season_stands(day) {
+            return Reply::Yes;
         }
+        Reply::No
     }
 
     // THE MATRIX

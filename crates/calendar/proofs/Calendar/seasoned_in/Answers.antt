@@ -11,12 +11,12 @@ returns-then-season_stands c =
     let real = told _ _ _ (Some _) (sym c.day_of.ensures ∙ c.in-Some.is) in
     rw (real.0, real.1, ← c.season_stands.ensures, c.if-season_stands.true)
 
-pub returns-in-None : goal.returns-in-None
+pub returns-in_default : goal.returns-in_default
 unfolding seasoned_in
-returns-in-None c = rw (told _ _ _ None (sym c.day_of.ensures ∙ c.in-None.is))
+returns-in_default c = rw (told _ _ _ None (sym c.day_of.ensures ∙ c.in_default.is))
 
-pub returns-else-season_stands : goal.returns-else-season_stands
+pub returns : goal.returns
 unfolding seasoned_in
-returns-else-season_stands c =
+returns c =
     let real = told _ _ _ (Some _) (sym c.day_of.ensures ∙ c.in-Some.is) in
     rw (real.0, real.1, ← c.season_stands.ensures, c.if-season_stands.false)

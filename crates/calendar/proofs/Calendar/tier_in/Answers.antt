@@ -12,13 +12,13 @@ returns-then-self c =
     let time = c.if-not-is_time.false in
     rw (real.0, ← c.is_time.ensures, time, c.if-self.true)
 
-pub returns-in-None : goal.returns-in-None
+pub returns-in_default : goal.returns-in_default
 unfolding tier_in
-returns-in-None c = rw (told _ _ _ None (sym c.day_of.ensures ∙ c.in-None.is))
+returns-in_default c = rw (told _ _ _ None (sym c.day_of.ensures ∙ c.in_default.is))
 
-pub returns-else-self : goal.returns-else-self
+pub returns : goal.returns
 unfolding tier_in
-returns-else-self c =
+returns c =
     let day = sym c.day_of.ensures ∙ c.in-Some.is in
     let real = told _ _ _ (Some _) day in
     let time = c.if-not-is_time.false in
