@@ -12,7 +12,8 @@ ghost use Rattle.records.specs.Records.{record_date, selected, brought_to, lates
 use basics::{both, either, wide};
 use meaning::{Chosen, Quantity, Triple};
 
-// What is wanted of some records.
+// What is wanted of some records. An enum and no closure, since crates/unique states of `latest` over it
+// that a call has one reply.
 #[derive(Clone, Copy)]
 pub enum Wanted {
     // The season on a day, the special schedule on a day.
@@ -73,7 +74,8 @@ fn selected(first: u32, last: u32, action: u32) -> Option<u32>
     None
 }
 
-// A season holds from its day on, and actions 3 to 18 select it.
+// A season holds from its day on, and actions 3 to 18 select it. This and the next compare the day
+// differently; one function that is handed the comparison would be no plainer.
 #[tactic(auto, using(crate::proofs::Laws::season_is))]
 fn season_entry(today: u32, triple: Triple) -> Chosen
     ensures { result ≡ season_entry today triple }
