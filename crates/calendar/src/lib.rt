@@ -162,9 +162,9 @@ impl<'a> Calendar<'a> {
     fn chosen_by(&self, wanted: Wanted) -> Chosen
         ensures { result ≡ latest (brought_to wanted) (dates_of self.now.order self.now.controls self.now.table.now) }
     {
-        let from = self.sections.dates;
-        let end = from + 3 * self.controls.dates;
-        records::latest(self.order, &self.table[from..end], wanted)
+        let at = self.sections.dates;
+        let dates = &self.table[at..at + 3 * self.controls.dates];
+        records::latest(self.order, dates, wanted)
     }
 
     // THE SCHEDULE
@@ -223,9 +223,8 @@ impl<'a> Calendar<'a> {
             schedule,
             minute,
         };
-        let from = self.sections.switches;
-        let end = self.sections.matrix;
-        match records::latest(self.order, &self.table[from..end], wanted) {
+        let switches = &self.table[self.sections.switches..self.sections.matrix];
+        match records::latest(self.order, switches, wanted) {
             Chosen::Nothing => Reply::NoneYet,
             Chosen::Entry { when: _, brings } => Reply::Tier(brings),
         }
@@ -313,9 +312,8 @@ impl<'a> Calendar<'a> {
         requires { row < self.now.controls.seasons }
         ensures { result.now ≡ part self.now.table.now (matrix_at self.now.controls + row * row_width self.now.controls) (row_width self.now.controls) }
     {
-        let from = self.sections.matrix + row * self.sections.width;
-        let end = from + self.sections.width;
-        &self.table[from..end]
+        let at = self.sections.matrix + row * self.sections.width;
+        &self.table[at..at + self.sections.width]
     }
 
     fn rows(&self) -> [[u8; 22]; 15]
