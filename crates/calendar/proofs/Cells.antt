@@ -1,45 +1,48 @@
 -- The rows of the matrix, cell by cell. Assumes nothing.
-use Prim.Native.Nat.{ℕ, suc, ◌+◌, ◌*◌, ◌<◌, ◌≤◌}
-use mathlib.Core.Path.{◌≡◌, refl, ◌∙◌}
-use mathlib.Core.Bool.{Bool, true, false}
+use Prim.Native.Nat.{ℕ, ◌+◌, ◌*◌, ◌<◌, ◌≤◌}
+use mathlib.Core.Path.{◌≡◌}
 use mathlib.Core.List.{List}
-use lib.ListN.{length, replicate}
+use lib.Dec.{ltb}
+use lib.ListN.{length, get_or, get_or-eq_default, replicate}
 use native.Mathlib.Omega.{arith}
 use native.Mathlib.Nat.{mul-le-mul_right, suc-mul}
-use Rattle.meaning.specs.Basics.{◌<?◌, build}
+use borrow.Author.Tests.{lt-ltb, le-ltb, ltb-true, ltb-false}
+use Rattle.meaning.specs.Basics.{build, part}
 use Rattle.meaning.specs.declared.Controls.{Controls}
-use Rattle.meaning.specs.Calendar.{matrix_at, row_width, table54_size, cell_at, Found, found, missing, matrix_cell, matrix_of, matrix_in, matrix_verdict_in, cells_after}
-use Rattle.calendar.specs.Sections.{sections_of, Sized, HasRow, octet_or0, row_of, row_at}
+use Rattle.meaning.specs.Calendar.{matrix_at, row_width, table54_size, cell_at, matrix_cell}
+use Rattle.meaning.proofs.Either.{tested}
+use Rattle.meaning.proofs.Splices.{part_long, part_at}
+use Rattle.calendar.specs.Sections.{sections_of, Sized}
 use Rattle.calendar.specs.declared.Sections.{Sections}
 use Rattle.almanac.proofs.Matrix.{width_most}
 use Rattle.almanac.proofs.Build.{build_same}
 
--- A ROW of the matrix
--- the row that a turn reads lies inside
-pub row_inside : (t : List ℕ) (at width seasons row : ℕ) → at + seasons * width ≤ length t → width ≤ 22 → row < seasons → HasRow t (at + row * width) width
-row_inside t at width seasons row h w l = record { within = omega (arith, mul-le-mul_right width l, suc-mul row width); fits = w }
+-- A ROW of the matrix lies inside the table
+pub row_inside : {c : Controls} {t : List ℕ} {s : Sections} {row : ℕ} → Sized c t → s ≡ sections_of c → row < c.seasons → s.matrix + row * s.width + s.width ≤ length t
+unfolding sections_of table54_size
+row_inside {c} {t} {s} {row} z e r = rw e (omega (arith, mul-le-mul_right (row_width c) r, suc-mul row (row_width c), z.long))
 
--- the next row starts where one ends
-pub next_row : (at row width : ℕ) → at + row * width + width ≡ at + (row + 1) * width
-next_row at row width = let z : row + 1 ≡ suc row = omega arith in rw (z, suc-mul row width) (omega arith)
+-- and fits a row of cells
+pub row_fits : {c : Controls} {t : List ℕ} (at : ℕ) → Sized c t → length (part t at (row_width c)) ≤ 22
+row_fits {c} {t} at z = omega (arith, part_long t at (row_width c), width_most c z.small.few_specials)
 
--- THE MATRIX of a table of that size
-module _ (c : Controls) (t : List ℕ) where
-  row_cells : (row : ℕ) (b : Bool) → (row <? c.seasons) ≡ b → row_at t (matrix_at c) (row_width c) c.seasons row ≡ build 22 (λ column. matrix_cell c t row column)
-  unfolding row_at row_of octet_or0 matrix_cell cell_at build
-  row_cells row true e = rw e
-  row_cells row false e = rw e
+-- a row of the matrix
+abbrev pub row_of : Controls → List ℕ → (row : ℕ) → List ℕ
+row_of c t row = build 22 (λ column. matrix_cell c t row column)
 
-  pub rows_are : (s : Sections) (m : List (List ℕ)) → s ≡ sections_of c → m ≡ build 15 (row_at t s.matrix s.width c.seasons) → m ≡ matrix_of c t
-  unfolding matrix_of sections_of
-  rows_are s m e h = h ∙ rw e (build_same 15 _ _ (λ row. row_cells row (row <? c.seasons) refl))
+-- its octets are its first cells
+pub row_cells : (c : Controls) (t : List ℕ) (row : ℕ) → row < c.seasons
+    → build 22 (λ column. get_or (part t (matrix_at c + row * row_width c) (row_width c)) column 0) ≡ row_of c t row
+unfolding matrix_cell cell_at
+row_cells c t row h =
+    let w = row_width c in
+    let at = matrix_at c + row * w in
+    build_same 22 _ _
+    (λ k. rw (lt-ltb _ _ h)
+    (tested (λ n. get_or (part t at w) k 0 ≡ n) (ltb k w) _ _ (λ e. part_at t at w k (ltb-true k w e))
+    (λ e. get_or-eq_default (part t at w) 0 (omega (arith, part_long t at w, ltb-false k w e)))))
 
-  pub rows_inside : Sized c t → (s : Sections) → s ≡ sections_of c → (s.matrix + c.seasons * s.width ≤ length t) × (s.width ≤ 22)
-  unfolding table54_size sections_of
-  rows_inside z s e = rw e (omega (arith, z.long, width_most c z.small.few_specials))
-
--- LENT CELLS that are all 0 hold the matrix afterwards, also on refusal
-pub zeros_lent : (x : Found) → cells_after (matrix_verdict_in x) (matrix_in x) (replicate 15 (replicate 22 0)) ≡ matrix_in x
-unfolding cells_after matrix_verdict_in matrix_in build
-zeros_lent (found o c t) = refl
-zeros_lent (missing r) = refl
+-- a row past the last season has none
+pub no_row : (c : Controls) (t : List ℕ) (row : ℕ) → c.seasons ≤ row → replicate 22 0 ≡ row_of c t row
+unfolding matrix_cell build
+no_row c t row h = rw (le-ltb _ _ h)

@@ -1,6 +1,6 @@
 -- What the calendar comes to, case by case. Assumes nothing.
 use Prim.Native.Nat.{ℕ, ◌+◌, ◌-◌, ◌*◌, ◌%◌, ◌<◌, ◌≤◌}
-use mathlib.Core.Path.{◌≡◌, refl, sym, ◌∙◌, ap, subst}
+use mathlib.Core.Path.{◌≡◌, refl, sym, ◌∙◌}
 use mathlib.Core.Bool.{Bool, true, false, cond, ◌||◌}
 use mathlib.Core.List.{List}
 use mathlib.Core.Option.{Option, some, none}
@@ -9,7 +9,6 @@ use lib.ListN.{length, take, drop}
 use native.Mathlib.Omega.{arith}
 use native.Mathlib.Nat.{mul-le-mul}
 use borrow.Author.Tests.{leb-true, leb-false}
-use Rattle.offsets.specs.declared.ImageOffset.{ImageOffset}
 use Rattle.meaning.specs.Basics.{◌=?◌, ◌≤?◌, part}
 use Rattle.meaning.specs.Layout.{Seat, data_order, table_named}
 use Rattle.meaning.specs.Refusals.{seat_place, table_place_in, table_place_reply}
@@ -19,6 +18,7 @@ use Rattle.meaning.specs.declared.Controls.{Controls}
 use Rattle.meaning.specs.declared.Moment.{Moment}
 use Rattle.meaning.specs.declared.Place.{Place}
 use Rattle.meaning.specs.declared.Quantity.{Quantity}
+use Rattle.meaning.specs.declared.Triple.{Triple}
 use Rattle.meaning.specs.Calendar.{real_time, weekday_of, dates_at, switches_at, matrix_at, day_columns, row_width, table54_size, latest, dates_of, season_on, season_stands, day_column, column_on, missing_special, switches_of, tier_from, tier_by_schedule, Found, missing, sized, seats_found, calendar_in, calendar}
 use Rattle.meaning.proofs.Rules.{either_false}
 use Rattle.almanac.proofs.Tests.{both_true, cond_most}
@@ -30,9 +30,8 @@ use Rattle.records.specs.Records.{brought_to, latest_in}
 use Rattle.records.proofs.Laws.{latest_part}
 use Rattle.laying.proofs.First.{table_00}
 use Rattle.laying.proofs.Opened.{Came, opens, refuses, came, opened_image}
-use Rattle.calendar.specs.declared.Calendar.{Calendar}
 use Rattle.calendar.specs.declared.Sections.{Sections}
-use Rattle.calendar.specs.Sections.{Small, sections_of, Sized, Stands, stood, HasCell}
+use Rattle.calendar.specs.Sections.{Small, sections_of, Sized}
 
 -- WHERE THE PARTS OF TABLE 54 STAND
 dates_most : (c : Controls) → dates_at c ≤ 2
@@ -72,16 +71,6 @@ pub by_places : (d img : List ℕ) (a b : Place) → a ≡ table_place_reply d i
     → calendar_by img x y ≡ calendar d img
 by_places d img a b ea eb e f = rw (← e, ← f, ea, eb) (calendar_told d img (came d img))
 
--- whatever is asked of a calendar is asked of what has been found
-pub asked : {A : Type 0} (g : Found → A) (d img : List ℕ) (k : Calendar) → stood img k ≡ calendar d img → {x : Calendar} → k ≡ x
-    → g (stood img x) ≡ g (calendar d img)
-asked g d img k s e = ap g (ap (stood img) (sym e) ∙ s)
-
--- Table 54, as the part of the image where it was found, is of its size
-pub part_sized : (img : List ℕ) (k : Calendar) {c : Controls} {p : ImageOffset} {l : ℕ} {table : List ℕ} → Stands img k → k ≡ Calendar.At c p l → table ≡ part img p.0 l
-    → Sized c table
-part_sized img k s e t = rw t (subst (Stands img) e s)
-
 -- THE COLUMN ON A DAY
 module _ (c : Controls) (day : ℕ) where
   weekday_column : day_column c (weekday_of day) < day_columns c
@@ -99,9 +88,10 @@ module _ (c : Controls) (day : ℕ) where
   column_inside (Entry w k) h = omega (arith, leb-false c.specials k h)
 
 -- A CELL
-pub has_cell : {c : Controls} {t : List ℕ} {row column : ℕ} → HasCell c t row column → matrix_at c + row * row_width c + column < length t
-unfolding table54_size
-has_cell {c} {t} {row} {column} h = omega (arith, row_inside c.seasons row (row_width c) column h.has_row h.has_column, h.sized.long)
+pub cell_inside : {c : Controls} {t : List ℕ} {s : Sections} {row column : ℕ} → Sized c t → s ≡ sections_of c → row < c.seasons → column < row_width c
+    → s.matrix + row * s.width + column < length t
+unfolding sections_of table54_size
+cell_inside {c} {t} {s} {row} {column} z e r k = rw e (omega (arith, row_inside c.seasons row (row_width c) column r k, z.long))
 
 -- THE RECORDS OF A TABLE OF THAT SIZE
 module _ (c : Controls) (t : List ℕ) (z : Sized c t) (s : Sections) (se : s ≡ sections_of c) where
@@ -128,23 +118,22 @@ module _ (c : Controls) (t : List ℕ) (z : Sized c t) (s : Sections) (se : s �
       e ∙ rw (n, se) (latest_part o t (switches_at c) c.switches w (omega (arith, z.long)))
 
 -- A SEASON RECORD THAT STANDS
-pub stands_is : (o : ℕ) (c : Controls) (t : List ℕ) (day : ℕ) (x : Chosen) → x ≡ latest (brought_to (Wanted.Season day)) (dates_of o c t) → {y : Chosen} → x ≡ y
-    → is_entry y ≡ season_stands day (dates_of o c t)
+pub stands_is : (day : ℕ) (dates : List Triple) → season_stands day dates ≡ is_entry (latest (brought_to (Wanted.Season day)) dates)
 unfolding season_on brought_to
-stands_is o c t day x e h = ap is_entry (sym h ∙ e) ∙ stands_chosen day (dates_of o c t)
+stands_is day dates = sym (stands_chosen day dates)
 
 -- THE TIER
-pub tier_is : (o : ℕ) (c : Controls) (t : List ℕ) (q : Quantity) (n m : ℕ) (x : Chosen)
-    → x ≡ latest (brought_to (Wanted.Switch c.separate q n m)) (switches_of o c t) → {y : Chosen} → x ≡ y → tier_from y ≡ tier_by_schedule o c t q n m
+pub tier_is : (o : ℕ) (c : Controls) (t : List ℕ) (q : Quantity) (n m : ℕ)
+    → tier_by_schedule o c t q n m ≡ tier_from (latest (brought_to (Wanted.Switch c.separate q n m)) (switches_of o c t))
 unfolding tier_by_schedule brought_to
-tier_is o c t q n m x e h = ap tier_from (sym h ∙ e)
+tier_is o c t q n m = refl
 
--- 19: where neither row nor column is missing, there is a cell
-pub has_place : (c : Controls) (t : List ℕ) (day s : ℕ) (x : Chosen) (a b : Bool) → Sized c t → a ≡ missing_special c x → b ≡ (c.seasons ≤? s || a) → b ≡ false
-    → (column : ℕ) → column ≡ column_on c day x → HasCell c t s column
-has_place c t day s x a b z ae be h column ce =
+-- 19: where neither row nor column is missing, there are both
+pub has_place : (c : Controls) (day s : ℕ) (x : Chosen) (a b : Bool) → a ≡ missing_special c x → b ≡ (c.seasons ≤? s || a) → b ≡ false
+    → (column : ℕ) → column ≡ column_on c day x → (s < c.seasons) × (column < row_width c)
+has_place c day s x a b ae be h column ce =
     let (p, q) = either_false (leb c.seasons s) a (sym be ∙ h) in
-    record { sized = z; has_row = leb-false _ _ p; has_column = rw ce (column_inside c day x (sym ae ∙ q)) }
+    (leb-false _ _ p, rw ce (column_inside c day x (sym ae ∙ q)))
 
 -- the minute of the day is below 1,440
 pub few_minutes : (w : Moment) (time : Bool) → time ≡ real_time w.hour w.minute → time ≡ true → 60 * w.hour + w.minute < 1440

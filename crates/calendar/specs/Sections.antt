@@ -1,10 +1,7 @@
 -- TABLE 54 AND ITS PARTS, as the functions below the public calls go by them. Assumes nothing.
-use Rattle.std.specs.Prelude.{ℕ, ◌+◌, ◌*◌, ◌<◌, ◌≤◌, ◌≡◌, List, length, get_or, replicate, if◌then◌else◌}
-use Rattle.meaning.specs.Basics.{◌<?◌, part, build}
-use Rattle.meaning.specs.Layout.{data_order}
-use Rattle.meaning.specs.Calendar.{dates_at, switches_at, matrix_at, row_width, table54_size, Found, found, missing}
+use Rattle.std.specs.Prelude.{ℕ, ◌≤◌, ◌≡◌, List, length}
+use Rattle.meaning.specs.Calendar.{dates_at, switches_at, matrix_at, row_width, table54_size}
 use Rattle.meaning.specs.declared.Controls.{Controls}
-use Rattle.calendar.specs.declared.Calendar.{Calendar}
 use Rattle.calendar.specs.declared.Sections.{Sections}
 
 -- counts as small as Table 51's fields make them
@@ -23,35 +20,3 @@ sections_of c = record { dates = dates_at c; switches = switches_at c; matrix = 
 pub record Sized (c : Controls) (t : List ℕ) : Type 0 where
   pub small : Small c
   pub long : length t ≡ table54_size c
-
--- where the calendar is, if there is one: its Table 54 is of that size
-abbrev pub Stands : (image : List ℕ) → Calendar → Type 0
-Stands img (Calendar.At c p l) = Sized c (part img p.0 l)
-Stands img (Calendar.Refused r) = Unit {0}
-
--- what has been found there
-abbrev pub stood : (image : List ℕ) → Calendar → Found
-stood img (Calendar.At c p l) = found (data_order img) c (part img p.0 l)
-stood img (Calendar.Refused r) = missing r
-
--- the matrix has a row and a column
-pub record HasCell (c : Controls) (t : List ℕ) (row column : ℕ) : Type 0 where
-  pub sized : Sized c t
-  pub has_row : row < c.seasons
-  pub has_column : column < row_width c
-
--- a row of octets lies inside the table, and fits a row of cells
-pub record HasRow (t : List ℕ) (at width : ℕ) : Type 0 where
-  pub within : at + width ≤ length t
-  pub fits : width ≤ 22
-
--- a row of cells: so many octets of the table from `at` on, then 0
-unfoldable pub octet_or0 : (table54 : List ℕ) → (at width column : ℕ) → ℕ
-octet_or0 t at width column = if column <? width then get_or t (at + column) 0 else 0
-
-unfoldable pub row_of : (table54 : List ℕ) → (at width : ℕ) → List ℕ
-row_of t at width = build 22 (λ column. octet_or0 t at width column)
-
--- a row of the matrix whose first row starts at `at`; past the last season there are zeros
-unfoldable pub row_at : (table54 : List ℕ) → (at width seasons row : ℕ) → List ℕ
-row_at t at width seasons row = if row <? seasons then row_of t (at + row * width) width else replicate 22 0

@@ -6,17 +6,14 @@
 // two-octet fields in the image's DATA_ORDER. Nothing is kept: each call lays the image out anew.
 #![tactic(auto)]
 
-ghost use Rattle.std.specs.Prelude.{◌≡◌, length};
-ghost use Rattle.meaning.specs.Basics.{part};
-ghost use Rattle.meaning.specs.Layout.{data_order};
-ghost use Rattle.meaning.specs.Calendar.{controls_of, dates_at, day_columns, sized, calendar, day_column, column_on, missing_special, cell_at, tier_by_schedule, tier_on, tier_day, tier_in, found, tier_reply, latest, dates_of, in_season, season_stands, seasoned_in, seasoned_reply, matrix_of, matrix_reply, matrix_verdict, cells_after};
+ghost use Rattle.std.specs.Prelude.{◌≡◌, ◌+◌, ◌*◌, ◌<◌, ◌≤◌, length, get_or, IfOk, IfErr};
+ghost use Rattle.meaning.specs.Basics.{part, build};
+ghost use Rattle.meaning.specs.Calendar.{controls_of, dates_at, matrix_at, day_columns, row_width, sized, calendar, day_column, column_on, missing_special, cell_at, tier_by_schedule, tier_on, tier_day, tier_in, found, missing, tier_reply, latest, dates_of, in_season, season_stands, seasoned_in, seasoned_reply, matrix_of, matrix_reply, matrix_verdict, cells_after};
 ghost use Rattle.records.specs.Records.{brought_to};
-ghost use Rattle.calendar.specs.Sections.{Small, sections_of, Sized, Stands, stood, HasCell, HasRow, row_of};
+ghost use Rattle.calendar.specs.Sections.{Small, sections_of, Sized};
 
 use basics::{either, wide};
-use dates::Day;
 use meaning::{Chosen, Controls, Date, Moment, Place, Quantity, Refusal, Reply, Verdict};
-use offsets::ImageOffset;
 use records::Wanted;
 
 // The columns of days: Sunday to Saturday; or Saturday, Sunday, weekday.
@@ -34,20 +31,20 @@ struct Sections {
     size: usize,
 }
 
-// Where the calendar is: what Table 51 says, and Table 54's octets; or why there is none.
+// The calendar of an image: its DATA_ORDER, what Table 51 says, and Table 54's octets, as many as Table 51
+// says.
 #[derive(Clone, Copy)]
-enum Calendar {
-    At {
-        controls: Controls,
-        start: ImageOffset,
-        length: usize,
-    },
-    Refused(Refusal),
+struct Calendar<'a> {
+    order: u32,
+    controls: Controls,
+    sections: Sections,
+    table: &'a [u8],
+    ghost sized: { Sized controls table.now },
+    ghost placed: { sections ≡ sections_of controls },
 }
 
 // TABLES 51 AND 54
-fn controls_of(order: u32, table: &[u8]) -> Controls
-    requires { length table.now ≡ 9 }
+fn controls_of(order: u32, table: &[u8; 9]) -> Controls
     ensures reply { result ≡ controls_of order table.now }
     ensures small { Small result }
 {
@@ -67,6 +64,7 @@ fn controls_of(order: u32, table: &[u8]) -> Controls
     }
 }
 
+#[tactic(auto, unfolding(meaning::specs::Calendar::dates_at))]
 fn dates_at(controls: Controls) -> usize
     ensures { result ≡ dates_at controls }
 {
@@ -76,6 +74,7 @@ fn dates_at(controls: Controls) -> usize
     0
 }
 
+#[tactic(auto, unfolding(meaning::specs::Calendar::day_columns))]
 fn day_columns(controls: Controls) -> usize
     ensures { result ≡ day_columns controls }
 {
@@ -85,6 +84,7 @@ fn day_columns(controls: Controls) -> usize
     SHARED
 }
 
+#[tactic(auto, using(crate::proofs::Laws::records_few, crate::proofs::Laws::columns_few, crate::proofs::Laws::cells_few), unfolding(crate::specs::Sections::sections_of, meaning::specs::Calendar::switches_at, meaning::specs::Calendar::matrix_at, meaning::specs::Calendar::row_width, meaning::specs::Calendar::table54_size))]
 fn sections_of(controls: Controls) -> Sections
     requires { Small controls }
     ensures { result ≡ sections_of controls }
@@ -103,156 +103,8 @@ fn sections_of(controls: Controls) -> Sections
     }
 }
 
-// 20, by Table 51's octets and Table 54's place.
-fn sized(image: &[u8], table51: &[u8], start: ImageOffset, length: usize) -> Calendar
-    ensures reply { stood image.now result ≡ sized (data_order image.now) table51.now (part image.now start.0 length) }
-    ensures sized { Stands image.now result }
-{
-    if table51.len() != 9 {
-        return Calendar::Refused(Refusal::NOT_A_CALENDAR);
-    }
-    let controls = controls_of(octets::data_order(image), table51);
-    let sections = sections_of(controls);
-    let table54 = octets::part(image, start, length);
-    if table54.len() != sections.size {
-        return Calendar::Refused(Refusal::NOT_A_CALENDAR);
-    }
-    Calendar::At {
-        controls,
-        start,
-        length,
-    }
-}
-
-// 1 to 10, then 20. Table 00 isn't asked for: no image lays out without it.
-fn calendar_at(description: &[u8], image: &[u8]) -> Calendar
-    ensures reply { stood image.now result ≡ calendar description.now image.now }
-    ensures sized { Stands image.now result }
-{
-    let tables = places::table_places(description, image, 0, 51, 0, 54);
-    let table51 = tables.first;
-    let table54 = tables.second;
-    match table51 {
-        Place::Refused(r) => Calendar::Refused(r),
-        Place::At {
-            start: from,
-            length: size,
-        } => match table54 {
-            Place::Refused(r) => Calendar::Refused(r),
-            Place::At { start, length } => {
-                sized(image, octets::part(image, from, size), start, length)
-            }
-        },
-    }
-}
-
-// THE SCHEDULE
-fn day_column(controls: Controls, weekday: u32) -> usize
-    ensures { result ≡ day_column controls weekday }
-{
-    if controls.weekdays {
-        return weekday as usize;
-    }
-    if weekday == 6 {
-        return 0;
-    }
-    if weekday == 0 {
-        return 1;
-    }
-    2
-}
-
-fn column_on(controls: Controls, day: u32, special: Chosen) -> usize
-    ensures { result ≡ column_on controls day special }
-{
-    match special {
-        Chosen::Nothing => day_column(controls, dates::weekday(day)),
-        Chosen::Entry { when: _, brings } => day_columns(controls) + brings as usize,
-    }
-}
-
-fn missing_special(controls: Controls, special: Chosen) -> bool
-    ensures { result ≡ missing_special controls special }
-{
-    match special {
-        Chosen::Nothing => false,
-        Chosen::Entry { when: _, brings } => controls.specials <= brings as usize,
-    }
-}
-
-fn cell_at(controls: Controls, table: &[u8], row: usize, column: usize) -> u32
-    requires { HasCell controls table.now row column }
-    ensures { result ≡ cell_at controls table.now row column }
-{
-    let sections = sections_of(controls);
-    wide(table[sections.matrix + row * sections.width + column])
-}
-
-// THE TIER
-fn tier_at(
-    order: u32,
-    controls: Controls,
-    table: &[u8],
-    quantity: Quantity,
-    schedule: u32,
-    minute: u32,
-) -> Reply
-    requires { Sized controls table.now }
-    ensures { result ≡ tier_by_schedule order controls table.now quantity schedule minute }
-{
-    let sections = sections_of(controls);
-    let wanted = Wanted::Switch {
-        separate: controls.separate,
-        quantity,
-        schedule,
-        minute,
-    };
-    let from = sections.switches;
-    let end = sections.matrix;
-    let switch = records::latest(order, &table[from..end], wanted);
-    match switch {
-        Chosen::Nothing => Reply::NoneYet,
-        Chosen::Entry { when: _, brings } => Reply::Tier(brings),
-    }
-}
-
-// 19, by the special schedule and the season on the day.
-fn tier_on(
-    order: u32,
-    controls: Controls,
-    table: &[u8],
-    day: u32,
-    minute: u32,
-    quantity: Quantity,
-    special: Chosen,
-    season: usize,
-) -> Reply
-    requires { Sized controls table.now }
-    ensures { result ≡ tier_on order controls table.now day minute quantity special season }
-{
-    if either(
-        controls.seasons <= season,
-        missing_special(controls, special),
-    ) {
-        return Reply::Refused(Refusal::NO_ROW_OR_COLUMN);
-    }
-    let column = column_on(controls, day, special);
-    let schedule = cell_at(controls, table, season, column);
-    tier_at(order, controls, table, quantity, schedule, minute)
-}
-
-// What the non-recurring dates bring.
-fn chosen_by(order: u32, controls: Controls, table: &[u8], wanted: Wanted) -> Chosen
-    requires { Sized controls table.now }
-    ensures { result ≡ latest (brought_to wanted) (dates_of order controls table.now) }
-{
-    let sections = sections_of(controls);
-    let from = sections.dates;
-    let end = from + 3 * controls.dates;
-    records::latest(order, &table[from..end], wanted)
-}
-
 // The season that is chosen; season 0 on a day before every season record.
+#[tactic(auto, unfolding(meaning::specs::Calendar::in_season))]
 fn in_season(chosen: Chosen) -> usize
     ensures { result ≡ in_season chosen }
 {
@@ -262,201 +114,287 @@ fn in_season(chosen: Chosen) -> usize
     }
 }
 
-fn tier_day(
-    order: u32,
-    controls: Controls,
-    table: &[u8],
-    day: u32,
-    minute: u32,
-    quantity: Quantity,
-) -> Reply
-    requires { Sized controls table.now }
-    ensures { result ≡ tier_day order controls table.now day minute quantity }
-{
-    let special = chosen_by(order, controls, table, Wanted::Special { today: day });
-    let season = chosen_by(order, controls, table, Wanted::Season { today: day });
-    tier_on(
-        order,
-        controls,
-        table,
-        day,
-        minute,
-        quantity,
-        special,
-        in_season(season),
-    )
-}
-
-// 16, then 18.
-fn tier_in(
-    order: u32,
-    controls: Controls,
-    table: &[u8],
-    moment: Moment,
-    quantity: Quantity,
-) -> Reply
-    requires { Sized controls table.now }
-    ensures { result ≡ tier_in moment quantity (found order controls table.now) }
-{
-    if !dates::is_time(moment.hour, moment.minute) {
-        return Reply::Refused(Refusal::NOT_A_DATE);
-    }
-    let day = dates::day_of(moment.year, moment.month, moment.day);
-    match day {
-        Day::NotReal => Reply::Refused(Refusal::NOT_A_DATE),
-        Day::Number(number) => {
-            if controls.armed {
-                return Reply::Refused(Refusal::SEASON_CHANGE_ARMED);
-            }
-            let minute = 60 * moment.hour + moment.minute;
-            tier_day(order, controls, table, number, minute, quantity)
+impl<'a> Calendar<'a> {
+    // 1 to 10, then 20. Table 00 isn't asked for: no image lays out without it.
+    fn of(description: &[u8], image: &'a [u8]) -> Result<Calendar<'a>, Refusal>
+        ensures found { IfOk result (λ k. found k.order k.controls k.table.now ≡ calendar description.now image.now) }
+        ensures missing { IfErr result (λ r. missing r ≡ calendar description.now image.now) }
+    {
+        let tables = places::table_places(description, image, 0, 51, 0, 54);
+        match tables.first {
+            Place::Refused(r) => Err(r),
+            Place::At {
+                start: from,
+                length: size,
+            } => match tables.second {
+                Place::Refused(r) => Err(r),
+                Place::At { start, length } => Calendar::sized(
+                    octets::data_order(image),
+                    octets::part(image, from, size),
+                    octets::part(image, start, length),
+                ),
+            },
         }
     }
-}
 
-// THE SEASON RECORDS
-// Whether one stands at or before a day: then it, or a later one, is chosen.
-fn season_stands(order: u32, controls: Controls, table: &[u8], day: u32) -> bool
-    requires { Sized controls table.now }
-    ensures { result ≡ season_stands day (dates_of order controls table.now) }
-{
-    let season = chosen_by(order, controls, table, Wanted::Season { today: day });
-    match season {
-        Chosen::Nothing => false,
-        Chosen::Entry { when: _, brings: _ } => true,
+    // 20, by the octets of tables 51 and 54.
+    #[tactic(auto, unfolding(meaning::specs::Calendar::sized, crate::specs::Sections::sections_of))]
+    fn sized(order: u32, table51: &[u8], table54: &'a [u8]) -> Result<Calendar<'a>, Refusal>
+        ensures found { IfOk result (λ k. found k.order k.controls k.table.now ≡ sized order table51.now table54.now) }
+        ensures missing { IfErr result (λ r. missing r ≡ sized order table51.now table54.now) }
+    {
+        let table51 = table51.as_array().ok_or(Refusal::NOT_A_CALENDAR)?;
+        let controls = controls_of(order, table51);
+        let sections = sections_of(controls);
+        if table54.len() != sections.size {
+            return Err(Refusal::NOT_A_CALENDAR);
+        }
+        Ok(Calendar {
+            order,
+            controls,
+            sections,
+            table: table54,
+        })
     }
-}
 
-// 16 alone.
-fn seasoned_in(order: u32, controls: Controls, table: &[u8], date: Date) -> Reply
-    requires { Sized controls table.now }
-    ensures { result ≡ seasoned_in date (found order controls table.now) }
-{
-    let day = dates::day_of(date.year, date.month, date.day);
-    match day {
-        Day::NotReal => Reply::Refused(Refusal::NOT_A_DATE),
-        Day::Number(number) => {
-            if season_stands(order, controls, table, number) {
-                return Reply::Yes;
-            }
-            Reply::No
+    // What the non-recurring dates bring.
+    #[tactic(auto, using(crate::proofs::Laws::dates_inside, crate::proofs::Laws::dates_latest))]
+    fn chosen_by(&self, wanted: Wanted) -> Chosen
+        ensures { result ≡ latest (brought_to wanted) (dates_of self.now.order self.now.controls self.now.table.now) }
+    {
+        let at = self.sections.dates;
+        let dates = &self.table[at..at + 3 * self.controls.dates];
+        records::latest(self.order, dates, wanted)
+    }
+
+    // THE SCHEDULE
+    #[tactic(auto, unfolding(meaning::specs::Calendar::day_column))]
+    fn day_column(&self, weekday: u32) -> usize
+        ensures { result ≡ day_column self.now.controls weekday }
+    {
+        if self.controls.weekdays {
+            return weekday as usize;
+        }
+        match weekday {
+            6 => 0,
+            0 => 1,
+            _ => 2,
         }
     }
+
+    #[tactic(auto, using(almanac::proofs::Matrix::days_most), unfolding(meaning::specs::Calendar::column_on))]
+    fn column_on(&self, day: u32, special: Chosen) -> usize
+        ensures { result ≡ column_on self.now.controls day special }
+    {
+        match special {
+            Chosen::Nothing => self.day_column(dates::weekday(day)),
+            Chosen::Entry { when: _, brings } => day_columns(self.controls) + brings as usize,
+        }
+    }
+
+    #[tactic(auto, unfolding(meaning::specs::Calendar::missing_special))]
+    fn missing_special(&self, special: Chosen) -> bool
+        ensures { result ≡ missing_special self.now.controls special }
+    {
+        match special {
+            Chosen::Nothing => false,
+            Chosen::Entry { when: _, brings } => self.controls.specials <= brings as usize,
+        }
+    }
+
+    // The schedule in a cell of the matrix.
+    #[tactic(auto, using(crate::proofs::Laws::cell_inside), unfolding(meaning::specs::Calendar::cell_at, crate::specs::Sections::sections_of))]
+    fn cell_at(&self, row: usize, column: usize) -> u32
+        requires has_row { row < self.now.controls.seasons }
+        requires has_column { column < row_width self.now.controls }
+        ensures { result ≡ cell_at self.now.controls self.now.table.now row column }
+    {
+        wide(self.table[self.sections.matrix + row * self.sections.width + column])
+    }
+
+    // THE TIER
+    #[tactic(auto, using(crate::proofs::Laws::switches_inside, crate::proofs::Laws::switches_latest, crate::proofs::Laws::tier_is), unfolding(meaning::specs::Calendar::tier_from))]
+    fn tier_at(&self, quantity: Quantity, schedule: u32, minute: u32) -> Reply
+        ensures { result ≡ tier_by_schedule self.now.order self.now.controls self.now.table.now quantity schedule minute }
+    {
+        let wanted = Wanted::Switch {
+            separate: self.controls.separate,
+            quantity,
+            schedule,
+            minute,
+        };
+        let switches = &self.table[self.sections.switches..self.sections.matrix];
+        match records::latest(self.order, switches, wanted) {
+            Chosen::Nothing => Reply::NoneYet,
+            Chosen::Entry { when: _, brings } => Reply::Tier(brings),
+        }
+    }
+
+    // 19, by the special schedule and the season on the day.
+    #[tactic(auto, using(crate::proofs::Laws::has_place), unfolding(meaning::specs::Calendar::tier_on))]
+    fn tier_on(
+        &self,
+        day: u32,
+        minute: u32,
+        quantity: Quantity,
+        special: Chosen,
+        season: usize,
+    ) -> Reply
+        ensures { result ≡ tier_on self.now.order self.now.controls self.now.table.now day minute quantity special season }
+    {
+        if either(
+            self.controls.seasons <= season,
+            self.missing_special(special),
+        ) {
+            return Reply::Refused(Refusal::NO_ROW_OR_COLUMN);
+        }
+        let column = self.column_on(day, special);
+        let schedule = self.cell_at(season, column);
+        self.tier_at(quantity, schedule, minute)
+    }
+
+    #[tactic(auto, unfolding(meaning::specs::Calendar::tier_day, meaning::specs::Calendar::special_on, meaning::specs::Calendar::season_on, records::specs::Records::brought_to))]
+    fn tier_day(&self, day: u32, minute: u32, quantity: Quantity) -> Reply
+        ensures { result ≡ tier_day self.now.order self.now.controls self.now.table.now day minute quantity }
+    {
+        let special = self.chosen_by(Wanted::Special { today: day });
+        let season = self.chosen_by(Wanted::Season { today: day });
+        self.tier_on(day, minute, quantity, special, in_season(season))
+    }
+
+    // 16, then 18.
+    #[tactic(auto, using(crate::proofs::Laws::few_minutes), unfolding(meaning::specs::Calendar::tier_in))]
+    fn tier_in(&self, moment: Moment, quantity: Quantity) -> Reply
+        ensures { result ≡ tier_in moment quantity (found self.now.order self.now.controls self.now.table.now) }
+    {
+        if !dates::is_time(moment.hour, moment.minute) {
+            return Reply::Refused(Refusal::NOT_A_DATE);
+        }
+        let Some(day) = dates::day_of(moment.year, moment.month, moment.day) else {
+            return Reply::Refused(Refusal::NOT_A_DATE);
+        };
+        if self.controls.armed {
+            return Reply::Refused(Refusal::SEASON_CHANGE_ARMED);
+        }
+        self.tier_day(day, 60 * moment.hour + moment.minute, quantity)
+    }
+
+    // THE SEASON RECORDS
+    // Whether one stands at or before a day: then it, or a later one, is chosen.
+    #[tactic(auto, using(crate::proofs::Laws::stands_is))]
+    fn season_stands(&self, day: u32) -> bool
+        ensures { result ≡ season_stands day (dates_of self.now.order self.now.controls self.now.table.now) }
+    {
+        match self.chosen_by(Wanted::Season { today: day }) {
+            Chosen::Nothing => false,
+            Chosen::Entry { when: _, brings: _ } => true,
+        }
+    }
+
+    // 16 alone.
+    #[tactic(auto, unfolding(meaning::specs::Calendar::seasoned_in))]
+    fn seasoned_in(&self, date: Date) -> Reply
+        ensures { result ≡ seasoned_in date (found self.now.order self.now.controls self.now.table.now) }
+    {
+        let Some(day) = dates::day_of(date.year, date.month, date.day) else {
+            return Reply::Refused(Refusal::NOT_A_DATE);
+        };
+        if self.season_stands(day) {
+            return Reply::Yes;
+        }
+        Reply::No
+    }
+
+    // THE MATRIX
+    // The octets of a row.
+    #[tactic(auto, using(crate::proofs::Cells::row_inside), unfolding(crate::specs::Sections::sections_of, meaning::specs::Basics::part))]
+    fn row(&self, row: usize) -> &[u8]
+        requires { row < self.now.controls.seasons }
+        ensures { result.now ≡ part self.now.table.now (matrix_at self.now.controls + row * row_width self.now.controls) (row_width self.now.controls) }
+    {
+        let at = self.sections.matrix + row * self.sections.width;
+        &self.table[at..at + self.sections.width]
+    }
+
+    fn rows(&self) -> [[u8; 22]; 15]
+        ensures { result ≡ matrix_of self.now.controls self.now.table.now }
+    {
+        let mut rows = [[0u8; 22]; 15];
+        for row in 0..self.controls.seasons {
+            rows[row] = cells_of(self.row(row));
+        }
+        rows
+    }
 }
 
-// THE MATRIX
-// A row: the first cells are octets of the table, the others 0.
-fn row_at(table: &[u8], at: usize, width: usize) -> [u8; 22]
-    requires { HasRow table.now at width }
-    ensures { result ≡ row_of table.now at width }
+// Octets as a row of cells; the cells behind them are 0. Written by their index: of cells that `iter_mut`
+// hands to a `zip` a proof knows nothing afterwards.
+fn cells_of(octets: &[u8]) -> [u8; 22]
+    requires { length octets.now ≤ 22 }
+    ensures { result ≡ build 22 (λ column. get_or octets.now column 0) }
 {
     let mut row = [0u8; 22];
-    let mut column = 0;
-    while column < width {
-        row[column] = table[at + column];
-        column += 1;
+    for (column, octet) in octets.iter().enumerate() {
+        row[column] = *octet;
     }
     row
 }
 
-fn rows_of(controls: Controls, table: &[u8]) -> [[u8; 22]; 15]
-    requires { Sized controls table.now }
-    ensures { result ≡ matrix_of controls table.now }
-{
-    let sections = sections_of(controls);
-    let seasons = controls.seasons;
-    let width = sections.width;
-    let mut rows = [[0u8; 22]; 15];
-    let mut row = 0;
-    let mut at = sections.matrix;
-    while row < seasons {
-        rows[row] = row_at(table, at, width);
-        at += width;
-        row += 1;
-    }
-    rows
-}
-
 // THE PUBLIC CALLS
 // The tier at a date and time, for summations or demands.
+#[tactic(auto, unfolding(meaning::specs::Calendar::tier_reply, meaning::specs::Calendar::tier_in))]
 pub fn tier(description: &[u8], image: &[u8], moment: Moment, quantity: Quantity) -> Reply
     ensures { result ≡ tier_reply description.now image.now moment quantity }
 {
-    let calendar = calendar_at(description, image);
-    match calendar {
-        Calendar::Refused(r) => Reply::Refused(r),
-        Calendar::At {
-            controls,
-            start,
-            length,
-        } => tier_in(
-            octets::data_order(image),
-            controls,
-            octets::part(image, start, length),
-            moment,
-            quantity,
-        ),
+    match Calendar::of(description, image) {
+        Err(r) => Reply::Refused(r),
+        Ok(calendar) => calendar.tier_in(moment, quantity),
     }
 }
 
 // Whether any season record with a real date stands at or before a date.
+#[tactic(auto, unfolding(meaning::specs::Calendar::seasoned_reply, meaning::specs::Calendar::seasoned_in))]
 pub fn seasoned(description: &[u8], image: &[u8], date: Date) -> Reply
     ensures { result ≡ seasoned_reply description.now image.now date }
 {
-    let calendar = calendar_at(description, image);
-    match calendar {
-        Calendar::Refused(r) => Reply::Refused(r),
-        Calendar::At {
-            controls,
-            start,
-            length,
-        } => seasoned_in(
-            octets::data_order(image),
-            controls,
-            octets::part(image, start, length),
-            date,
-        ),
+    match Calendar::of(description, image) {
+        Err(r) => Reply::Refused(r),
+        Ok(calendar) => calendar.seasoned_in(date),
     }
 }
 
 // The matrix; all cells 0 on refusal.
+#[tactic(auto, unfolding(meaning::specs::Calendar::matrix_reply, meaning::specs::Calendar::matrix_in, meaning::specs::Basics::build))]
 pub fn matrix(description: &[u8], image: &[u8]) -> [[u8; 22]; 15]
     ensures { result ≡ matrix_reply description.now image.now }
 {
-    let mut cells = [[0u8; 22]; 15];
-    matrix_into(description, image, &mut cells);
-    cells
+    match Calendar::of(description, image) {
+        Err(_) => [[0; 22]; 15],
+        Ok(calendar) => calendar.rows(),
+    }
 }
 
 // The matrix's refusal.
+#[tactic(auto, unfolding(meaning::specs::Calendar::matrix_verdict, meaning::specs::Calendar::matrix_verdict_in))]
 pub fn matrix_verdict(description: &[u8], image: &[u8]) -> Verdict
     ensures { result ≡ matrix_verdict description.now image.now }
 {
-    let calendar = calendar_at(description, image);
-    match calendar {
-        Calendar::Refused(r) => Verdict::Refused(r),
-        Calendar::At {
-            controls: _,
-            start: _,
-            length: _,
-        } => Verdict::Passed,
+    match Calendar::of(description, image) {
+        Err(r) => Verdict::Refused(r),
+        Ok(_) => Verdict::Passed,
     }
 }
 
 // The matrix into cells, and its refusal. A refused call leaves cells as they are.
+#[tactic(auto, unfolding(meaning::specs::Calendar::matrix_verdict, meaning::specs::Calendar::matrix_verdict_in, meaning::specs::Calendar::matrix_reply, meaning::specs::Calendar::matrix_in, meaning::specs::Calendar::cells_after))]
 pub fn matrix_into(description: &[u8], image: &[u8], cells: &mut [[u8; 22]; 15]) -> Verdict
     ensures reply { result ≡ matrix_verdict description.now image.now }
     ensures cells { cells.new ≡ cells_after (matrix_verdict description.now image.now) (matrix_reply description.now image.now) cells.old }
 {
-    let calendar = calendar_at(description, image);
-    match calendar {
-        Calendar::Refused(r) => Verdict::Refused(r),
-        Calendar::At {
-            controls,
-            start,
-            length,
-        } => {
-            *cells = rows_of(controls, octets::part(image, start, length));
+    match Calendar::of(description, image) {
+        Err(r) => Verdict::Refused(r),
+        Ok(calendar) => {
+            *cells = calendar.rows();
             Verdict::Passed
         }
     }

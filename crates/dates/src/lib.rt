@@ -9,19 +9,10 @@ ghost use Rattle.dates.specs.Days.{day_of};
 use basics::{both, either};
 use meaning::{Date, Refusal, Reply};
 
-// A day's number, 1 January 1990 being 0; or that there is no such date.
-#[derive(Clone, Copy)]
-pub enum Day {
-    NotReal,
-    Number(u32),
-}
-
-// The lengths of months by their numbers, in a year that is no leap year.
-const MONTHS: [u32; 13] = [0, 31, 28, 31, 30, 31, 30, 31, 31, 30, 31, 30, 31];
-
-// And how many days come before each.
+// How many days come before each month, by its number, in a year that is no leap year.
 const DAYS_BEFORE: [u32; 13] = [0, 0, 31, 59, 90, 120, 151, 181, 212, 243, 273, 304, 334];
 
+#[tactic(auto, unfolding(meaning::specs::Calendar::leap))]
 fn is_leap(year: u32) -> bool
     ensures { result ≡ leap year }
 {
@@ -29,21 +20,20 @@ fn is_leap(year: u32) -> bool
 }
 
 // No such month has no days.
+#[tactic(auto, unfolding(meaning::specs::Calendar::month_length))]
 fn month_length(year: u32, month: u32) -> u32
     ensures { result ≡ month_length year month }
 {
-    if 12 < month {
-        return 0;
+    match month {
+        1 | 3 | 5 | 7 | 8 | 10 | 12 => 31,
+        4 | 6 | 9 | 11 => 30,
+        2 if is_leap(year) => 29,
+        2 => 28,
+        _ => 0,
     }
-    if month == 2 {
-        if is_leap(year) {
-            return 29;
-        }
-        return 28;
-    }
-    MONTHS[month as usize]
 }
 
+#[tactic(auto, unfolding(meaning::specs::Calendar::real_date))]
 fn is_real(year: u32, month: u32, day: u32) -> bool
     ensures { result ≡ real_date year month day }
 {
@@ -53,6 +43,7 @@ fn is_real(year: u32, month: u32, day: u32) -> bool
 
 // The days of so many years from 1990 on. Every fourth has one more: 1992 is the first of them, and 2000
 // is one of them. 2100 would be the first that isn't, so 1990 to 2099 are as far as this goes.
+#[tactic(auto, using(almanac::proofs::Days::years_at_once), unfolding(almanac::specs::Days::every_fourth))]
 fn year_days(years: u32) -> u32
     requires { years ≤ 110 }
     ensures { result ≡ year_days years }
@@ -72,17 +63,20 @@ fn month_days(year: u32, month: u32) -> u32
     days
 }
 
-// Worked out at once: it takes as long for every date.
-pub fn day_of(year: u32, month: u32, day: u32) -> Day
+// A day's number, 1 January 1990 being 0; none where there is no such date. It is worked out at once: it
+// takes as long for every date.
+#[tactic(auto, using(almanac::proofs::Days::real, crate::proofs::Laws::day_fits), unfolding(crate::specs::Days::day_of, meaning::specs::Calendar::day_number))]
+pub fn day_of(year: u32, month: u32, day: u32) -> Option<u32>
     ensures { result ≡ day_of year month day }
 {
     if is_real(year, month, day) {
-        return Day::Number(year_days(year - 1990) + month_days(year, month) + (day - 1));
+        return Some(year_days(year - 1990) + month_days(year, month) + (day - 1));
     }
-    Day::NotReal
+    None
 }
 
 // 0 is Sunday, 6 Saturday. The remainder is taken first, as the number after the last wouldn't fit.
+#[tactic(auto, unfolding(meaning::specs::Calendar::weekday_of))]
 pub fn weekday(day: u32) -> u32
     ensures { result ≡ weekday_of day }
 {
@@ -93,14 +87,14 @@ pub fn weekday(day: u32) -> u32
 pub fn weekday_of(date: Date) -> Reply
     ensures { result ≡ weekday_reply date }
 {
-    let day = day_of(date.year, date.month, date.day);
-    match day {
-        Day::NotReal => Reply::Refused(Refusal::NOT_A_DATE),
-        Day::Number(number) => Reply::Weekday(weekday(number)),
+    match day_of(date.year, date.month, date.day) {
+        None => Reply::Refused(Refusal::NOT_A_DATE),
+        Some(day) => Reply::Weekday(weekday(day)),
     }
 }
 
 // Whether it is a time 00:00 to 23:59.
+#[tactic(auto, unfolding(meaning::specs::Calendar::real_time))]
 pub fn is_time(hour: u32, minute: u32) -> bool
     ensures { result ≡ real_time hour minute }
 {

@@ -1,26 +1,30 @@
 -- What records bring, case by case. Assumes nothing.
 use Prim.Native.Nat.{ℕ, zero, suc, ◌+◌, ◌-◌, ◌*◌, ◌/◌, ◌%◌, ◌^◌, ◌<◌, ◌≤◌}
 use mathlib.Core.Path.{◌≡◌, refl, sym, ◌∙◌, ap, ap₂, subst}
-use mathlib.Core.Bool.{Bool, ◌&&◌}
-use mathlib.Core.List.{List, ◌∷◌}
-use lib.ListN.{length, take, drop, length-drop}
+use mathlib.Core.Bool.{Bool, true, false, ◌&&◌, and-true, and-false}
+use mathlib.Core.Logic.{⊎_elim}
+use mathlib.Core.List.{List, [], ◌∷◌, ◌++◌}
+use lib.ListN.{length, get_or, take, drop, length-drop}
 use lib.Seq.{length-take-le}
 use native.Mathlib.Omega.{arith}
+use Rattle.std.specs.Prelude.{Option, Some, None, map, if◌then◌else◌}
+use Rattle.std.specs.Simd.{first_chunks}
+use borrow.Author.Tests.{le-leb, lt-leb}
+use Rattle.std.proofs.lemmas.List.{map_more, drop-drop}
+use Rattle.almanac.proofs.Tests.{lt_or_ge}
+use Rattle.almanac.proofs.Latest.{none_later}
 use Rattle.meaning.specs.Basics.{◌=?◌, ◌≤?◌, part, number_in}
-use Rattle.meaning.specs.Calendar.{triple_at, triples, entry_if, or_later, latest, real_time, year_of, record_real, record_day, action, counts, switch_minute, switch_entry}
+use Rattle.meaning.specs.Calendar.{triple_at, triples, entry_if, or_later, latest, record_real, record_day, action, selects_season, season_entry, special_entry}
 use Rattle.meaning.specs.declared.Chosen.{Chosen}
-use Rattle.meaning.specs.declared.Chosen.TheVariants.{Nothing}
-use Rattle.meaning.specs.declared.Quantity.{Quantity}
+use Rattle.meaning.specs.declared.Chosen.TheVariants.{Nothing, Entry}
 use Rattle.meaning.specs.declared.Triple.{Triple}
 use Rattle.meaning.proofs.Splices.{part_long, part_at, part_part}
 use Rattle.basics.proofs.Bits.{from_bit_0}
 use Rattle.octets.specs.Octets.{number_of}
 use Rattle.octets.proofs.Laws.{number_few}
-use Rattle.dates.specs.declared.Day.{Day}
 use Rattle.dates.specs.Days.{day_of}
-use Rattle.dates.proofs.Laws.{told}
 use Rattle.records.specs.declared.Wanted.{Wanted}
-use Rattle.records.specs.Records.{record_date, due_on, date_entry, brought_to, latest_in, Searching}
+use Rattle.records.specs.Records.{record_date, selected, brought_to, latest_in}
 
 -- A RECORD
 -- the two octets of its number, cut out
@@ -42,54 +46,25 @@ unfolding action
 action_is r = from_bit_0 r.octet 32
 
 -- A DATE
--- a record's date, by its three fields
-pub date_is : (r : Triple) (y : ℕ) (d : Day) → y ≡ year_of (r.word % 128) → d ≡ day_of y (r.word / 128 % 16) (r.word / 2048 % 32) → d ≡ record_date r
-unfolding record_date
-date_is r y d e h = h ∙ rw (e, from_bit_0 r.word 128)
+-- what is brought by a date, where it is due, and by what its action selects
+abbrev pub dated : (due : ℕ → Bool) → (date selected : Option ℕ) → Chosen
+dated due (Some w) (Some x) = if due w then Entry w x else Nothing
+dated due (Some w) None = Nothing
+dated due None x = Nothing
 
--- what it brings on a day, where its action is one of some: nothing without a real date
-module _ (once : Bool) (low high today : ℕ) (r : Triple) (date : Day) (is : date ≡ record_date r) where
-  pub date_none : date ≡ Day.NotReal → Nothing ≡ date_entry once low high today r
-  unfolding record_date date_entry record_real
-  date_none e = rw (told _ _ _ Day.NotReal (sym is ∙ e))
+dated_is : (due : ℕ → Bool) (w x : ℕ) (real a b : Bool) → entry_if (real && due w && a && b) w x ≡ dated due (if real then Some w else None) (if a && b then Some x else None)
+dated_is due w x false a b = refl
+dated_is due w x true false b = rw and-false
+dated_is due w x true true false = rw and-false
+dated_is due w x true true true = simp and-true
 
-  -- else by its day and its action
-  pub date_some : (n : ℕ) (due a b : Bool) (k : ℕ) (x : Chosen) → date ≡ Day.Number n → due ≡ due_on once n today → a ≡ (due && low ≤? r.octet % 32)
-      → b ≡ (a && r.octet % 32 ≤? high) → k ≡ r.octet % 32 - low → x ≡ entry_if b n k → x ≡ date_entry once low high today r
-  unfolding record_date date_entry record_real record_day
-  date_some n due a b k x e d-is a-is b-is k-is x_is =
-      let t = told _ _ _ (Day.Number n) (sym is ∙ e) in x_is ∙ rw (b-is, a-is, d-is, k-is, t.0, t.1, action_is r)
+pub season_is : (today : ℕ) (r : Triple) → season_entry today r ≡ dated (λ w. w ≤? today) (record_date r) (selected 3 18 (r.octet % 32))
+unfolding season_entry selects_season record_date record_real record_day selected day_of
+season_is today r = rw action_is (dated_is (λ w. w ≤? today) _ _ _ _ _)
 
--- A SWITCH, by its number, its time and its flags
-pub switch_is : (separate : Bool) (q : Quantity) (n m : ℕ) (r : Triple) (time a b c k : Bool) (x : Chosen) → time ≡ real_time (r.word / 2048 % 32) (r.word / 32 % 64)
-    → a ≡ (r.octet =? n && time) → b ≡ (a && 60 * (r.word / 2048 % 32) + r.word / 32 % 64 ≤? m) → k ≡ counts separate q r.word → c ≡ (b && k)
-    → x ≡ entry_if c (60 * (r.word / 2048 % 32) + r.word / 32 % 64) (r.word % 8) → x ≡ switch_entry separate q n m r
-unfolding switch_entry switch_minute
-switch_is separate q n m r time a b c k x t-is a-is b-is k-is c-is x_is = x_is ∙ rw (c-is, b-is, a-is, k-is, t-is, from_bit_0 r.word 8)
-
--- THE LATEST, from the last record back
-module _ (o : ℕ) (xs : List ℕ) (w : Wanted) where
-  -- before the last
-  pub search_none : (left : ℕ) → left ≡ length xs / 3 → Searching o xs w left Nothing
-  unfolding triples latest
-  search_none left e = let z : length xs / 3 - left ≡ 0 = omega arith in record { within = omega arith; is = rw z }
-
-  -- one record more
-  pub search_next : (left : ℕ) (chosen brought later : Chosen) (r : Triple) → Searching o xs w left chosen → 0 < left → r ≡ triple_at o xs (3 * (left - 1))
-      → brought ≡ brought_to w r → later ≡ or_later brought chosen → Searching o xs w (left - 1) later
-  unfolding triples latest
-  search_next left chosen brought later r s h e b l =
-      let z : length xs / 3 - (left - 1) ≡ suc (length xs / 3 - left) = omega (arith, s.within) in
-      let n : 3 * (left - 1) + 3 ≡ 3 * left = omega arith in
-      record { within = omega (arith, s.within); is = l ∙ ap₂ or_later (b ∙ ap (brought_to w) e) s.is ∙ rw (z, n) }
-
-  -- all of them
-  pub search_all : (left : ℕ) (chosen : Chosen) → Searching o xs w left chosen → left ≤ 0 → chosen ≡ latest_in o xs w
-  unfolding latest_in
-  search_all left chosen s h =
-      let z : left ≡ 0 = omega arith in
-      let n : length xs / 3 - 0 ≡ length xs / 3 = omega arith in
-      s.is ∙ rw (z, n)
+pub special_is : (today : ℕ) (r : Triple) → special_entry today r ≡ dated (λ w. w =? today) (record_date r) (selected 19 30 (r.octet % 32))
+unfolding special_entry record_date record_real record_day selected day_of
+special_is today r = rw action_is (dated_is (λ w. w =? today) _ _ _ _ _)
 
 -- RECORDS OF A TABLE, cut out of it
 module _ (o : ℕ) (t : List ℕ) (at m : ℕ) (inside : at + m ≤ length t) where
@@ -103,6 +78,47 @@ module _ (o : ℕ) (t : List ℕ) (at m : ℕ) (inside : at + m ≤ length t) wh
   triples_part k (suc n) h =
       let z : at + k + 3 ≡ at + (k + 3) = omega arith in
       ap₂ (λ (r : Triple) (rs : List Triple). r ∷ rs) (triple_part k (omega arith)) (triples_part (k + 3) n (omega arith) ∙ ap (λ (p : ℕ). triples o t p n) (sym z))
+
+-- THE LATEST, from the first record on
+or_later_assoc : (a b c : Chosen) → or_later (or_later a b) c ≡ or_later a (or_later b c)
+unfolding or_later
+or_later_assoc Nothing b c = refl
+or_later_assoc (Entry w x) Nothing c = refl
+or_later_assoc (Entry w x) (Entry v y) Nothing = none_later _
+or_later_assoc (Entry w x) (Entry v y) (Entry u z) =
+    ⊎_elim
+    (λ p. ⊎_elim (λ q. rw (lt-leb w v p, lt-leb v u q, lt-leb w v p, lt-leb w u (omega arith))) (λ q. rw (lt-leb w v p, le-leb v u q)) (lt_or_ge u v))
+    (λ p. ⊎_elim (λ q. rw (le-leb w v p, lt-leb v u q, le-leb w v p)) (λ q. rw (le-leb w v p, le-leb v u q, le-leb w u (omega arith))) (lt_or_ge u v))
+    (lt_or_ge v w)
+
+latest_more : (f : Triple → Chosen) (rs : List Triple) (r : Triple) → latest f (rs ++ r ∷ []) ≡ or_later (latest f rs) (f r)
+unfolding latest or_later
+latest_more f [] r = none_later (f r)
+latest_more f (s ∷ rs) r = rw (latest_more f rs r) (sym (or_later_assoc (f s) (latest f rs) (f r)))
+
+-- of whole records, the latest of the first so many
+module _ (o : ℕ) (w : Wanted) where
+  abbrev pub latest_of : List (List ℕ) → Chosen
+  latest_of whole = latest (brought_to w) (map (λ r. triple_at o r 0) whole)
+
+  -- one record more
+  pub latest_next : (whole : List (List ℕ)) (k : ℕ) → k < length whole
+      → or_later (latest_of (take k whole)) (brought_to w (triple_at o (get_or whole k []) 0)) ≡ latest_of (take (k + 1) whole)
+  latest_next whole k h = rw (map_more _ whole k [] h) (sym (latest_more (brought_to w) _ _))
+
+  -- whole records are those that a table is cut into
+  records_of : (t : List ℕ) (at n : ℕ) → at + 3 * n ≤ length t → map (λ r. triple_at o r 0) (first_chunks 3 n (drop at t)) ≡ triples o t at n
+  unfolding triples part
+  records_of t at zero h = refl
+  records_of t at (suc n) h =
+      let z : at + 0 ≡ at = omega arith in
+      ap₂ (λ (r : Triple) (rs : List Triple). r ∷ rs) (triple_part o t at 3 (omega arith) 0 (omega arith) ∙ ap (triple_at o t) z)
+      (rw drop-drop (records_of t (at + 3) n (omega arith)))
+
+  -- all of them
+  pub latest_whole : (xs : List ℕ) → latest_of (first_chunks 3 (length xs / 3) xs) ≡ latest_in o xs w
+  unfolding latest_in
+  latest_whole xs = ap (latest (brought_to w)) (records_of xs 0 (length xs / 3) (omega arith))
 
 pub latest_part : (o : ℕ) (t : List ℕ) (at n : ℕ) (w : Wanted) → at + 3 * n ≤ length t → latest_in o (part t at (3 * n)) w ≡ latest (brought_to w) (triples o t at n)
 unfolding latest_in

@@ -1,25 +1,20 @@
 -- RECORDS OF TABLE 54: what they bring to whoever asks. Assumes nothing.
-use Rattle.std.specs.Prelude.{ℕ, ◌-◌, ◌*◌, ◌/◌, ◌≤◌, ◌≡◌, Bool, ◌&&◌, List, length, if◌then◌else◌}
-use Rattle.meaning.specs.Basics.{bits, ◌=?◌, ◌≤?◌}
-use Rattle.meaning.specs.Calendar.{triples, entry_if, latest, year_of, record_real, record_day, action, season_entry, special_entry, switch_entry}
+use Rattle.std.specs.Prelude.{ℕ, Option, Some, None, ◌-◌, ◌/◌, ◌&&◌, List, length, if◌then◌else◌}
+use Rattle.meaning.specs.Basics.{bits, ◌≤?◌}
+use Rattle.meaning.specs.Calendar.{triples, latest, year_of, season_entry, special_entry, switch_entry}
 use Rattle.meaning.specs.declared.Chosen.{Chosen}
 use Rattle.meaning.specs.declared.Triple.{Triple}
-use Rattle.dates.specs.declared.Day.{Day}
 use Rattle.dates.specs.Days.{day_of}
 use Rattle.records.specs.declared.Wanted.{Wanted}
 use Rattle.records.specs.declared.Wanted.TheVariants.{Season, Special, Switch}
 
--- a record's date, as a day's number or as no real date
-unfoldable pub record_date : Triple → Day
+-- a record's date, as a day's number, where it is real
+unfoldable pub record_date : Triple → Option ℕ
 record_date r = day_of (year_of (bits 6 0 r.word)) (bits 10 7 r.word) (bits 15 11 r.word)
 
--- a season holds from its day on, a special schedule on that day alone
-unfoldable pub due_on : (once : Bool) → (when today : ℕ) → Bool
-due_on once w n = if once then w =? n else w ≤? n
-
--- what a date brings on a day, where its action is one of some: season_entry and special_entry are so
-unfoldable pub date_entry : (once : Bool) → (low high today : ℕ) → Triple → Chosen
-date_entry once l h n r = entry_if (record_real r && due_on once (record_day r) n && l ≤? action r && action r ≤? h) (record_day r) (action r - l)
+-- what an action selects, where it is one of some: the first of them selects 0
+unfoldable pub selected : (first last action : ℕ) → Option ℕ
+selected f l a = if f ≤? a && a ≤? l then Some (a - f) else None
 
 -- what a record brings to whoever asks
 unfoldable pub brought_to : Wanted → Triple → Chosen
@@ -30,8 +25,3 @@ brought_to (Switch separate q n m) r = switch_entry separate q n m r
 -- the latest of what whole records of three octets bring
 unfoldable pub latest_in : (order : ℕ) → (records : List ℕ) → Wanted → Chosen
 latest_in o xs w = latest (brought_to w) (triples o xs 0 (length xs / 3))
-
--- of the last records, all but the first so many, the latest is chosen
-pub record Searching (o : ℕ) (xs : List ℕ) (w : Wanted) (left : ℕ) (chosen : Chosen) : Type 0 where
-  pub within : left ≤ length xs / 3
-  pub is : chosen ≡ latest (brought_to w) (triples o xs (3 * left) (length xs / 3 - left))

@@ -1,19 +1,19 @@
 // Records of Table 54, three octets each: what a record brings to whoever asks, and the latest of
 // what some records bring.
 //
-// Any octets may be given; one or two past the last whole record aren't read. Tests are joined and
-// made into a reply by functions without a branch, so that each reply is one equation.
+// Any octets may be given; one or two past the last whole record aren't read. Tests are joined by
+// functions without a branch, so that the proofs have few cases.
 #![tactic(auto)]
 
-ghost use Rattle.std.specs.Prelude.{◌≡◌, ◌+◌, ◌-◌, ◌≤◌, length};
-ghost use Rattle.meaning.specs.Calendar.{triple_at, entry_if, or_later, year_of, flagged_for, counts, switch_entry};
-ghost use Rattle.records.specs.Records.{record_date, due_on, date_entry, brought_to, latest_in};
+ghost use Rattle.std.specs.Prelude.{◌≡◌};
+ghost use Rattle.meaning.specs.Calendar.{triple_at, or_later, year_of, flagged_for, counts, season_entry, special_entry, switch_entry};
+ghost use Rattle.records.specs.Records.{record_date, selected, brought_to, latest_in};
 
 use basics::{both, either, wide};
-use dates::Day;
 use meaning::{Chosen, Quantity, Triple};
 
-// What is wanted of some records.
+// What is wanted of some records. An enum and no closure, since crates/unique states of `latest` over it
+// that a call has one reply.
 #[derive(Clone, Copy)]
 pub enum Wanted {
     // The season on a day, the special schedule on a day.
@@ -33,86 +33,74 @@ pub enum Wanted {
 }
 
 // A RECORD
-fn triple_at(order: u32, records: &[u8], at: usize) -> Triple
-    requires { at + 3 ≤ length records.now }
-    ensures { result ≡ triple_at order records.now at }
+fn triple_of(order: u32, raw: &[u8; 3]) -> Triple
+    ensures { result ≡ triple_at order raw.now 0 }
 {
-    let last = at + 2;
-    let word = octets::number_in(&records[at..last], order) as u32;
-    let octet = wide(records[last]);
-    Triple { word, octet }
-}
-
-fn entry_if(holds: bool, when: u32, brings: u32) -> Chosen
-    ensures { result ≡ entry_if holds when brings }
-{
-    if holds {
-        return Chosen::Entry { when, brings };
+    Triple {
+        word: octets::number_in(&raw[..2], order) as u32,
+        octet: wide(raw[2]),
     }
-    Chosen::Nothing
-}
-
-// What is left of a number above another; 0 where it isn't above.
-fn above(x: u32, low: u32) -> u32
-    ensures { result ≡ x - low }
-{
-    if x < low {
-        return 0;
-    }
-    x - low
 }
 
 // WHAT A DATE BRINGS
 // The year of two digits; 100 and over are no years.
+#[tactic(auto, unfolding(meaning::specs::Calendar::year_of))]
 fn year_of(digits: u32) -> u32
     ensures { result ≡ year_of digits }
 {
-    if digits < 90 {
-        return 2000 + digits;
+    match digits {
+        0..=89 => 2000 + digits,
+        90..=99 => 1900 + digits,
+        _ => 0,
     }
-    if digits < 100 {
-        return 1900 + digits;
-    }
-    0
 }
 
-fn record_date(triple: Triple) -> Day
+#[tactic(auto, using(basics::proofs::Bits::from_bit_0), unfolding(crate::specs::Records::record_date))]
+fn record_date(triple: Triple) -> Option<u32>
     ensures { result ≡ record_date triple }
 {
     let year = year_of(triple.word % 128);
     dates::day_of(year, triple.word / 128 % 16, triple.word / 2048 % 32)
 }
 
-// A season holds from its day on, a special schedule on that day alone: `once`.
-fn is_due(once: bool, when: u32, today: u32) -> bool
-    ensures { result ≡ due_on once when today }
+// What an action selects, where it is one of `first` to `last`: the first selects 0.
+#[tactic(auto, unfolding(crate::specs::Records::selected))]
+fn selected(first: u32, last: u32, action: u32) -> Option<u32>
+    ensures { result ≡ selected first last action }
 {
-    if once {
-        return when == today;
+    if both(first <= action, action <= last) {
+        return Some(action - first);
     }
-    when <= today
+    None
 }
 
-// What a date brings on a day, where its action is one of `low` to `high`.
-fn date_entry(once: bool, low: u32, high: u32, today: u32, triple: Triple) -> Chosen
-    ensures { result ≡ date_entry once low high today triple }
+// A season holds from its day on, and actions 3 to 18 select it. This and the next compare the day
+// differently; one function that is handed the comparison would be no plainer.
+#[tactic(auto, using(crate::proofs::Laws::season_is))]
+fn season_entry(today: u32, triple: Triple) -> Chosen
+    ensures { result ≡ season_entry today triple }
 {
-    let date = record_date(triple);
-    let action = triple.octet % 32;
-    match date {
-        Day::NotReal => Chosen::Nothing,
-        Day::Number(when) => entry_if(
-            both(
-                both(is_due(once, when, today), low <= action),
-                action <= high,
-            ),
-            when,
-            above(action, low),
-        ),
+    let season = selected(3, 18, triple.octet % 32);
+    match (record_date(triple), season) {
+        (Some(when), Some(brings)) if when <= today => Chosen::Entry { when, brings },
+        _ => Chosen::Nothing,
+    }
+}
+
+// A special schedule holds on its day alone, and actions 19 to 30 select it.
+#[tactic(auto, using(crate::proofs::Laws::special_is))]
+fn special_entry(today: u32, triple: Triple) -> Chosen
+    ensures { result ≡ special_entry today triple }
+{
+    let special = selected(19, 30, triple.octet % 32);
+    match (record_date(triple), special) {
+        (Some(when), Some(brings)) if when == today => Chosen::Entry { when, brings },
+        _ => Chosen::Nothing,
     }
 }
 
 // WHAT A SWITCH BRINGS
+#[tactic(auto, unfolding(meaning::specs::Calendar::flagged_for))]
 fn flagged_for(quantity: Quantity, word: u32) -> bool
     ensures { result ≡ flagged_for quantity word }
 {
@@ -122,12 +110,14 @@ fn flagged_for(quantity: Quantity, word: u32) -> bool
     }
 }
 
+#[tactic(auto, unfolding(meaning::specs::Calendar::counts))]
 fn does_count(separate: bool, quantity: Quantity, word: u32) -> bool
     ensures { result ≡ counts separate quantity word }
 {
     either(!separate, flagged_for(quantity, word))
 }
 
+#[tactic(auto, using(basics::proofs::Bits::from_bit_0), unfolding(meaning::specs::Calendar::switch_entry, meaning::specs::Calendar::switch_minute))]
 fn switch_entry(
     separate: bool,
     quantity: Quantity,
@@ -143,20 +133,23 @@ fn switch_entry(
     let when = 60 * hours + minutes;
     let of_it = both(triple.octet == schedule, dates::is_time(hours, minutes));
     let come = both(of_it, when <= minute);
-    entry_if(
-        both(come, does_count(separate, quantity, word)),
-        when,
-        word % 8,
-    )
+    if both(come, does_count(separate, quantity, word)) {
+        return Chosen::Entry {
+            when,
+            brings: word % 8,
+        };
+    }
+    Chosen::Nothing
 }
 
 // THE LATEST
+#[tactic(auto, unfolding(crate::specs::Records::brought_to))]
 fn brought_to(wanted: Wanted, triple: Triple) -> Chosen
     ensures { result ≡ brought_to wanted triple }
 {
     match wanted {
-        Wanted::Season { today } => date_entry(false, 3, 18, today, triple),
-        Wanted::Special { today } => date_entry(true, 19, 30, today, triple),
+        Wanted::Season { today } => season_entry(today, triple),
+        Wanted::Special { today } => special_entry(today, triple),
         Wanted::Switch {
             separate,
             quantity,
@@ -167,39 +160,39 @@ fn brought_to(wanted: Wanted, triple: Triple) -> Chosen
 }
 
 // Of what two records bring, the later; of equals, what the later record brings.
+#[tactic(auto, unfolding(meaning::specs::Calendar::or_later))]
 fn or_later(earlier: Chosen, later: Chosen) -> Chosen
     ensures { result ≡ or_later earlier later }
 {
-    match earlier {
-        Chosen::Nothing => later,
-        Chosen::Entry {
-            when: first,
-            brings: _,
-        } => match later {
-            Chosen::Nothing => earlier,
+    match (earlier, later) {
+        (_, Chosen::Nothing) => earlier,
+        (Chosen::Nothing, _) => later,
+        (
+            Chosen::Entry {
+                when: first,
+                brings: _,
+            },
             Chosen::Entry {
                 when: second,
                 brings: _,
-            } => {
-                if first <= second {
-                    return later;
-                }
-                earlier
+            },
+        ) => {
+            if first <= second {
+                return later;
             }
-        },
+            earlier
+        }
     }
 }
 
-// The latest of what some records bring, from the last record back to the first.
+// The latest of what some records bring.
 pub fn latest(order: u32, records: &[u8], wanted: Wanted) -> Chosen
     ensures { result ≡ latest_in order records.now wanted }
 {
-    let mut left = records.len() / 3;
+    let (whole, _) = records.as_chunks::<3>();
     let mut chosen = Chosen::Nothing;
-    while 0 < left {
-        left -= 1;
-        let triple = triple_at(order, records, 3 * left);
-        chosen = or_later(brought_to(wanted, triple), chosen);
+    for record in whole {
+        chosen = or_later(chosen, brought_to(wanted, triple_of(order, record)));
     }
     chosen
 }

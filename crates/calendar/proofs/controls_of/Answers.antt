@@ -11,7 +11,7 @@ use Rattle.calendar.proofs.controls_of.Goals as goal
 pub returns : goal.returns
 unfolding controls_of
 returns c =
-    let inside : 5 + 3 ≤ length c.args.table.now = omega (arith, c.requires) in record {
+    let inside : 5 + 3 ≤ length c.args.table.now = omega arith in record {
       reply = rw (
         from_bit_0 c.wide-schedules.result 16,
         c.wide-first.ensures.0,

@@ -1,28 +1,18 @@
--- `records::latest`: the loop has the latest of the records after those that are left (Searching); these are its measure. Assumes nothing.
-use native.Mathlib.Omega.{arith}
-use mathlib.Core.Path.{refl}
-use Rattle.records.proofs.Laws.{search_none, search_next, search_all}
+-- `records::latest`: the loop has the latest of the records before this one. Assumes nothing.
+use mathlib.Core.Path.{refl, ◌∙◌}
+use Rattle.std.proofs.lemmas.List.{take_all}
+use Rattle.meaning.specs.Calendar.{latest}
+use Rattle.records.proofs.Laws.{latest_next, latest_whole}
 use Rattle.records.proofs.latest.Goals as goal
 
-pub loop-left-init : goal.loop-left-init
-loop-left-init c = search_none _ _ _ _ refl
+pub loop-record-init : goal.loop-record-init
+unfolding latest
+loop-record-init c = refl
 
-pub overflow_sub-left : goal.overflow_sub-left
-overflow_sub-left c = c.loop-left-test.true
-
-pub overflow_mul-left : goal.overflow_mul-left
-overflow_mul-left c = omega (arith, c.loop-left.invariant.within)
-
-pub triple_at-triple-requires : goal.triple_at-triple-requires
-triple_at-triple-requires c = omega (arith, c.loop-left.invariant.within)
-
-pub loop-left-smaller : goal.loop-left-smaller
-loop-left-smaller c = omega (arith, c.loop-left-test.true)
-
-pub loop-left-preserved : goal.loop-left-preserved
-loop-left-preserved c =
-    search_next _ _ _ _ _ _ _ _ c.loop-left.invariant c.loop-left-test.true
-    c.triple_at-triple.ensures c.brought_to.ensures c.or_later-chosen.ensures
+pub loop-record-preserved : goal.loop-record-preserved
+loop-record-preserved c =
+    c.or_later-chosen.ensures ∙ rw (c.brought_to.ensures, c.triple_of.ensures, c.loop-record.invariant)
+    (latest_next _ _ _ _ c.loop-record-test.true)
 
 pub returns : goal.returns
-returns c = search_all _ _ _ _ _ c.loop-left.invariant c.loop-left-test.false
+returns c = c.loop-record.invariant ∙ rw (take_all _ _ c.loop-record-test.false, c.as_chunks.ensures.front) (latest_whole _ _ _)

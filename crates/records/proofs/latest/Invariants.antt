@@ -1,9 +1,8 @@
--- `records::latest`: the loop has the latest of the records after those that are left (Searching); these are its measure. Assumes nothing.
-use Rattle.records.specs.Records.{Searching}
+-- `records::latest`: the loop has the latest of the records before this one. Assumes nothing.
+use mathlib.Core.Path.{◌≡◌}
+use lib.ListN.{take}
+use Rattle.records.proofs.Laws.{latest_of}
 use Rattle.records.proofs.latest.Given as goal
 
-abbrev pub invariant-loop-left : goal.invariant-loop-left
-invariant-loop-left l = Searching l.order l.records l.wanted l.left l.chosen
-
-abbrev pub decreases-loop-left : goal.decreases-loop-left
-decreases-loop-left l = l.left
+abbrev pub invariant-loop-record : goal.invariant-loop-record
+invariant-loop-record l = l.chosen ≡ latest_of l.order l.wanted (take l.record-index l.whole)
