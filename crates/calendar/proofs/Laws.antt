@@ -12,11 +12,8 @@ use borrow.Author.Tests.{leb-true, leb-false}
 use Rattle.meaning.specs.Basics.{◌=?◌, ◌≤?◌, part}
 use Rattle.meaning.specs.Layout.{Seat, data_order, table_named}
 use Rattle.meaning.specs.Refusals.{seat_place, table_place_in, table_place_reply}
-use Rattle.meaning.specs.declared.Chosen.{Chosen}
-use Rattle.meaning.specs.declared.Chosen.TheVariants.{Nothing, Entry}
 use Rattle.meaning.specs.declared.Controls.{Controls}
 use Rattle.meaning.specs.declared.Moment.{Moment}
-use Rattle.meaning.specs.declared.Place.{Place}
 use Rattle.meaning.specs.declared.Quantity.{Quantity}
 use Rattle.meaning.specs.declared.Triple.{Triple}
 use Rattle.meaning.specs.Calendar.{real_time, weekday_of, dates_at, switches_at, matrix_at, day_columns, row_width, table54_size, latest, dates_of, season_on, season_stands, day_column, column_on, missing_special, switches_of, tier_from, tier_by_schedule, Found, missing, sized, seats_found, calendar_in, calendar}
@@ -32,6 +29,8 @@ use Rattle.laying.proofs.First.{table_00}
 use Rattle.laying.proofs.Opened.{Came, opens, refuses, came, opened_image}
 use Rattle.calendar.specs.declared.Sections.{Sections}
 use Rattle.calendar.specs.Sections.{Small, sections_of, Sized}
+use Rattle.std.specs.Prelude.{Ok, Err, Some, None}
+use Rattle.meaning.specs.Values.{Place, Chosen, at}
 
 -- WHERE THE PARTS OF TABLE 54 STAND
 dates_most : (c : Controls) → dates_at c ≤ 2
@@ -50,9 +49,9 @@ cells_few h e = mul-le-mul h.few_seasons (columns_few h e)
 
 -- 10, by the places of tables 51 and 54: table 00 is there
 abbrev pub calendar_by : (image : List ℕ) → (table51 table54 : Place) → Found
-calendar_by img (Place.Refused r) c = missing r
-calendar_by img (Place.At p l) (Place.Refused r) = missing r
-calendar_by img (Place.At p l) (Place.At q m) = sized (data_order img) (part img p.0 l) (part img q.0 m)
+calendar_by img (Err r) c = missing r
+calendar_by img (Ok e) (Err r) = missing r
+calendar_by img (Ok e) (Ok w) = sized (data_order img) (part img e.start.0 e.length) (part img w.start.0 w.length)
 
 seats_told : (img : List ℕ) (a : Seat) (b c : Option Seat) → calendar_by img (seat_place b) (seat_place c) ≡ seats_found img (some a) b c
 unfolding seat_place seats_found
@@ -84,8 +83,8 @@ module _ (c : Controls) (day : ℕ) where
 
   column_inside : (x : Chosen) → missing_special c x ≡ false → column_on c day x < row_width c
   unfolding missing_special column_on row_width
-  column_inside Nothing h = omega (arith, weekday_column)
-  column_inside (Entry w k) h = omega (arith, leb-false c.specials k h)
+  column_inside None h = omega (arith, weekday_column)
+  column_inside (Some e) h = omega (arith, leb-false c.specials e.brings h)
 
 -- A CELL
 pub cell_inside : {c : Controls} {t : List ℕ} {s : Sections} {row column : ℕ} → Sized c t → s ≡ sections_of c → row < c.seasons → column < row_width c

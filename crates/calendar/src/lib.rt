@@ -12,8 +12,8 @@ ghost use Rattle.meaning.specs.Calendar.{controls_of, dates_at, matrix_at, day_c
 ghost use Rattle.records.specs.Records.{brought_to};
 ghost use Rattle.calendar.specs.Sections.{Small, sections_of, Sized};
 
-use basics::{either, wide};
-use meaning::{Chosen, Controls, Date, Moment, Place, Quantity, Refusal, Reply, Verdict};
+use basics::wide;
+use meaning::{Answer, Chosen, Controls, Date, Moment, Quantity, Refusal, Reply, Verdict};
 use records::Wanted;
 
 // The columns of days: Sunday to Saturday; or Saturday, Sunday, weekday.
@@ -109,8 +109,8 @@ fn in_season(chosen: Chosen) -> usize
     ensures { result ≡ in_season chosen }
 {
     match chosen {
-        Chosen::Nothing => 0,
-        Chosen::Entry { when: _, brings } => brings as usize,
+        None => 0,
+        Some(season) => season.brings as usize,
     }
 }
 
@@ -121,20 +121,13 @@ impl<'a> Calendar<'a> {
         ensures missing { IfErr result (λ r. missing r ≡ calendar description.now image.now) }
     {
         let tables = places::table_places(description, image, 0, 51, 0, 54);
-        match tables.first {
-            Place::Refused(r) => Err(r),
-            Place::At {
-                start: from,
-                length: size,
-            } => match tables.second {
-                Place::Refused(r) => Err(r),
-                Place::At { start, length } => Calendar::sized(
-                    octets::data_order(image),
-                    octets::part(image, from, size),
-                    octets::part(image, start, length),
-                ),
-            },
-        }
+        let table51 = tables.first?;
+        let table54 = tables.second?;
+        Calendar::sized(
+            octets::data_order(image),
+            octets::part(image, table51.start, table51.length),
+            octets::part(image, table54.start, table54.length),
+        )
     }
 
     // 20, by the octets of tables 51 and 54.
@@ -187,8 +180,8 @@ impl<'a> Calendar<'a> {
         ensures { result ≡ column_on self.now.controls day special }
     {
         match special {
-            Chosen::Nothing => self.day_column(dates::weekday(day)),
-            Chosen::Entry { when: _, brings } => day_columns(self.controls) + brings as usize,
+            None => self.day_column(dates::weekday(day)),
+            Some(special) => day_columns(self.controls) + special.brings as usize,
         }
     }
 
@@ -197,8 +190,8 @@ impl<'a> Calendar<'a> {
         ensures { result ≡ missing_special self.now.controls special }
     {
         match special {
-            Chosen::Nothing => false,
-            Chosen::Entry { when: _, brings } => self.controls.specials <= brings as usize,
+            None => false,
+            Some(special) => self.controls.specials <= special.brings as usize,
         }
     }
 
@@ -225,8 +218,8 @@ impl<'a> Calendar<'a> {
         };
         let switches = &self.table[self.sections.switches..self.sections.matrix];
         match records::latest(self.order, switches, wanted) {
-            Chosen::Nothing => Reply::NoneYet,
-            Chosen::Entry { when: _, brings } => Reply::Tier(brings),
+            None => Ok(Answer::NoneYet),
+            Some(switch) => Ok(Answer::Tier(switch.brings)),
         }
     }
 
@@ -242,11 +235,8 @@ impl<'a> Calendar<'a> {
     ) -> Reply
         ensures { result ≡ tier_on self.now.order self.now.controls self.now.table.now day minute quantity special season }
     {
-        if either(
-            self.controls.seasons <= season,
-            self.missing_special(special),
-        ) {
-            return Reply::Refused(Refusal::NO_ROW_OR_COLUMN);
+        if self.controls.seasons <= season || self.missing_special(special) {
+            return Err(Refusal::NO_ROW_OR_COLUMN);
         }
         let column = self.column_on(day, special);
         let schedule = self.cell_at(season, column);
@@ -268,13 +258,13 @@ impl<'a> Calendar<'a> {
         ensures { result ≡ tier_in moment quantity (found self.now.order self.now.controls self.now.table.now) }
     {
         if !dates::is_time(moment.hour, moment.minute) {
-            return Reply::Refused(Refusal::NOT_A_DATE);
+            return Err(Refusal::NOT_A_DATE);
         }
         let Some(day) = dates::day_of(moment.year, moment.month, moment.day) else {
-            return Reply::Refused(Refusal::NOT_A_DATE);
+            return Err(Refusal::NOT_A_DATE);
         };
         if self.controls.armed {
-            return Reply::Refused(Refusal::SEASON_CHANGE_ARMED);
+            return Err(Refusal::SEASON_CHANGE_ARMED);
         }
         self.tier_day(day, 60 * moment.hour + moment.minute, quantity)
     }
@@ -285,10 +275,7 @@ impl<'a> Calendar<'a> {
     fn season_stands(&self, day: u32) -> bool
         ensures { result ≡ season_stands day (dates_of self.now.order self.now.controls self.now.table.now) }
     {
-        match self.chosen_by(Wanted::Season { today: day }) {
-            Chosen::Nothing => false,
-            Chosen::Entry { when: _, brings: _ } => true,
-        }
+        self.chosen_by(Wanted::Season { today: day }).is_some()
     }
 
     // 16 alone.
@@ -297,12 +284,12 @@ impl<'a> Calendar<'a> {
         ensures { result ≡ seasoned_in date (found self.now.order self.now.controls self.now.table.now) }
     {
         let Some(day) = dates::day_of(date.year, date.month, date.day) else {
-            return Reply::Refused(Refusal::NOT_A_DATE);
+            return Err(Refusal::NOT_A_DATE);
         };
         if self.season_stands(day) {
-            return Reply::Yes;
+            return Ok(Answer::Yes);
         }
-        Reply::No
+        Ok(Answer::No)
     }
 
     // THE MATRIX
@@ -346,10 +333,8 @@ fn cells_of(octets: &[u8]) -> [u8; 22]
 pub fn tier(description: &[u8], image: &[u8], moment: Moment, quantity: Quantity) -> Reply
     ensures { result ≡ tier_reply description.now image.now moment quantity }
 {
-    match Calendar::of(description, image) {
-        Err(r) => Reply::Refused(r),
-        Ok(calendar) => calendar.tier_in(moment, quantity),
-    }
+    let calendar = Calendar::of(description, image)?;
+    calendar.tier_in(moment, quantity)
 }
 
 // Whether any season record with a real date stands at or before a date.
@@ -357,10 +342,8 @@ pub fn tier(description: &[u8], image: &[u8], moment: Moment, quantity: Quantity
 pub fn seasoned(description: &[u8], image: &[u8], date: Date) -> Reply
     ensures { result ≡ seasoned_reply description.now image.now date }
 {
-    match Calendar::of(description, image) {
-        Err(r) => Reply::Refused(r),
-        Ok(calendar) => calendar.seasoned_in(date),
-    }
+    let calendar = Calendar::of(description, image)?;
+    calendar.seasoned_in(date)
 }
 
 // The matrix; all cells 0 on refusal.
@@ -379,10 +362,8 @@ pub fn matrix(description: &[u8], image: &[u8]) -> [[u8; 22]; 15]
 pub fn matrix_verdict(description: &[u8], image: &[u8]) -> Verdict
     ensures { result ≡ matrix_verdict description.now image.now }
 {
-    match Calendar::of(description, image) {
-        Err(r) => Verdict::Refused(r),
-        Ok(_) => Verdict::Passed,
-    }
+    Calendar::of(description, image)?;
+    Ok(())
 }
 
 // The matrix into cells, and its refusal. A refused call leaves cells as they are.
@@ -391,11 +372,7 @@ pub fn matrix_into(description: &[u8], image: &[u8], cells: &mut [[u8; 22]; 15])
     ensures reply { result ≡ matrix_verdict description.now image.now }
     ensures cells { cells.new ≡ cells_after (matrix_verdict description.now image.now) (matrix_reply description.now image.now) cells.old }
 {
-    match Calendar::of(description, image) {
-        Err(r) => Verdict::Refused(r),
-        Ok(calendar) => {
-            *cells = calendar.rows();
-            Verdict::Passed
-        }
-    }
+    let calendar = Calendar::of(description, image)?;
+    *cells = calendar.rows();
+    Ok(())
 }

@@ -2,12 +2,12 @@
 // 2089; any numbers may be given.
 #![tactic(auto)]
 
-ghost use Rattle.std.specs.Prelude.{◌≡◌, ◌≤◌};
+ghost use Rattle.std.specs.Prelude.{◌≡◌, ◌≤◌, ◌&&◌};
+ghost use Rattle.meaning.specs.Basics.{◌<?◌};
 ghost use Rattle.meaning.specs.Calendar.{leap, month_length, real_date, real_time, year_days, month_days, weekday_of, weekday_reply};
 ghost use Rattle.dates.specs.Days.{day_of};
 
-use basics::{both, either};
-use meaning::{Date, Refusal, Reply};
+use meaning::{Answer, Date, Refusal, Reply};
 
 // How many days come before each month, by its number, in a year that is no leap year.
 const DAYS_BEFORE: [u32; 13] = [0, 0, 31, 59, 90, 120, 151, 181, 212, 243, 273, 304, 334];
@@ -16,7 +16,7 @@ const DAYS_BEFORE: [u32; 13] = [0, 0, 31, 59, 90, 120, 151, 181, 212, 243, 273, 
 fn is_leap(year: u32) -> bool
     ensures { result ≡ leap year }
 {
-    both(year % 4 == 0, either(year % 100 != 0, year % 400 == 0))
+    year % 4 == 0 && (year % 100 != 0 || year % 400 == 0)
 }
 
 // No such month has no days.
@@ -37,8 +37,8 @@ fn month_length(year: u32, month: u32) -> u32
 fn is_real(year: u32, month: u32, day: u32) -> bool
     ensures { result ≡ real_date year month day }
 {
-    let in_years = both(1990 <= year, year <= 2089);
-    both(both(in_years, 0 < day), day <= month_length(year, month))
+    let in_years = 1990 <= year && year <= 2089;
+    in_years && 0 < day && day <= month_length(year, month)
 }
 
 // The days of so many years from 1990 on. Every fourth has one more: 1992 is the first of them, and 2000
@@ -51,13 +51,21 @@ fn year_days(years: u32) -> u32
     365 * years + (years + 1) / 4
 }
 
+// Whether a leap year's own day comes before a month.
+#[tactic(auto, unfolding(meaning::specs::Calendar::leap))]
+fn past_leap_day(year: u32, month: u32) -> bool
+    ensures { result ≡ (2 <? month && leap year) }
+{
+    2 < month && is_leap(year)
+}
+
 // The days of a year before a month. A leap year has one more before March and each month behind it.
 fn month_days(year: u32, month: u32) -> u32
     requires { month ≤ 12 }
     ensures { result ≡ month_days year month }
 {
     let days = DAYS_BEFORE[month as usize];
-    if both(2 < month, is_leap(year)) {
+    if past_leap_day(year, month) {
         return days + 1;
     }
     days
@@ -84,13 +92,12 @@ pub fn weekday(day: u32) -> u32
 }
 
 // The weekday of a date; 16 where it isn't real.
+#[tactic(auto, unfolding(meaning::specs::Calendar::weekday_reply, crate::specs::Days::day_of))]
 pub fn weekday_of(date: Date) -> Reply
     ensures { result ≡ weekday_reply date }
 {
-    match day_of(date.year, date.month, date.day) {
-        None => Reply::Refused(Refusal::NOT_A_DATE),
-        Some(day) => Reply::Weekday(weekday(day)),
-    }
+    let day = day_of(date.year, date.month, date.day).ok_or(Refusal::NOT_A_DATE)?;
+    Ok(Answer::Weekday(weekday(day)))
 }
 
 // Whether it is a time 00:00 to 23:59.
@@ -98,5 +105,5 @@ pub fn weekday_of(date: Date) -> Reply
 pub fn is_time(hour: u32, minute: u32) -> bool
     ensures { result ≡ real_time hour minute }
 {
-    both(hour <= 23, minute <= 59)
+    hour <= 23 && minute <= 59
 }

@@ -15,8 +15,6 @@ use Rattle.almanac.proofs.Tests.{lt_or_ge}
 use Rattle.almanac.proofs.Latest.{none_later}
 use Rattle.meaning.specs.Basics.{◌=?◌, ◌≤?◌, part, number_in}
 use Rattle.meaning.specs.Calendar.{triple_at, triples, entry_if, or_later, latest, record_real, record_day, action, selects_season, season_entry, special_entry}
-use Rattle.meaning.specs.declared.Chosen.{Chosen}
-use Rattle.meaning.specs.declared.Chosen.TheVariants.{Nothing, Entry}
 use Rattle.meaning.specs.declared.Triple.{Triple}
 use Rattle.meaning.proofs.Splices.{part_long, part_at, part_part}
 use Rattle.basics.proofs.Bits.{from_bit_0}
@@ -25,6 +23,7 @@ use Rattle.octets.proofs.Laws.{number_few}
 use Rattle.dates.specs.Days.{day_of}
 use Rattle.records.specs.declared.Wanted.{Wanted}
 use Rattle.records.specs.Records.{record_date, selected, brought_to, latest_in}
+use Rattle.meaning.specs.Values.{Chosen, entry}
 
 -- A RECORD
 -- the two octets of its number, cut out
@@ -48,9 +47,9 @@ action_is r = from_bit_0 r.octet 32
 -- A DATE
 -- what is brought by a date, where it is due, and by what its action selects
 abbrev pub dated : (due : ℕ → Bool) → (date selected : Option ℕ) → Chosen
-dated due (Some w) (Some x) = if due w then Entry w x else Nothing
-dated due (Some w) None = Nothing
-dated due None x = Nothing
+dated due (Some w) (Some x) = if due w then entry w x else None
+dated due (Some w) None = None
+dated due None x = None
 
 dated_is : (due : ℕ → Bool) (w x : ℕ) (real a b : Bool) → entry_if (real && due w && a && b) w x ≡ dated due (if real then Some w else None) (if a && b then Some x else None)
 dated_is due w x false a b = refl
@@ -82,14 +81,14 @@ module _ (o : ℕ) (t : List ℕ) (at m : ℕ) (inside : at + m ≤ length t) wh
 -- THE LATEST, from the first record on
 or_later_assoc : (a b c : Chosen) → or_later (or_later a b) c ≡ or_later a (or_later b c)
 unfolding or_later
-or_later_assoc Nothing b c = refl
-or_later_assoc (Entry w x) Nothing c = refl
-or_later_assoc (Entry w x) (Entry v y) Nothing = none_later _
-or_later_assoc (Entry w x) (Entry v y) (Entry u z) =
+or_later_assoc None b c = refl
+or_later_assoc (Some e) None c = refl
+or_later_assoc (Some e) (Some w) None = none_later _
+or_later_assoc (Some e) (Some w) (Some y) =
     ⊎_elim
-    (λ p. ⊎_elim (λ q. rw (lt-leb w v p, lt-leb v u q, lt-leb w v p, lt-leb w u (omega arith))) (λ q. rw (lt-leb w v p, le-leb v u q)) (lt_or_ge u v))
-    (λ p. ⊎_elim (λ q. rw (le-leb w v p, lt-leb v u q, le-leb w v p)) (λ q. rw (le-leb w v p, le-leb v u q, le-leb w u (omega arith))) (lt_or_ge u v))
-    (lt_or_ge v w)
+    (λ p. ⊎_elim (λ q. rw (lt-leb e.when w.when p, lt-leb w.when y.when q, lt-leb e.when w.when p, lt-leb e.when y.when (omega arith))) (λ q. rw (lt-leb e.when w.when p, le-leb w.when y.when q)) (lt_or_ge y.when w.when))
+    (λ p. ⊎_elim (λ q. rw (le-leb e.when w.when p, lt-leb w.when y.when q, le-leb e.when w.when p)) (λ q. rw (le-leb e.when w.when p, le-leb w.when y.when q, le-leb e.when y.when (omega arith))) (lt_or_ge y.when w.when))
+    (lt_or_ge w.when e.when)
 
 latest_more : (f : Triple → Chosen) (rs : List Triple) (r : Triple) → latest f (rs ++ r ∷ []) ≡ or_later (latest f rs) (f r)
 unfolding latest or_later

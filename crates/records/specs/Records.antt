@@ -2,11 +2,11 @@
 use Rattle.std.specs.Prelude.{ℕ, Option, Some, None, ◌-◌, ◌/◌, ◌&&◌, List, length, if◌then◌else◌}
 use Rattle.meaning.specs.Basics.{bits, ◌≤?◌}
 use Rattle.meaning.specs.Calendar.{triples, latest, year_of, season_entry, special_entry, switch_entry}
-use Rattle.meaning.specs.declared.Chosen.{Chosen}
 use Rattle.meaning.specs.declared.Triple.{Triple}
 use Rattle.dates.specs.Days.{day_of}
 use Rattle.records.specs.declared.Wanted.{Wanted}
 use Rattle.records.specs.declared.Wanted.TheVariants.{Season, Special, Switch}
+use Rattle.meaning.specs.Values.{Chosen}
 
 -- a record's date, as a day's number, where it is real
 unfoldable pub record_date : Triple → Option ℕ

@@ -9,8 +9,8 @@ ghost use Rattle.std.specs.Prelude.{◌≡◌};
 ghost use Rattle.meaning.specs.Calendar.{triple_at, or_later, year_of, flagged_for, counts, season_entry, special_entry, switch_entry};
 ghost use Rattle.records.specs.Records.{record_date, selected, brought_to, latest_in};
 
-use basics::{both, either, wide};
-use meaning::{Chosen, Quantity, Triple};
+use basics::wide;
+use meaning::{Chosen, Entry, Quantity, Triple};
 
 // What is wanted of some records. An enum and no closure, since crates/unique states of `latest` over it
 // that a call has one reply.
@@ -68,7 +68,7 @@ fn record_date(triple: Triple) -> Option<u32>
 fn selected(first: u32, last: u32, action: u32) -> Option<u32>
     ensures { result ≡ selected first last action }
 {
-    if both(first <= action, action <= last) {
+    if first <= action && action <= last {
         return Some(action - first);
     }
     None
@@ -82,8 +82,8 @@ fn season_entry(today: u32, triple: Triple) -> Chosen
 {
     let season = selected(3, 18, triple.octet % 32);
     match (record_date(triple), season) {
-        (Some(when), Some(brings)) if when <= today => Chosen::Entry { when, brings },
-        _ => Chosen::Nothing,
+        (Some(when), Some(brings)) if when <= today => Some(Entry { when, brings }),
+        _ => None,
     }
 }
 
@@ -94,8 +94,8 @@ fn special_entry(today: u32, triple: Triple) -> Chosen
 {
     let special = selected(19, 30, triple.octet % 32);
     match (record_date(triple), special) {
-        (Some(when), Some(brings)) if when == today => Chosen::Entry { when, brings },
-        _ => Chosen::Nothing,
+        (Some(when), Some(brings)) if when == today => Some(Entry { when, brings }),
+        _ => None,
     }
 }
 
@@ -114,7 +114,7 @@ fn flagged_for(quantity: Quantity, word: u32) -> bool
 fn does_count(separate: bool, quantity: Quantity, word: u32) -> bool
     ensures { result ≡ counts separate quantity word }
 {
-    either(!separate, flagged_for(quantity, word))
+    !separate || flagged_for(quantity, word)
 }
 
 #[tactic(auto, using(basics::proofs::Bits::from_bit_0), unfolding(meaning::specs::Calendar::switch_entry, meaning::specs::Calendar::switch_minute))]
@@ -131,15 +131,15 @@ fn switch_entry(
     let hours = word / 2048 % 32;
     let minutes = word / 32 % 64;
     let when = 60 * hours + minutes;
-    let of_it = both(triple.octet == schedule, dates::is_time(hours, minutes));
-    let come = both(of_it, when <= minute);
-    if both(come, does_count(separate, quantity, word)) {
-        return Chosen::Entry {
+    let of_it = triple.octet == schedule && dates::is_time(hours, minutes);
+    let come = of_it && when <= minute;
+    if come && does_count(separate, quantity, word) {
+        return Some(Entry {
             when,
             brings: word % 8,
-        };
+        });
     }
-    Chosen::Nothing
+    None
 }
 
 // THE LATEST
@@ -165,19 +165,10 @@ fn or_later(earlier: Chosen, later: Chosen) -> Chosen
     ensures { result ≡ or_later earlier later }
 {
     match (earlier, later) {
-        (_, Chosen::Nothing) => earlier,
-        (Chosen::Nothing, _) => later,
-        (
-            Chosen::Entry {
-                when: first,
-                brings: _,
-            },
-            Chosen::Entry {
-                when: second,
-                brings: _,
-            },
-        ) => {
-            if first <= second {
+        (_, None) => earlier,
+        (None, _) => later,
+        (Some(first), Some(second)) => {
+            if first.when <= second.when {
                 return later;
             }
             earlier
@@ -190,7 +181,7 @@ pub fn latest(order: u32, records: &[u8], wanted: Wanted) -> Chosen
     ensures { result ≡ latest_in order records.now wanted }
 {
     let (whole, _) = records.as_chunks::<3>();
-    let mut chosen = Chosen::Nothing;
+    let mut chosen = None;
     for record in whole {
         chosen = or_later(chosen, brought_to(wanted, triple_of(order, record)));
     }
