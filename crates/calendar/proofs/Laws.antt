@@ -1,10 +1,9 @@
 -- What the calendar comes to, case by case. Assumes nothing.
 use Prim.Native.Nat.{ℕ, ◌+◌, ◌-◌, ◌*◌, ◌%◌, ◌<◌, ◌≤◌}
 use mathlib.Core.Path.{◌≡◌, refl, sym, ◌∙◌}
-use mathlib.Core.Bool.{Bool, true, false, cond, ◌||◌}
+use mathlib.Core.Bool.{Bool, true, false, cond}
 use mathlib.Core.List.{List}
 use mathlib.Core.Option.{Option, some, none}
-use lib.Dec.{leb}
 use lib.ListN.{length, take, drop}
 use native.Mathlib.Omega.{arith}
 use native.Mathlib.Nat.{mul-le-mul}
@@ -17,7 +16,6 @@ use Rattle.meaning.specs.declared.Moment.{Moment}
 use Rattle.meaning.specs.declared.Quantity.{Quantity}
 use Rattle.meaning.specs.declared.Triple.{Triple}
 use Rattle.meaning.specs.Calendar.{real_time, weekday_of, dates_at, switches_at, matrix_at, day_columns, row_width, table54_size, latest, dates_of, season_on, season_stands, day_column, column_on, missing_special, switches_of, tier_from, tier_by_schedule, Found, missing, sized, seats_found, calendar_in, calendar}
-use Rattle.meaning.proofs.Rules.{either_false}
 use Rattle.almanac.proofs.Tests.{both_true, cond_most}
 use Rattle.meaning.proofs.Either.{tested}
 use Rattle.almanac.proofs.Choices.{is_entry, stands_chosen}
@@ -30,7 +28,7 @@ use Rattle.laying.proofs.Opened.{Came, opens, refuses, came, opened_image}
 use Rattle.calendar.specs.declared.Sections.{Sections}
 use Rattle.calendar.specs.Sections.{Small, sections_of, Sized}
 use Rattle.std.specs.Prelude.{Ok, Err, Some, None}
-use Rattle.meaning.specs.Values.{Place, Chosen, at}
+use Rattle.meaning.specs.Values.{Place, Chosen}
 
 -- WHERE THE PARTS OF TABLE 54 STAND
 dates_most : (c : Controls) → dates_at c ≤ 2
@@ -81,7 +79,7 @@ module _ (c : Controls) (day : ℕ) where
             (λ e. tested (λ n. n < 3) ((day + 1) % 7 =? 0) _ _ (λ f. omega arith) (λ f. omega arith))
       ]
 
-  column_inside : (x : Chosen) → missing_special c x ≡ false → column_on c day x < row_width c
+  pub column_inside : (x : Chosen) → missing_special c x ≡ false → column_on c day x < row_width c
   unfolding missing_special column_on row_width
   column_inside None h = omega (arith, weekday_column)
   column_inside (Some e) h = omega (arith, leb-false c.specials e.brings h)
@@ -126,13 +124,6 @@ pub tier_is : (o : ℕ) (c : Controls) (t : List ℕ) (q : Quantity) (n m : ℕ)
     → tier_by_schedule o c t q n m ≡ tier_from (latest (brought_to (Wanted.Switch c.separate q n m)) (switches_of o c t))
 unfolding tier_by_schedule brought_to
 tier_is o c t q n m = refl
-
--- 19: where neither row nor column is missing, there are both
-pub has_place : (c : Controls) (day s : ℕ) (x : Chosen) (a b : Bool) → a ≡ missing_special c x → b ≡ (c.seasons ≤? s || a) → b ≡ false
-    → (column : ℕ) → column ≡ column_on c day x → (s < c.seasons) × (column < row_width c)
-has_place c day s x a b ae be h column ce =
-    let (p, q) = either_false (leb c.seasons s) a (sym be ∙ h) in
-    (leb-false _ _ p, rw ce (column_inside c day x (sym ae ∙ q)))
 
 -- the minute of the day is below 1,440
 pub few_minutes : (w : Moment) (time : Bool) → time ≡ real_time w.hour w.minute → time ≡ true → 60 * w.hour + w.minute < 1440

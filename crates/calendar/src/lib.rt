@@ -224,7 +224,7 @@ impl<'a> Calendar<'a> {
     }
 
     // 19, by the special schedule and the season on the day.
-    #[tactic(auto, using(crate::proofs::Laws::has_place), unfolding(meaning::specs::Calendar::tier_on))]
+    #[tactic(auto, using(crate::proofs::Laws::column_inside), unfolding(meaning::specs::Calendar::tier_on))]
     fn tier_on(
         &self,
         day: u32,
@@ -235,7 +235,10 @@ impl<'a> Calendar<'a> {
     ) -> Reply
         ensures { result ≡ tier_on self.now.order self.now.controls self.now.table.now day minute quantity special season }
     {
-        if self.controls.seasons <= season || self.missing_special(special) {
+        if self.controls.seasons <= season {
+            return Err(Refusal::NO_ROW_OR_COLUMN);
+        }
+        if self.missing_special(special) {
             return Err(Refusal::NO_ROW_OR_COLUMN);
         }
         let column = self.column_on(day, special);
