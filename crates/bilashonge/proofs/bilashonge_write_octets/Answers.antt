@@ -1,8 +1,0 @@
--- `bilashonge_write_octets`: what the verdict tells, and the image that the write leaves. Assumes nothing.
-use Rattle.meaning.specs.Questions.{outcome_of, reply_to, told_to, image_after}
-use Rattle.bilashonge.proofs.bilashonge_write_octets.Goals as goal
-
-pub returns : goal.returns
-unfolding outcome_of reply_to told_to image_after
-returns c =
-    record { reply = rw (c.refusal_of.ensures, c.write_octets.ensures.reply, c.element_named.ensures); image = rw (c.write_octets.ensures.image, c.element_named.ensures) }
