@@ -1,5 +1,5 @@
 -- What answering leans on: a word of the line, and which reply is due in each case. Assumes nothing.
-use mathlib.Core.Path.{◌≡◌, refl, ap, ◌∙◌}
+use mathlib.Core.Path.{◌≡◌, refl, ◌∙◌}
 use mathlib.Core.List.{List, [], ◌∷◌}
 use mathlib.Core.Bool.{Bool, true, false, not, ◌&&◌, ◌||◌, and-eq-true_iff}
 use Prim.Native.Nat.{ℕ, zero, suc, ◌+◌, ◌≤◌, ◌<◌, zero-le}
@@ -9,20 +9,19 @@ use borrow.Author.Tests.{lt-ltb, le-ltb, lt-leb, leb-true, eqb-true, ne_eqb, not
 use lib.Dec.{leb, eqb}
 use lib.ListN.{length, get_or, take, length-take, length-drop}
 use lib.Seq.{length-take-le}
-use Rattle.meaning.specs.Basics.{◌=?◌}
 use Rattle.words.specs.declared.types.Words.{Words}
-use Rattle.words.specs.declared.types.Octets.{Octets}
+use Rattle.std.specs.Prelude.{Option, Some, None}
+use Rattle.words.specs.declared.types.Span.{Span}
 use Rattle.words.specs.Hex.{OctetsRead}
 use Rattle.words.specs.Line.{line_words, split_of, part_of, word_in}
 use Rattle.words.proofs.Cases.{by_test}
 use Rattle.words.proofs.LineLaws.{count_of, word_of}
 use Rattle.lines.specs.declared.rows.Form.{Form}
-use Rattle.lines.specs.declared.read.Part.{Part}
 use Rattle.lines.specs.declared.read.Asked.{Asked}
 use Rattle.lines.specs.Answer.{nth, Row, table_rows, message_rows, date_rows, rows, no_row, row_at, kind_of, form_of, Within, word_if, is_kind, takes}
 use Rattle.lines.specs.Answer.{no_form, row_text, reply_text, answer_as, answer_words, answer_text, room_for, Replied}
 use Rattle.lines.specs.Read.{OfSeven, PartRead, AskedRead}
-use Rattle.lines.proofs.OctetLaws.{part_from, part_read}
+use Rattle.lines.proofs.OctetLaws.{part_read}
 use Rattle.lines.proofs.ReadLaws.{read_within}
 
 -- a reply that was put, under another name
@@ -30,14 +29,14 @@ pub put_as : {out later text : List ℕ} {r : ℕ} (other : List ℕ) → Replie
 put_as other p e = rw e at p
 
 -- no word is longer than its line
-short_part : (line : List ℕ) (s e : ℕ) → length (part_of line s e) ≤ length line
+short_part : (line : List ℕ) (s : Span) → length (part_of line s) ≤ length line
 unfolding part_of
-short_part line s e =
-    by_test (leb s e && leb e (length line)) (λ h. rw h (simp (length-take, length-drop) (omega arith))) (λ h. rw h zero-le)
+short_part line s =
+    by_test (leb s.start s.end && leb s.end (length line)) (λ h. rw h (simp (length-take, length-drop) (omega arith))) (λ h. rw h zero-le)
 
 pub word_short : (line : List ℕ) (split : Words) (k : ℕ) (word : List ℕ) → word ≡ word_in line split k → length word ≤ length line
 unfolding word_in
-word_short line split k word e = rw e (short_part line _ _)
+word_short line split k word e = rw e (short_part line _)
 
 -- WHICH QUESTION
 -- what `word` answers of a line that was split, and what `check::same` answers of its first word and a name
@@ -47,15 +46,15 @@ module _ (line : List ℕ) (split : Words) (is-split : split ≡ split_of line) 
   word_at k word e = word_of line split k word is-split e
 
   -- word k, which the form has, read as octets, with room for them: an octet is two digits of the line
-  pub word_read : {there : Bool} (k : ℕ) (word : List ℕ) {given later : List ℕ} {r : Octets} {part : Part} → there ≡ true → word ≡ word_in line split k
-      → length line ≤ 300000 → OctetsRead word given later r → 150000 ≤ length given → part_from r ≡ part → PartRead (word_if there (nth (line_words line) k)) later part
+  pub word_read : {there : Bool} (k : ℕ) (word : List ℕ) {given later : List ℕ} {r : Option ℕ} → there ≡ true → word ≡ word_in line split k
+      → length line ≤ 300000 → OctetsRead word given later r → 150000 ≤ length given → PartRead (word_if there (nth (line_words line) k)) later r
   unfolding word_if
-  word_read k word t e short p room f =
-      rw (t, ← word_at k word e, ← f) (part_read p (omega (arith, word_short line split k word e)))
+  word_read k word t e short p room =
+      rw (t, ← word_at k word e) (part_read p (omega (arith, word_short line split k word e)))
 
   -- the number of words
-  pub counted : (k : ℕ) → (split.count =? k) ≡ (length (line_words line) =? k)
-  counted k = ap (λ (n : ℕ). n =? k) (count_of line split is-split)
+  pub counted : split.count ≡ length (line_words line)
+  counted = count_of line split is-split
 
 pub too_long : (line : List ℕ) → 300000 < length line → no_form ≡ answer_text line
 unfolding answer_text
@@ -136,28 +135,30 @@ unfolding answer_words
 unknown kind line is-kind is-word h short = rw (← is-word, ← is-kind, le-ltb kind (length rows) h) refl ∙ taken line short
 
 -- THE REPLIES
-module _ (kind : ℕ) {f : Form} (line : List ℕ) {word description image given : List ℕ} {r : Asked} (is-kind : kind ≡ kind_of word) (is-form : f ≡ form_of kind)
+module _ (kind : ℕ) {f : Form} (line : List ℕ) {word description image given : List ℕ} {r : Option Asked} (is-kind : kind ≡ kind_of word) (is-form : f ≡ form_of kind)
     (is-word : word ≡ nth (line_words line) 0) (inside : kind < length rows) (s : AskedRead f (line_words line) description image given r) where
   answer_as_lem : answer_as kind f (line_words line) ≡ answer_words (line_words line)
   unfolding answer_words
   answer_as_lem = rw (is-form, ← is-word, ← is-kind, lt-ltb kind (length rows) inside)
 
-  pub asked_reply : r.is ≡ true → length line ≤ 300000
-      → reply_text kind (take r.d description) (take r.m image) r.numbers (take r.given given) ≡ answer_text line
+  pub asked_reply : (a : Asked) → r ≡ Some a → length line ≤ 300000
+      → reply_text kind (take a.d description) (take a.m image) a.numbers (take a.given given) ≡ answer_text line
   unfolding answer_as
-  asked_reply h short = rw (s.d_octets h, s.m_octets h, s.given_octets h, s.values h, ← s.reply, h) refl ∙ answer_as_lem ∙ taken line short
+  asked_reply a h short =
+      let o = s.asked a h in rw (o.d_octets, o.m_octets, o.given_octets, o.values, ← s.reply, h) refl ∙ answer_as_lem ∙ taken line short
 
-  pub asked_none : r.is ≡ false → length line ≤ 300000 → no_form ≡ answer_text line
+  pub asked_none : r ≡ None → length line ≤ 300000 → no_form ≡ answer_text line
   unfolding answer_as
   asked_none h short = rw (← s.reply, h) refl ∙ answer_as_lem ∙ taken line short
 
   -- the part of the image that M is has room in the reply where the whole has
-  pub asked_room : (earlier out : List ℕ) → length image ≡ length earlier → room_for earlier ≤ length out → room_for (take r.m image) ≤ length out
-  asked_room earlier out e h = omega (arith, length-take-le r.m image s.m_within, s.m_within)
+  pub asked_room : (a : Asked) → r ≡ Some a → (earlier out : List ℕ) → length image ≡ length earlier → room_for earlier ≤ length out
+      → room_for (take a.m image) ≤ length out
+  asked_room a f earlier out e h = omega (arith, length-take-le a.m image (s.asked a f).m_within, (s.asked a f).m_within)
 
   -- the numbers are within the limits of the kind
-  pub asked_within : r.is ≡ true → Within kind r.numbers
-  asked_within h = record { each = rw is-form at (read_within s h) }
+  pub asked_within : (a : Asked) → r ≡ Some a → Within kind a.numbers
+  asked_within a h = record { each = rw is-form at (read_within a s h) }
 
 -- what D or a message has of octets
 pub asked_few : (n : ℕ) (description earlier : List ℕ) → length description ≡ length earlier → length earlier ≡ 150000 → length (take n description) ≤ 150000

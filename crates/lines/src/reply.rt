@@ -117,10 +117,10 @@ pub fn answer(
     if rows::ROWS <= kind {
         return put::no_form(out);
     }
-    let asked = read::read_asked(line, split, rows::form_of(kind), description, image, given);
-    if !asked.is {
+    let form = rows::form_of(kind);
+    let Some(asked) = read::read_asked(line, split, form, description, image, given) else {
         return put::no_form(out);
-    }
+    };
     let n = asked.d;
     let k = asked.m;
     let g = asked.given;

@@ -107,10 +107,11 @@ const REPLY_MOST: [u64; 7] = [u64::MAX, u64::MAX, ROOM, 0, 0, 0, 0];
 pub fn kind_of(name: &[u8]) -> usize
     ensures { result ≡ kind_of name.now }
 {
-    words::index_of(
+    let place = words::index_of(
         name,
         b"check layout table tablepart where octets number writerange writeoctets writenumber tier matrix seasoned readrange serve readrequest writerequest readreply writereply weekday",
-    )
+    );
+    place.unwrap_or(ROWS)
 }
 
 // How many numbers a reply tells: none, a refusal's, or one or two of the answer's own behind those;

@@ -2,7 +2,6 @@
 use mathlib.Core.Path.{sym}
 use native.Mathlib.Omega.{arith}
 use lib.Seq.{length-take-le}
-use borrow.Author.Tests.{not-true, not-false}
 use Rattle.lines.specs.Answer.{table_rows, message_rows, date_rows, rows}
 use Rattle.lines.proofs.AnswerLaws.{put_as, word_at, row_fits, too_long, unknown, asked_reply, asked_none, asked_room, asked_within, asked_few}
 use Rattle.lines.proofs.reply.answer.Goals as goal
@@ -17,46 +16,58 @@ returns-then-kind-ge-ROWS c =
     let name = word_at _ _ c.split-split.ensures _ _ c.word.ensures.reply in
     put_as _ c.no_form-then-kind-ge-ROWS.ensures (unknown _ _ c.kind_of-kind.ensures name c.if-kind-ge-ROWS.true (omega (arith, c.if-line-gt-LONGEST.false)))
 
-pub form_of-requires : goal.form_of-requires
+pub form_of-form-requires : goal.form_of-form-requires
 unfolding table_rows message_rows date_rows rows
-form_of-requires c = omega arith
+form_of-form-requires c = omega arith
 
-pub read_asked-asked-requires : goal.read_asked-asked-requires
+pub read_asked-requires : goal.read_asked-requires
 unfolding table_rows message_rows date_rows rows
-read_asked-asked-requires c =
-    record { split_value = c.split-split.ensures; line_len_bound = omega arith; in_bounds = omega (arith, c.requires.items); in_bounds_2 = c.requires.tables; in_bounds_3 = c.requires.new; lent_bound = rw c.form_of.ensures ((row_fits _ c.if-kind-ge-ROWS.false).lent, (row_fits _ c.if-kind-ge-ROWS.false).numbers) }
+read_asked-requires c =
+    record { split_value = c.split-split.ensures; line_len_bound = omega arith; in_bounds = omega (arith, c.requires.items); in_bounds_2 = c.requires.tables; in_bounds_3 = c.requires.new; lent_bound = rw c.form_of-form.ensures ((row_fits _ c.if-kind-ge-ROWS.false).lent, (row_fits _ c.if-kind-ge-ROWS.false).numbers) }
 
-pub no_form-requires-then-not-asked : goal.no_form-requires-then-not-asked
+pub no_form-requires-in_default : goal.no_form-requires-in_default
 unfolding table_rows message_rows date_rows rows
-no_form-requires-then-not-asked c = omega (arith, c.requires.reply)
+no_form-requires-in_default c = omega (arith, c.requires.reply)
 
-pub returns-then-not-asked : goal.returns-then-not-asked
+pub returns-in_default : goal.returns-in_default
 unfolding table_rows message_rows date_rows rows
-returns-then-not-asked c =
+returns-in_default c =
     let name = word_at _ _ c.split-split.ensures _ _ c.word.ensures.reply in
-    put_as _ c.no_form-then-not-asked.ensures
-    (asked_none _ _ c.kind_of-kind.ensures c.form_of.ensures name c.if-kind-ge-ROWS.false c.read_asked-asked.ensures (not-true _ c.if-not-asked.true) (omega (arith, c.if-line-gt-LONGEST.false)))
+    put_as _ c.no_form-in_default.ensures
+    (asked_none _ _ c.kind_of-kind.ensures c.form_of-form.ensures name c.if-kind-ge-ROWS.false c.read_asked.ensures c.in_default.is (omega (arith, c.if-line-gt-LONGEST.false)))
+
+pub slice_bounds-reply-end : goal.slice_bounds-reply-end
+slice_bounds-reply-end c = (c.read_asked.ensures.asked _ c.in-Some.is).d_within
 
 pub slice_bounds-reply-end-2 : goal.slice_bounds-reply-end-2
-unfolding table_rows message_rows date_rows rows
-slice_bounds-reply-end-2 c = sym (length-take-le _ _ c.read_asked-asked.ensures.d_within)
+slice_bounds-reply-end-2 c = sym (length-take-le _ _ (c.read_asked.ensures.asked _ c.in-Some.is).d_within)
+
+pub slice_bounds-reply-end-3 : goal.slice_bounds-reply-end-3
+slice_bounds-reply-end-3 c = (c.read_asked.ensures.asked _ c.in-Some.is).m_within
 
 pub slice_bounds-reply-end-4 : goal.slice_bounds-reply-end-4
-unfolding table_rows message_rows date_rows rows
-slice_bounds-reply-end-4 c = sym (length-take-le _ _ c.read_asked-asked.ensures.m_within)
+slice_bounds-reply-end-4 c = sym (length-take-le _ _ (c.read_asked.ensures.asked _ c.in-Some.is).m_within)
+
+pub slice_bounds-reply-end-5 : goal.slice_bounds-reply-end-5
+slice_bounds-reply-end-5 c = (c.read_asked.ensures.asked _ c.in-Some.is).given_within
 
 pub slice_bounds-reply-end-6 : goal.slice_bounds-reply-end-6
-unfolding table_rows message_rows date_rows rows
-slice_bounds-reply-end-6 c = sym (length-take-le _ _ c.read_asked-asked.ensures.given_within)
+slice_bounds-reply-end-6 c = sym (length-take-le _ _ (c.read_asked.ensures.asked _ c.in-Some.is).given_within)
 
 pub reply-requires : goal.reply-requires
 unfolding table_rows message_rows date_rows rows
 reply-requires c =
-    let name = word_at _ _ c.split-split.ensures _ _ c.word.ensures.reply in record { kind_in_bounds = c.if-kind-ge-ROWS.false; m_in_bounds = asked_room _ _ c.kind_of-kind.ensures c.form_of.ensures name c.if-kind-ge-ROWS.false c.read_asked-asked.ensures c.args.image.now c.args.out.now c.read_asked-asked.auto.image c.requires.reply; within = asked_within _ _ c.kind_of-kind.ensures c.form_of.ensures name c.if-kind-ge-ROWS.false c.read_asked-asked.ensures (not-false _ c.if-not-asked.false); d_len_bound = asked_few c.read_asked-asked.result.d c.read_asked-asked.new.description c.args.description.now c.read_asked-asked.auto.description c.requires.items }
+    let name = word_at _ _ c.split-split.ensures _ _ c.word.ensures.reply in
+    record {
+      kind_in_bounds = c.if-kind-ge-ROWS.false;
+      m_in_bounds = asked_room _ _ c.kind_of-kind.ensures c.form_of-form.ensures name c.if-kind-ge-ROWS.false c.read_asked.ensures _ c.in-Some.is c.args.image.now c.args.out.now c.read_asked.auto.image c.requires.reply;
+      within = asked_within _ _ c.kind_of-kind.ensures c.form_of-form.ensures name c.if-kind-ge-ROWS.false c.read_asked.ensures _ c.in-Some.is;
+      d_len_bound = asked_few c.in-Some.asked.d c.read_asked.new.description c.args.description.now c.read_asked.auto.description c.requires.items;
+    }
 
 pub returns : goal.returns
 unfolding table_rows message_rows date_rows rows
 returns c =
     let name = word_at _ _ c.split-split.ensures _ _ c.word.ensures.reply in
     put_as _ c.reply.ensures
-    (asked_reply _ _ c.kind_of-kind.ensures c.form_of.ensures name c.if-kind-ge-ROWS.false c.read_asked-asked.ensures (not-false _ c.if-not-asked.false) (omega (arith, c.if-line-gt-LONGEST.false)))
+    (asked_reply _ _ c.kind_of-kind.ensures c.form_of-form.ensures name c.if-kind-ge-ROWS.false c.read_asked.ensures _ c.in-Some.is (omega (arith, c.if-line-gt-LONGEST.false)))
