@@ -1,21 +1,21 @@
 -- What asking about messages leans on: a message in a room, wherever the room is, and data copied out of a message. Assumes nothing.
 use Rattle.std.specs.Prelude.{if◌then◌else◌}
-use Prim.Native.Nat.{ℕ, ◌+◌, ◌≤◌, ◌<◌, zero-le}
+use Prim.Native.Nat.{ℕ, ◌+◌, ◌≤◌, zero-le}
 use mathlib.Core.Path.{◌≡◌, refl, sym, ap, ◌∙◌}
-use mathlib.Core.Bool.{Bool, true, false, ◌||◌, and-eq-true_iff}
-use mathlib.Core.List.{List, [], ◌∷◌, ◌++◌, append_assoc, append-nil}
+use mathlib.Core.Bool.{Bool, true, false, and-eq-true_iff}
+use mathlib.Core.List.{List, [], ◌++◌, append_assoc, append-nil}
 use mathlib.Core.Option.{Option, some, none}
 use lib.ListN.{length, take, drop, length-replicate}
 use lib.Seq.{take-length, take-append_seam, length-take-le}
 use native.Mathlib.Omega.{arith}
 use borrow.Author.Tests.{leb-true}
-use Rattle.meaning.specs.Basics.{◌=?◌, splice}
+use Rattle.meaning.specs.Basics.{splice}
 use Rattle.meaning.specs.declared.Reply.{Reply}
 use Rattle.meaning.specs.Numbers.{no_room}
 use Rattle.meaning.specs.Refusals.{told_by, told_numbers}
 use Rattle.meaning.specs.Messages.{Request, MeterReply, request_in, request_fits, request_octets, reply_fits, reply_octets, sent, sent_reply, sent_room, request_sent, request_room, reply_sent, reply_room, answer_to, serve_reply, serve_room, serve_image}
 use Rattle.lines.specs.declared.message.Answered.{Answered}
-use Rattle.lines.specs.Answer.{Said, table_rows, message_rows, said, in_room, room_of, among}
+use Rattle.lines.specs.Answer.{Said, said, in_room, room_of}
 use Rattle.lines.specs.Ask.{ReadAs, MessageAsked}
 
 -- DATA COPIED
@@ -82,11 +82,6 @@ module _ (d m xs : List ℕ) where
 pub room_long : (n : ℕ) (part : List ℕ) → n ≤ length part → length (take n part) ≡ length (room_of n)
 room_long n part h = length-take-le n part h ∙ sym (length-replicate {A = ℕ} n 0)
 
--- the last row of messages
-pub last_row : {kind : ℕ} → (length table_rows ≤ kind) × (kind < length (table_rows ++ message_rows)) → (kind ≡ 14 → ⊥) → (kind ≡ 15 → ⊥) → (kind ≡ 16 → ⊥) → (kind ≡ 17 → ⊥) → kind ≡ 18
-unfolding table_rows message_rows
-last_row h a b c d = omega (arith, h.0, h.1)
-
 -- a message that was put there
 module _ {kind : ℕ} {d m numbers new : List ℕ} {reply : List ℕ → Reply} {after : List ℕ → List ℕ} (front : InFront reply after) (n : ℕ) {img : List ℕ}
     (is : said kind d m numbers new ≡ in_room (reply (room_of n)) (after (room_of n)) img) (part : List ℕ) (small : n ≤ 150000) (long : length part ≡ 150000) where
@@ -106,16 +101,3 @@ module _ {kind : ℕ} {d m numbers new : List ℕ} {reply : List ℕ → Reply} 
 pub was_read : {kind : ℕ} {d m numbers new part : List ℕ} {r : Answered} (s : Said) → (said kind d m numbers new).numbers ≡ s.numbers → (said kind d m numbers new).octets ≡ s.octets
     → m ≡ (said kind d m numbers new).image → length d ≤ 150000 → ReadAs s d r part → MessageAsked kind d m numbers new r part m
 was_read s n o i l a = record { told = a.told ∙ sym n; within = omega (arith, a.within); octets = a.octets ∙ sym o; image = i }
-
--- A KIND AMONG THOSE OF A ROW
-pub among_last : (x k : ℕ) → (x =? k) ≡ among (k ∷ []) x
-unfolding among
-among_last x k = go (x =? k)
-  where
-    go : (b : Bool) → b ≡ (b || false)
-    go true = refl
-    go false = refl
-
-pub among_more : (x k : ℕ) (ks : List ℕ) {b r : Bool} → b ≡ among ks x → r ≡ (x =? k || b) → r ≡ among (k ∷ ks) x
-unfolding among
-among_more x k ks e f = f ∙ rw e

@@ -1,11 +1,12 @@
 // From what a line asks of messages to the call that answers it, row by row. The octets that a row
 // tells are put at the start of `part`.
-ghost use Rattle.std.specs.Prelude.{◌≡◌, [], ◌++◌, ◌≤◌, ◌<◌, length};
+ghost use Rattle.std.specs.Prelude.{◌≡◌, [], ◌≤◌, length};
 ghost use Rattle.meaning.specs.Refusals.{told_by, told_numbers};
-ghost use Rattle.lines.specs.Answer.{table_rows, message_rows, Within, of_request, of_reply};
+ghost use Rattle.lines.specs.Answer.{Within, of_request, of_reply};
 ghost use Rattle.lines.specs.Ask.{ReadAs, MessageAsked};
+ghost use Rattle.lines.specs.Kinds.{messages_place};
 
-use crate::rows;
+use crate::rows::MessageKind;
 use meaning::Reply;
 
 // What a row told: its numbers, and how many octets.
@@ -56,39 +57,38 @@ fn read_reply(d: &[u8], part: &mut [u8]) -> Answered
 
 // What a row of messages comes to, and a write done in m.
 pub fn ask(
-    kind: usize,
+    kind: MessageKind,
     d: &[u8],
     m: &mut [u8],
     numbers: [u64; 7],
     given: &[u8],
     part: &mut [u8],
 ) -> Answered
-    requires table_rows_len_bound { (length table_rows ≤ kind) × (kind < length (table_rows ++ message_rows)) }
-    requires within { Within kind numbers }
+    requires within { Within (messages_place kind) numbers }
     requires d_len_bound { (length d.now ≤ 150000) × (length part.old ≡ 150000) }
-    ensures { MessageAsked kind d.now m.old numbers given.now result part.new m.new }
+    ensures { MessageAsked (messages_place kind) d.now m.old numbers given.now result part.new m.new }
 {
-    if kind == rows::SERVE {
-        let n = numbers[0] as usize;
-        return sent(messages::serve(d, m, given, &mut part[..n]));
+    match kind {
+        MessageKind::Serve => {
+            let n = numbers[0] as usize;
+            sent(messages::serve(d, m, given, &mut part[..n]))
+        }
+        MessageKind::ReadRequest => read_request(d, part),
+        MessageKind::WriteRequest => {
+            let n = numbers[4] as usize;
+            sent(messages::write_request(
+                numbers[0],
+                numbers[1],
+                numbers[2],
+                numbers[3],
+                given,
+                &mut part[..n],
+            ))
+        }
+        MessageKind::ReadReply => read_reply(d, part),
+        MessageKind::WriteReply => {
+            let n = numbers[2] as usize;
+            sent(messages::write_reply(numbers[0], numbers[1], given, &mut part[..n]))
+        }
     }
-    if kind == rows::READREQUEST {
-        return read_request(d, part);
-    }
-    if kind == rows::WRITEREQUEST {
-        let n = numbers[4] as usize;
-        return sent(messages::write_request(
-            numbers[0],
-            numbers[1],
-            numbers[2],
-            numbers[3],
-            given,
-            &mut part[..n],
-        ));
-    }
-    if kind == rows::READREPLY {
-        return read_reply(d, part);
-    }
-    let n = numbers[2] as usize;
-    sent(messages::write_reply(numbers[0], numbers[1], given, &mut part[..n]))
 }

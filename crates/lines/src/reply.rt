@@ -1,8 +1,10 @@
 // What a line is answered: its first word tells the row of the table, the row the form that the line
 // must have, and both the reply.
-ghost use Rattle.std.specs.Prelude.{◌≤◌, ◌<◌, [], ◌++◌, length};
-ghost use Rattle.lines.specs.Answer.{table_rows, message_rows, rows, answer_text, reply_text, row_text, Within, room_for, Memory, Replied};
+ghost use Rattle.std.specs.Prelude.{◌≤◌, [], length};
+ghost use Rattle.lines.specs.Answer.{answer_text, reply_text, row_text, Within, room_for, Memory, Replied};
+ghost use Rattle.lines.specs.Kinds.{tables_place, messages_place, kind_place};
 
+use crate::rows::{Kind, MessageKind, TableKind};
 use crate::{ask, memory, message, put, read, rows};
 
 // The longest line that is taken.
@@ -11,19 +13,18 @@ const LONGEST: usize = 300000;
 // The reply to a question about tables, by the octets of D and M, the numbers, each within its limit,
 // and the octets of DATA.
 fn reply_tables(
-    kind: usize,
+    kind: TableKind,
     d: &[u8],
     m: &mut [u8],
     numbers: [u64; 7],
     given: &[u8],
     out: &mut [u8],
 ) -> usize
-    requires kind_in_bounds { kind < length table_rows }
     requires m_in_bounds { room_for m.old ≤ length out.old }
-    requires within { Within kind numbers }
-    ensures { Replied out.old (row_text kind d.now m.old numbers given.now) out.new result }
+    requires within { Within (tables_place kind) numbers }
+    ensures { Replied out.old (row_text (tables_place kind) d.now m.old numbers given.now) out.new result }
 {
-    let form = rows::form_of(kind);
+    let form = kind.form();
     let told = replies::numbers(ask::ask(kind, d, m, numbers, given));
     let first = put::put_numbers(out, told, form.told);
     let second = ask::put_part(kind, d, m, numbers, out, first);
@@ -33,20 +34,19 @@ fn reply_tables(
 
 // The reply to a row of messages, likewise.
 fn reply_message(
-    kind: usize,
+    kind: MessageKind,
     d: &[u8],
     m: &mut [u8],
     numbers: [u64; 7],
     given: &[u8],
     out: &mut [u8],
 ) -> usize
-    requires table_rows_len_bound { (length table_rows ≤ kind) × (kind < length (table_rows ++ message_rows)) }
     requires m_in_bounds { room_for m.old ≤ length out.old }
-    requires within { Within kind numbers }
+    requires within { Within (messages_place kind) numbers }
     requires d_len_bound { length d.now ≤ 150000 }
-    ensures { Replied out.old (row_text kind d.now m.old numbers given.now) out.new result }
+    ensures { Replied out.old (row_text (messages_place kind) d.now m.old numbers given.now) out.new result }
 {
-    let form = rows::form_of(kind);
+    let form = kind.form();
     let mut part = memory::octets();
     let answered = message::ask(kind, d, m, numbers, given, &mut part);
     let told = answered.numbers;
@@ -71,29 +71,26 @@ fn reply_weekday(numbers: [u64; 7], out: &mut [u8]) -> usize
 
 // The reply to what a line asks of this row. Numbers that the row doesn't take are no form.
 fn reply(
-    kind: usize,
+    kind: Kind,
     d: &[u8],
     m: &mut [u8],
     numbers: [u64; 7],
     given: &[u8],
     out: &mut [u8],
 ) -> usize
-    requires kind_in_bounds { kind < length rows }
     requires m_in_bounds { room_for m.old ≤ length out.old }
-    requires within { Within kind numbers }
+    requires within { Within (kind_place kind) numbers }
     requires d_len_bound { length d.now ≤ 150000 }
-    ensures { Replied out.old (reply_text kind d.now m.old numbers given.now) out.new result }
+    ensures { Replied out.old (reply_text (kind_place kind) d.now m.old numbers given.now) out.new result }
 {
-    if !rows::takes(kind, numbers) {
+    if !kind.takes(numbers) {
         return put::no_form(out);
     }
-    if kind < rows::MESSAGES {
-        return reply_tables(kind, d, m, numbers, given, out);
+    match kind {
+        Kind::Tables(kind) => reply_tables(kind, d, m, numbers, given, out),
+        Kind::Messages(kind) => reply_message(kind, d, m, numbers, given, out),
+        Kind::Weekday => reply_weekday(numbers, out),
     }
-    if kind < rows::WEEKDAY {
-        return reply_message(kind, d, m, numbers, given, out);
-    }
-    reply_weekday(numbers, out)
 }
 
 // Puts the reply to a line, and the line feed that ends it, at the start of out, and answers how
@@ -113,11 +110,10 @@ pub fn answer(
         return put::no_form(out);
     }
     let split = words::split(line);
-    let kind = rows::kind_of(words::word(line, split, 0));
-    if rows::ROWS <= kind {
+    let Some(kind) = rows::kind_of(words::word(line, split, 0)) else {
         return put::no_form(out);
-    }
-    let form = rows::form_of(kind);
+    };
+    let form = kind.form();
     let Some(asked) = read::read_asked(line, split, form, description, image, given) else {
         return put::no_form(out);
     };

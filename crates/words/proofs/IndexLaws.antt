@@ -52,3 +52,15 @@ unfolding word_place
 place_or_all name words =
     by_less (word_index name words) (length words) (λ h. rw (lt-ltb _ _ h))
     (λ h. rw (le-ltb _ _ h) (omega (arith, index_within name words)))
+
+pub place_found : (name : List ℕ) (words : List (List ℕ)) (k : ℕ) → word_place name words ≡ Some k → (k < length words) × (k ≡ word_index name words)
+unfolding word_place
+place_found name words k e =
+    by_less (word_index name words) (length words)
+    (λ h. let f : word_index name words ≡ k = cc (rw (lt-ltb _ _ h) at e) in (omega arith, sym f))
+    (λ h. absurd (cc (rw (le-ltb _ _ h) at e)))
+
+pub place_none : (name : List ℕ) (words : List (List ℕ)) → word_place name words ≡ None → length words ≡ word_index name words
+unfolding word_place
+place_none name words e =
+    by_less (word_index name words) (length words) (λ h. absurd (cc (rw (lt-ltb _ _ h) at e))) (λ h. omega (arith, index_within name words))
