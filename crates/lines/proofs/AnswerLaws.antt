@@ -8,7 +8,6 @@ use native.Mathlib.Omega.{arith}
 use borrow.Author.Tests.{lt-ltb, le-ltb, leb-true, eqb-true}
 use lib.Dec.{leb, eqb}
 use lib.ListN.{length, get_or, take, length-take, length-drop}
-use lib.Seq.{length-take-le}
 use Rattle.std.specs.List.{list_all}
 use Rattle.words.specs.declared.types.Words.{Words}
 use Rattle.std.specs.Prelude.{Option, Some, None}
@@ -51,7 +50,7 @@ module _ (line : List ℕ) (split : Words) (is-split : split ≡ split_of line) 
       → length line ≤ 300000 → OctetsRead word given later r → 150000 ≤ length given → PartRead (word_if there (nth (line_words line) k)) later r
   unfolding word_if
   word_read k word t e short p room =
-      rw (t, ← word_at k word e) (part_read p (omega (arith, word_short line split k word e)))
+      rw (t, ← word_at k word e) (part_read p (omega (arith, word_short line split k word e)) (omega (arith, word_short line split k word e)))
 
   -- the number of words
   pub counted : split.count ≡ length (line_words line)
@@ -125,15 +124,14 @@ module _ (kind : ℕ) {f : Form} (line : List ℕ) {word description image given
   unfolding answer_as
   asked_none h short = rw (← s.reply, h) refl ∙ answer_as_lem ∙ taken line short
 
-  -- the part of the image that M is has room in the reply where the whole has
-  pub asked_room : (a : Asked) → r ≡ Some a → (earlier out : List ℕ) → length image ≡ length earlier → room_for earlier ≤ length out
-      → room_for (take a.m image) ≤ length out
-  asked_room a f earlier out e h = omega (arith, length-take-le a.m image (s.asked a f).m_within, (s.asked a f).m_within)
-
   -- the numbers are within the limits of the kind
   pub asked_within : (a : Asked) → r ≡ Some a → Within kind a.numbers
   asked_within a h = record { each = rw is-form at (read_within a s h) }
 
+-- the part of the image that M is has room in the reply where the whole has
+pub asked_room : (n : ℕ) (image out : List ℕ) → room_for image ≤ length out → room_for (take n image) ≤ length out
+asked_room n image out h = omega (arith, length-take n image)
+
 -- what D or a message has of octets
-pub asked_few : (n : ℕ) (description earlier : List ℕ) → length description ≡ length earlier → length earlier ≡ 150000 → length (take n description) ≤ 150000
-asked_few n description earlier e h = omega (arith, length-take n description)
+pub asked_few : (n : ℕ) (description : List ℕ) → n ≤ 150000 → length (take n description) ≤ 150000
+asked_few n description h = omega (arith, length-take n description)

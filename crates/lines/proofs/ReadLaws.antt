@@ -184,9 +184,9 @@ module _ {f : Form} {words : List (List â„•)} {description image given : List â„
       let v = are-numbers words (1 + f.lent) (take f.numbers f.most) values en ev in
       let all : AskedOf f words description image given (record { d = d; m = m; given = g; numbers = values }) =
       record {
-        d_within = pd.within d ed;
-        m_within = pm.within m em;
-        given_within = pg.within g eg;
+        d_few = pd.few d ed;
+        m_few = pm.few m em;
+        given_few = pg.few g eg;
         d_octets = pd.octets d ed;
         m_octets = pm.octets m em;
         given_octets = pg.octets g eg;

@@ -14,17 +14,17 @@ pub record OfSeven (count : ℕ) (most : List ℕ) : Type 0 where
 unfoldable pub numbers_of : (words : List (List ℕ)) → (from : ℕ) → (most : List ℕ) → Option (List ℕ)
 numbers_of words from most = if are_numbers words from most then Some (seven (numbers_in words from most)) else None
 
--- a word was read into memory that is `later` now: there is an answer where it is one of octets; it is how many, and `later` starts with them
+-- a word was read into memory that is `later` now: there is an answer where it is one of octets; it is how many, at most half of a line's, and `later` starts with them
 pub record PartRead (word later : List ℕ) (r : Option ℕ) : Type 0 where
   pub reply : is_some r ≡ are_octets word
-  pub within : (n : ℕ) → r ≡ Some n → n ≤ length later
+  pub few : (n : ℕ) → r ≡ Some n → n ≤ 150000
   pub octets : (n : ℕ) → r ≡ Some n → take n later ≡ octets_of word
 
 -- what a line of the form asks: its numbers, and what description, image and given start with
 pub record AskedOf (form : Form) (words : List (List ℕ)) (description image given : List ℕ) (a : Asked) : Type 0 where
-  pub d_within : a.d ≤ length description
-  pub m_within : a.m ≤ length image
-  pub given_within : a.given ≤ length given
+  pub d_few : a.d ≤ 150000
+  pub m_few : a.m ≤ 150000
+  pub given_few : a.given ≤ 150000
   pub d_octets : take a.d description ≡ octets_of (d_word form words)
   pub m_octets : take a.m image ≡ octets_of (m_word form words)
   pub given_octets : take a.given given ≡ octets_of (given_word form words)

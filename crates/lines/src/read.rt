@@ -4,6 +4,7 @@ ghost use Rattle.words.specs.Line.{line_words, split_of};
 ghost use Rattle.lines.specs.Answer.{nth, word_if, element_of, moment_of, tier_limits, date_of, date_limits};
 ghost use Rattle.lines.specs.Read.{OfSeven, numbers_of, PartRead, AskedRead};
 
+use crate::memory::{Memory, OCTETS};
 use crate::rows::Form;
 use meaning::{Date, ElementName, Moment};
 use words::Words;
@@ -40,10 +41,15 @@ fn read_numbers(
 
 // How many octets word k has, where the form has it, with them at the start of out, which has room
 // for them: an octet is two digits of the line. None where it is no word of octets.
-fn read_octets(line: &[u8], split: Words, k: usize, there: bool, out: &mut [u8]) -> Option<usize>
+fn read_octets(
+    line: &[u8],
+    split: Words,
+    k: usize,
+    there: bool,
+    out: &mut [u8; OCTETS],
+) -> Option<usize>
     requires split_value { split ≡ split_of line.now }
     requires line_len_bound { length line.now ≤ 300000 }
-    requires in_bounds { 150000 ≤ length out.old }
     ensures { PartRead (word_if there (nth (line_words line.now) k)) out.new result }
 {
     if !there {
@@ -53,21 +59,12 @@ fn read_octets(line: &[u8], split: Words, k: usize, there: bool, out: &mut [u8])
 }
 
 // Reads all that a line of this form asks; None where it is not of the form.
-pub fn read_asked(
-    line: &[u8],
-    split: Words,
-    form: Form,
-    description: &mut [u8],
-    image: &mut [u8],
-    given: &mut [u8],
-) -> Option<Asked>
+pub fn read_asked(line: &[u8], split: Words, form: Form, memory: &mut Memory) -> Option<Asked>
     requires split_value { split ≡ split_of line.now }
     requires line_len_bound { length line.now ≤ 300000 }
-    requires in_bounds { 150000 ≤ length description.old }
-    requires in_bounds_2 { 150000 ≤ length image.old }
-    requires in_bounds_3 { 150000 ≤ length given.old }
     requires lent_bound { (form.lent ≤ 2) × OfSeven form.numbers form.most }
-    ensures { AskedRead form (line_words line.now) description.new image.new given.new result }
+    ensures read { AskedRead form (line_words line.now) memory.new.description memory.new.image memory.new.given result }
+    ensures same_reply { memory.new.reply ≡ memory.old.reply }
 {
     if split.count != form.words {
         return None;
@@ -76,14 +73,14 @@ pub fn read_asked(
     let count = form.numbers;
     let most = form.most;
     let from = 1 + lent;
-    let d = read_octets(line, split, 1, 0 < lent, description)?;
-    let m = read_octets(line, split, 2, 1 < lent, image)?;
+    let d = read_octets(line, split, 1, 0 < lent, &mut memory.description)?;
+    let m = read_octets(line, split, 2, 1 < lent, &mut memory.image)?;
     let numbers = read_numbers(line, split, from, count, most)?;
-    let new = read_octets(line, split, from + count, form.given, given)?;
+    let given = read_octets(line, split, from + count, form.given, &mut memory.given)?;
     Some(Asked {
         d,
         m,
-        given: new,
+        given,
         numbers,
     })
 }

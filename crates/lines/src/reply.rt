@@ -1,9 +1,10 @@
 // What a line is answered: its first word tells the row of the table, the row the form that the line
 // must have, and both the reply.
 ghost use Rattle.std.specs.Prelude.{◌≤◌, [], length};
-ghost use Rattle.lines.specs.Answer.{answer_text, reply_text, row_text, Within, room_for, Memory, Replied};
+ghost use Rattle.lines.specs.Answer.{answer_text, reply_text, row_text, Within, room_for, Replied};
 ghost use Rattle.lines.specs.Kinds.{tables_place, messages_place, kind_place};
 
+use crate::memory::Memory;
 use crate::rows::{Kind, MessageKind, TableKind};
 use crate::{ask, memory, message, put, read, rows};
 
@@ -93,40 +94,29 @@ fn reply(
     }
 }
 
-// Puts the reply to a line, and the line feed that ends it, at the start of out, and answers how
-// many octets that is. Of a line longer than 300,000 octets the first 300,001 are handed over, by
-// which it is told. Nothing of what description, image and given hold before the call is read.
-pub fn answer(
-    line: &[u8],
-    out: &mut [u8],
-    description: &mut [u8],
-    image: &mut [u8],
-    given: &mut [u8],
-) -> usize
-    requires { Memory out.old description.old image.old given.old }
-    ensures { Replied out.old (answer_text line.now) out.new result }
+// Puts the reply to a line, and the line feed that ends it, at the start of the memory's reply, and
+// answers how many octets that is. Of a line longer than 300,000 octets the first 300,001 are handed
+// over, by which it is told. Nothing of what the memory holds before the call is read.
+pub fn answer(line: &[u8], memory: &mut Memory) -> usize
+    ensures { Replied memory.old.reply (answer_text line.now) memory.new.reply result }
 {
     if LONGEST < line.len() {
-        return put::no_form(out);
+        return put::no_form(&mut memory.reply);
     }
     let split = words::split(line);
     let Some(kind) = rows::kind_of(words::word(line, split, 0)) else {
-        return put::no_form(out);
+        return put::no_form(&mut memory.reply);
     };
-    let form = kind.form();
-    let Some(asked) = read::read_asked(line, split, form, description, image, given) else {
-        return put::no_form(out);
+    let Some(asked) = read::read_asked(line, split, kind.form(), memory) else {
+        return put::no_form(&mut memory.reply);
     };
-    let n = asked.d;
-    let k = asked.m;
-    let g = asked.given;
-    let numbers = asked.numbers;
+    let image = &mut memory.image[..];
     reply(
         kind,
-        &description[..n],
-        &mut image[..k],
-        numbers,
-        &given[..g],
-        out,
+        &memory.description[..asked.d],
+        &mut image[..asked.m],
+        asked.numbers,
+        &memory.given[..asked.given],
+        &mut memory.reply,
     )
 }

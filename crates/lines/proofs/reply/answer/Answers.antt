@@ -1,6 +1,8 @@
 -- `lines::reply::answer`: no form where the line is too long, of no row, or not of its row's form; else the reply to what it asks. Assumes nothing.
-use mathlib.Core.Path.{sym}
+use mathlib.Core.Path.{◌≡◌, sym}
 use native.Mathlib.Omega.{arith}
+use borrow.Author.Rules.{rules}
+use lib.ListN.{length}
 use lib.Seq.{length-take-le}
 use Rattle.lines.specs.Answer.{table_rows, message_rows, date_rows, rows}
 use Rattle.lines.proofs.AnswerLaws.{put_as, word_at, row_fits, too_long, unknown, asked_reply, asked_none, asked_room, asked_within, asked_few}
@@ -20,46 +22,42 @@ returns-in_default c =
 pub read_asked-requires : goal.read_asked-requires
 read_asked-requires c =
     let fits = row_fits _ (kinds_in c.in-Some.kind) in
-    record { split_value = c.split-split.ensures; line_len_bound = omega arith; in_bounds = omega (arith, c.requires.items); in_bounds_2 = c.requires.tables; in_bounds_3 = c.requires.new; lent_bound = rw c.form-form.ensures (fits.lent, fits.numbers) }
-
-pub no_form-requires-in_default-read_asked : goal.no_form-requires-in_default-read_asked
-no_form-requires-in_default-read_asked c = omega (arith, c.requires.reply)
+    record { split_value = c.split-split.ensures; line_len_bound = omega arith; lent_bound = rw c.form.ensures (fits.lent, fits.numbers) }
 
 pub returns-in_default-read_asked : goal.returns-in_default-read_asked
 returns-in_default-read_asked c =
     let name = word_at _ _ c.split-split.ensures _ _ c.word.ensures.reply in
-    put_as _ c.no_form-in_default-read_asked.ensures
-    (asked_none _ _ (rw c.in-Some.is at c.kind_of.ensures) c.form-form.ensures name (kinds_in _) c.read_asked.ensures c.in_default-read_asked.is (omega (arith, c.if-line-gt-LONGEST.false)))
+    rw (← c.read_asked.ensures.same_reply)
+    (put_as _ c.no_form-in_default-read_asked.ensures
+    (asked_none _ _ (rw c.in-Some.is at c.kind_of.ensures) c.form.ensures name (kinds_in _) c.read_asked.ensures.read c.in_default-read_asked.is (omega (arith, c.if-line-gt-LONGEST.false))))
 
-pub slice_bounds-reply-end : goal.slice_bounds-reply-end
-slice_bounds-reply-end c = (c.read_asked.ensures.asked _ c.in-Some-read_asked.is).d_within
+pub shared_ref_as_front-reply : goal.shared_ref_as_front-reply
+shared_ref_as_front-reply c = (c.read_asked.ensures.read.asked _ c.in-Some-read_asked.is).d_few
 
 pub slice_bounds-reply-end-2 : goal.slice_bounds-reply-end-2
-slice_bounds-reply-end-2 c = sym (length-take-le _ _ (c.read_asked.ensures.asked _ c.in-Some-read_asked.is).d_within)
+slice_bounds-reply-end-2 c =
+    let image_long : length c.read_asked.new.memory.image ≡ 150000 = search rules in
+    let few = (c.read_asked.ensures.read.asked _ c.in-Some-read_asked.is).m_few in
+    sym (length-take-le _ _ (omega arith))
 
-pub slice_bounds-reply-end-3 : goal.slice_bounds-reply-end-3
-slice_bounds-reply-end-3 c = (c.read_asked.ensures.asked _ c.in-Some-read_asked.is).m_within
-
-pub slice_bounds-reply-end-4 : goal.slice_bounds-reply-end-4
-slice_bounds-reply-end-4 c = sym (length-take-le _ _ (c.read_asked.ensures.asked _ c.in-Some-read_asked.is).m_within)
-
-pub slice_bounds-reply-end-5 : goal.slice_bounds-reply-end-5
-slice_bounds-reply-end-5 c = (c.read_asked.ensures.asked _ c.in-Some-read_asked.is).given_within
-
-pub slice_bounds-reply-end-6 : goal.slice_bounds-reply-end-6
-slice_bounds-reply-end-6 c = sym (length-take-le _ _ (c.read_asked.ensures.asked _ c.in-Some-read_asked.is).given_within)
+pub shared_ref_as_front-reply-2 : goal.shared_ref_as_front-reply-2
+shared_ref_as_front-reply-2 c = (c.read_asked.ensures.read.asked _ c.in-Some-read_asked.is).given_few
 
 pub reply-requires : goal.reply-requires
 reply-requires c =
     let name = word_at _ _ c.split-split.ensures _ _ c.word.ensures.reply in
+    let kind = rw c.in-Some.is at c.kind_of.ensures in
+    let image_long : length c.read_asked.new.memory.image ≡ 150000 = search rules in
+    let reply_long : length c.read_asked.new.memory.reply ≡ 900131 = search rules in
     record {
-      m_in_bounds = asked_room _ _ (rw c.in-Some.is at c.kind_of.ensures) c.form-form.ensures name (kinds_in _) c.read_asked.ensures _ c.in-Some-read_asked.is c.args.image.now c.args.out.now c.read_asked.auto.image c.requires.reply;
-      within = asked_within _ _ (rw c.in-Some.is at c.kind_of.ensures) c.form-form.ensures name (kinds_in _) c.read_asked.ensures _ c.in-Some-read_asked.is;
-      d_len_bound = asked_few c.in-Some-read_asked.asked.d c.read_asked.new.description c.args.description.now c.read_asked.auto.description c.requires.items;
+      m_in_bounds = asked_room c.in-Some-read_asked.asked.m c.read_asked.new.memory.image c.read_asked.new.memory.reply (omega arith);
+      within = asked_within _ _ kind c.form.ensures name (kinds_in _) c.read_asked.ensures.read _ c.in-Some-read_asked.is;
+      d_len_bound = asked_few c.in-Some-read_asked.asked.d c.read_asked.new.memory.description (c.read_asked.ensures.read.asked _ c.in-Some-read_asked.is).d_few;
     }
 
 pub returns : goal.returns
 returns c =
     let name = word_at _ _ c.split-split.ensures _ _ c.word.ensures.reply in
-    put_as _ c.reply.ensures
-    (asked_reply _ _ (rw c.in-Some.is at c.kind_of.ensures) c.form-form.ensures name (kinds_in _) c.read_asked.ensures _ c.in-Some-read_asked.is (omega (arith, c.if-line-gt-LONGEST.false)))
+    rw (← c.read_asked.ensures.same_reply)
+    (put_as _ c.reply.ensures
+    (asked_reply _ _ (rw c.in-Some.is at c.kind_of.ensures) c.form.ensures name (kinds_in _) c.read_asked.ensures.read _ c.in-Some-read_asked.is (omega (arith, c.if-line-gt-LONGEST.false))))
