@@ -27,7 +27,7 @@ fn reply_tables(
 {
     let form = kind.form();
     let told = replies::numbers(ask::ask(kind, d, m, numbers, given));
-    let first = put::put_numbers(out, told, form.told);
+    let first = put::put_numbers(out, &told[..form.told]);
     let second = ask::put_part(kind, d, m, numbers, out, first);
     let last = put::put_octets_if(out, second, form.after, m);
     words::put_octet(out, last, b'\n')
@@ -52,7 +52,7 @@ fn reply_message(
     let answered = message::ask(kind, d, m, numbers, given, &mut part);
     let told = answered.numbers;
     let count = answered.count;
-    let first = put::put_numbers(out, told, form.told);
+    let first = put::put_numbers(out, &told[..form.told]);
     let second = put::put_octets_if(out, first, form.part, &part[..count]);
     let last = put::put_octets_if(out, second, form.after, m);
     words::put_octet(out, last, b'\n')
@@ -66,7 +66,7 @@ fn reply_weekday(numbers: [u64; 7], out: &mut [u8]) -> usize
 {
     let told = replies::told(dates::weekday_of(read::date(numbers)));
     let refusal = told.refusal;
-    let last = put::put_numbers(out, [refusal.number, told.first, 0, 0, 0, 0], 2);
+    let last = put::put_numbers(out, &[refusal.number, told.first]);
     words::put_octet(out, last, b'\n')
 }
 

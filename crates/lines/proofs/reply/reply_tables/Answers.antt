@@ -1,13 +1,29 @@
 -- `lines::reply::reply_tables`: asked, then the numbers, the octets and the image afterwards. Assumes nothing.
+use mathlib.Core.Path.{◌≡◌, sym}
 use native.Mathlib.Omega.{arith}
+use lib.Seq.{length-take-le}
+use lib.ListN.{length, length-take}
 use borrow.Author.Rules.{rules}
 use Rattle.lines.proofs.AskLaws.{told_few, room_for_part, room_for_image, whole_put}
 use Rattle.lines.proofs.KindLaws.{tables_in}
 use Rattle.lines.proofs.reply.reply_tables.Goals as goal
 
+pub slice_bounds-told-end : goal.slice_bounds-told-end
+slice_bounds-told-end c =
+    let six : length c.numbers-told.result ≡ 6 = search rules in
+    let few = told_few c.form-form.ensures (tables_in _) in
+    omega arith
+
+pub slice_bounds-put_numbers-end : goal.slice_bounds-put_numbers-end
+slice_bounds-put_numbers-end c =
+    let six : length c.numbers-told.result ≡ 6 = search rules in
+    let few = told_few c.form-form.ensures (tables_in _) in
+    sym (length-take-le _ _ (omega arith))
+
 pub put_numbers-first-requires : goal.put_numbers-first-requires
 put_numbers-first-requires c =
-    record { count_bound = told_few c.form-form.ensures (tables_in _); in_bounds = omega arith }
+    let few = told_few c.form-form.ensures (tables_in _) in
+    record { numbers_few = omega (arith, length-take c.form-form.result.told c.numbers-told.result); in_bounds = omega (arith, c.requires.m_in_bounds) }
 
 pub put_part-second-requires : goal.put_part-second-requires
 put_part-second-requires c =
