@@ -108,29 +108,26 @@ module _ {kind : ℕ} {d m numbers new out told later : List ℕ} {f : Form} {t 
     whole_put = whole (said kind d m numbers new) told is-form inside asked_told a.image (omega arith) p₁ a.octets p₂.short p₂.put
 
 -- of a message
-module _ {kind : ℕ} {d m numbers new out part later : List ℕ} {f : Form} {t : Answered} (is-form : f ≡ form_of kind) (inside : kind < length rows)
-    (a : MessageAsked kind d m numbers new t part later) (same : length later ≡ length m) (room : room_for m ≤ length out) {now₁ : List ℕ} {at₁ : ℕ}
+module _ {kind : ℕ} {d m numbers new out later : List ℕ} {f : Form} {t : Answered} (is-form : f ≡ form_of kind) (inside : kind < length rows)
+    (a : MessageAsked kind d m numbers new t later) (same : length later ≡ length m) (room : room_for m ≤ length out) {now₁ : List ℕ} {at₁ : ℕ}
     (p₁ : IsPut out 0 (add_words [] (map decimal_text (take f.told t.numbers))) now₁ at₁) where
   message_told : take f.told t.numbers ≡ take (form_of kind).told (said kind d m numbers new).numbers
   message_told = rw (is-form, a.told)
 
-  message_short : length (take t.count part) ≤ 150000
-  message_short = omega (arith, length-take t.count part, a.within)
+  pub room_for_message : at₁ + 2 * length t.octets.now + 2 ≤ length now₁
+  room_for_message = omega (arith, a.within, room_behind (said kind d m numbers new) t.numbers is-form inside message_told a.image (omega arith) p₁)
 
-  pub room_for_message : at₁ + 2 * length (take t.count part) + 2 ≤ length now₁
-  room_for_message = omega (arith, message_short, room_behind (said kind d m numbers new) t.numbers is-form inside message_told a.image (omega arith) p₁)
-
-  module _ {now₂ : List ℕ} {at₂ : ℕ} (p₂ : IsPut now₁ at₁ (hex_behind at₁ f.part (take t.count part)) now₂ at₂) where
-    message_put : IsPut now₁ at₁ (hex_behind at₁ (form_of kind).part (take t.count part)) now₂ at₂
+  module _ {now₂ : List ℕ} {at₂ : ℕ} (p₂ : IsPut now₁ at₁ (hex_behind at₁ f.part t.octets.now) now₂ at₂) where
+    message_put : IsPut now₁ at₁ (hex_behind at₁ (form_of kind).part t.octets.now) now₂ at₂
     message_put = rw is-form at p₂
 
     pub room_behind_message : at₂ + 2 * length later + 2 ≤ length now₂
-    room_behind_message = image_room (said kind d m numbers new) t.numbers is-form inside message_told a.image (omega arith) p₁ a.octets (λ e. omega (arith, message_short)) message_put
+    room_behind_message = image_room (said kind d m numbers new) t.numbers is-form inside message_told a.image (omega arith) p₁ a.octets (λ e. omega (arith, a.within)) message_put
 
     pub message_whole : {now₃ last : List ℕ} {at₃ r : ℕ} → IsPut now₂ at₂ (hex_behind at₂ f.after later) now₃ at₃ → IsPut now₃ at₃ (10 ∷ []) last r
         → Replied out (row_text kind d m numbers new) last r
     unfolding row_text
-    message_whole = whole (said kind d m numbers new) t.numbers is-form inside message_told a.image (omega arith) p₁ a.octets (λ e. omega (arith, message_short)) message_put
+    message_whole = whole (said kind d m numbers new) t.numbers is-form inside message_told a.image (omega arith) p₁ a.octets (λ e. omega (arith, a.within)) message_put
 
 -- of a date's weekday: numbers alone, and D, M and DATA have no part in it
 pub weekday_put : (numbers : List ℕ) {out now last : List ℕ} {at r : ℕ} {t : Told} → t ≡ told_by (weekday_reply (date_of numbers)) → room_for [] ≤ length out

@@ -51,9 +51,8 @@ fn reply_message(
     let mut part = memory::octets();
     let answered = message::ask(kind, d, m, numbers, given, &mut part);
     let told = answered.numbers;
-    let count = answered.count;
     let first = put::put_numbers(out, &told[..form.told]);
-    let second = put::put_octets_if(out, first, form.part, &part[..count]);
+    let second = put::put_octets_if(out, first, form.part, answered.octets);
     let last = put::put_octets_if(out, second, form.after, m);
     words::put_octet(out, last, b'\n')
 }

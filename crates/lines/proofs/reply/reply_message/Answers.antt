@@ -25,9 +25,6 @@ put_numbers-first-requires c =
     let few = told_few c.form-form.ensures (messages_in _) in
     record { numbers_few = omega (arith, length-take c.form-form.result.told c.ask-answered.result.numbers); in_bounds = omega (arith, c.requires.m_in_bounds) }
 
-pub slice_bounds-put_octets_if-end : goal.slice_bounds-put_octets_if-end
-slice_bounds-put_octets_if-end c = sym (length-take-le _ _ (search rules))
-
 pub put_octets_if-second-requires : goal.put_octets_if-second-requires
 put_octets_if-second-requires c =
     room_for_message c.form-form.ensures (messages_in _) c.ask-answered.ensures (search rules) c.requires.m_in_bounds c.put_numbers-first.ensures
