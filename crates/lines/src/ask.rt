@@ -4,16 +4,18 @@ ghost use Rattle.lines.specs.Answer.{Within};
 ghost use Rattle.lines.specs.Ask.{Asks, Parted};
 ghost use Rattle.lines.specs.Kinds.{tables_place};
 
+use crate::read::Operands;
 use crate::rows::TableKind;
 use crate::{put, read};
 use meaning::{Refusal, Told};
 use offsets::TableOffset;
 
 // What a question tells, and a write done in m.
-pub fn ask(kind: TableKind, d: &[u8], m: &mut [u8], numbers: [u64; 7], given: &[u8]) -> Told
-    requires { Within (tables_place kind) numbers }
-    ensures { Asks (tables_place kind) d.now m.old numbers given.now result m.new }
+pub fn ask(kind: TableKind, operands: Operands<'_>, m: &mut [u8]) -> Told
+    requires { Within (tables_place kind) operands.numbers }
+    ensures { Asks (tables_place kind) operands.entry.d.now m.old operands.entry.numbers operands.entry.given.now result m.new }
 {
+    let Operands { d, numbers, given } = operands;
     match kind {
         TableKind::Check => replies::verdict_told(sound::check(d)),
         TableKind::Layout => replies::told(places::layout(d, m)),
@@ -64,16 +66,16 @@ pub fn ask(kind: TableKind, d: &[u8], m: &mut [u8], numbers: [u64; 7], given: &[
 // cells.
 pub fn put_part(
     kind: TableKind,
-    d: &[u8],
+    operands: Operands<'_>,
     m: &[u8],
-    numbers: [u64; 7],
     out: &mut [u8],
     at: usize,
 ) -> usize
-    requires within { Within (tables_place kind) numbers }
+    requires within { Within (tables_place kind) operands.numbers }
     requires m_in_bounds { at + 2 * length m.now + 300002 ≤ length out.old }
-    ensures { Parted (tables_place kind) d.now m.now numbers out.old at out.new result }
+    ensures { Parted (tables_place kind) operands.entry.d.now m.now operands.entry.numbers out.old at out.new result }
 {
+    let Operands { d, numbers, .. } = operands;
     match kind {
         TableKind::TablePart => {
             let t = read::table(numbers);

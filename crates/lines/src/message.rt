@@ -5,6 +5,7 @@ ghost use Rattle.lines.specs.Answer.{Within, of_request, of_reply};
 ghost use Rattle.lines.specs.Ask.{ReadAs, MessageAsked};
 ghost use Rattle.lines.specs.Kinds.{messages_place};
 
+use crate::read::Operands;
 use crate::rows::MessageKind;
 use meaning::Reply;
 
@@ -53,16 +54,15 @@ fn read_reply(d: &[u8]) -> Answered<'_>
 // start of `part`.
 pub fn ask<'a>(
     kind: MessageKind,
-    d: &'a [u8],
+    operands: Operands<'a>,
     m: &mut [u8],
-    numbers: [u64; 7],
-    given: &[u8],
     part: &'a mut [u8],
 ) -> Answered<'a>
-    requires within { Within (messages_place kind) numbers }
-    requires d_len_bound { (length d.now ≤ 150000) × (length part.old ≡ 150000) }
-    ensures { MessageAsked (messages_place kind) d.now m.old numbers given.now result m.new }
+    requires within { Within (messages_place kind) operands.numbers }
+    requires d_len_bound { (length operands.d.now ≤ 150000) × (length part.old ≡ 150000) }
+    ensures { MessageAsked (messages_place kind) operands.entry.d.now m.old operands.entry.numbers operands.entry.given.now result m.new }
 {
+    let Operands { d, numbers, given } = operands;
     match kind {
         MessageKind::Serve => {
             let n = numbers[0] as usize;

@@ -18,6 +18,15 @@ pub struct Asked {
     pub numbers: [u64; 7],
 }
 
+// What a line lends the row that it asks for, beside the image: the octets of D, the numbers and the
+// octets of DATA.
+#[derive(Clone, Copy)]
+pub struct Operands<'a> {
+    pub d: &'a [u8],
+    pub numbers: [u64; 7],
+    pub given: &'a [u8],
+}
+
 // The numbers from a word on, as many as count, each at most what stands for it in most, and 0
 // behind the last; None where one is no number or too large.
 fn read_numbers(

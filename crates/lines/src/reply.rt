@@ -5,6 +5,7 @@ ghost use Rattle.lines.specs.Answer.{answer_text, reply_text, row_text, Within, 
 ghost use Rattle.lines.specs.Kinds.{tables_place, messages_place, kind_place};
 
 use crate::memory::Memory;
+use crate::read::Operands;
 use crate::rows::{Kind, MessageKind, TableKind};
 use crate::{ask, memory, message, put, read, rows};
 
@@ -13,43 +14,29 @@ const LONGEST: usize = 300000;
 
 // The reply to a question about tables, by the octets of D and M, the numbers, each within its limit,
 // and the octets of DATA.
-fn reply_tables(
-    kind: TableKind,
-    d: &[u8],
-    m: &mut [u8],
-    numbers: [u64; 7],
-    given: &[u8],
-    out: &mut [u8],
-) -> usize
+fn reply_tables(kind: TableKind, operands: Operands<'_>, m: &mut [u8], out: &mut [u8]) -> usize
     requires m_in_bounds { room_for m.old ≤ length out.old }
-    requires within { Within (tables_place kind) numbers }
-    ensures { Replied out.old (row_text (tables_place kind) d.now m.old numbers given.now) out.new result }
+    requires within { Within (tables_place kind) operands.numbers }
+    ensures { Replied out.old (row_text (tables_place kind) operands.entry.d.now m.old operands.entry.numbers operands.entry.given.now) out.new result }
 {
     let form = kind.form();
-    let told = replies::numbers(ask::ask(kind, d, m, numbers, given));
+    let told = replies::numbers(ask::ask(kind, operands, m));
     let first = put::put_numbers(out, &told[..form.told]);
-    let second = ask::put_part(kind, d, m, numbers, out, first);
+    let second = ask::put_part(kind, operands, m, out, first);
     let last = put::put_octets_if(out, second, form.after, m);
     words::put_octet(out, last, b'\n')
 }
 
 // The reply to a row of messages, likewise.
-fn reply_message(
-    kind: MessageKind,
-    d: &[u8],
-    m: &mut [u8],
-    numbers: [u64; 7],
-    given: &[u8],
-    out: &mut [u8],
-) -> usize
+fn reply_message(kind: MessageKind, operands: Operands<'_>, m: &mut [u8], out: &mut [u8]) -> usize
     requires m_in_bounds { room_for m.old ≤ length out.old }
-    requires within { Within (messages_place kind) numbers }
-    requires d_len_bound { length d.now ≤ 150000 }
-    ensures { Replied out.old (row_text (messages_place kind) d.now m.old numbers given.now) out.new result }
+    requires within { Within (messages_place kind) operands.numbers }
+    requires d_len_bound { length operands.d.now ≤ 150000 }
+    ensures { Replied out.old (row_text (messages_place kind) operands.entry.d.now m.old operands.entry.numbers operands.entry.given.now) out.new result }
 {
     let form = kind.form();
     let mut part = memory::octets();
-    let answered = message::ask(kind, d, m, numbers, given, &mut part);
+    let answered = message::ask(kind, operands, m, &mut part);
     let told = answered.numbers;
     let first = put::put_numbers(out, &told[..form.told]);
     let second = put::put_octets_if(out, first, form.part, answered.octets);
@@ -70,26 +57,19 @@ fn reply_weekday(numbers: [u64; 7], out: &mut [u8]) -> usize
 }
 
 // The reply to what a line asks of this row. Numbers that the row doesn't take are no form.
-fn reply(
-    kind: Kind,
-    d: &[u8],
-    m: &mut [u8],
-    numbers: [u64; 7],
-    given: &[u8],
-    out: &mut [u8],
-) -> usize
+fn reply(kind: Kind, operands: Operands<'_>, m: &mut [u8], out: &mut [u8]) -> usize
     requires m_in_bounds { room_for m.old ≤ length out.old }
-    requires within { Within (kind_place kind) numbers }
-    requires d_len_bound { length d.now ≤ 150000 }
-    ensures { Replied out.old (reply_text (kind_place kind) d.now m.old numbers given.now) out.new result }
+    requires within { Within (kind_place kind) operands.numbers }
+    requires d_len_bound { length operands.d.now ≤ 150000 }
+    ensures { Replied out.old (reply_text (kind_place kind) operands.entry.d.now m.old operands.entry.numbers operands.entry.given.now) out.new result }
 {
-    if !kind.takes(numbers) {
+    if !kind.takes(operands.numbers) {
         return put::no_form(out);
     }
     match kind {
-        Kind::Tables(kind) => reply_tables(kind, d, m, numbers, given, out),
-        Kind::Messages(kind) => reply_message(kind, d, m, numbers, given, out),
-        Kind::Weekday => reply_weekday(numbers, out),
+        Kind::Tables(kind) => reply_tables(kind, operands, m, out),
+        Kind::Messages(kind) => reply_message(kind, operands, m, out),
+        Kind::Weekday => reply_weekday(operands.numbers, out),
     }
 }
 
@@ -110,12 +90,11 @@ pub fn answer(line: &[u8], memory: &mut Memory) -> usize
         return put::no_form(&mut memory.reply);
     };
     let image = &mut memory.image[..];
-    reply(
-        kind,
-        &memory.description[..asked.d],
-        &mut image[..asked.m],
-        asked.numbers,
-        &memory.given[..asked.given],
-        &mut memory.reply,
-    )
+    let numbers = asked.numbers;
+    let operands = Operands {
+        d: &memory.description[..asked.d],
+        numbers,
+        given: &memory.given[..asked.given],
+    };
+    reply(kind, operands, &mut image[..asked.m], &mut memory.reply)
 }

@@ -31,17 +31,17 @@ returns-in_default-read_asked c =
     (put_as _ c.no_form-in_default-read_asked.ensures
     (asked_none _ _ (rw c.in-Some.is at c.kind_of.ensures) c.form.ensures name (kinds_in _) c.read_asked.ensures.read c.in_default-read_asked.is (omega (arith, c.if-line-gt-LONGEST.false))))
 
-pub shared_ref_as_front-reply : goal.shared_ref_as_front-reply
-shared_ref_as_front-reply c = (c.read_asked.ensures.read.asked _ c.in-Some-read_asked.is).d_few
+pub shared_ref_as_front-operands : goal.shared_ref_as_front-operands
+shared_ref_as_front-operands c = (c.read_asked.ensures.read.asked _ c.in-Some-read_asked.is).d_few
 
-pub slice_bounds-reply-end-2 : goal.slice_bounds-reply-end-2
-slice_bounds-reply-end-2 c =
+pub slice_bounds-reply-end : goal.slice_bounds-reply-end
+slice_bounds-reply-end c =
     let image_long : length c.read_asked.new.memory.image ≡ 150000 = search rules in
     let few = (c.read_asked.ensures.read.asked _ c.in-Some-read_asked.is).m_few in
-    sym (length-take-le _ _ (omega arith))
+    sym (length-take-le c.in-Some-read_asked.asked.m c.read_asked.new.memory.image (omega arith))
 
-pub shared_ref_as_front-reply-2 : goal.shared_ref_as_front-reply-2
-shared_ref_as_front-reply-2 c = (c.read_asked.ensures.read.asked _ c.in-Some-read_asked.is).given_few
+pub shared_ref_as_front-operands-2 : goal.shared_ref_as_front-operands-2
+shared_ref_as_front-operands-2 c = (c.read_asked.ensures.read.asked _ c.in-Some-read_asked.is).given_few
 
 pub reply-requires : goal.reply-requires
 reply-requires c =
