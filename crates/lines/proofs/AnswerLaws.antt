@@ -45,16 +45,15 @@ module _ (line : List ℕ) (split : Words) (is-split : split ≡ split_of line) 
   unfolding nth
   word_at k word e = word_of line split k word is-split e
 
-  -- word k, which the form has, read as octets, with room for them: an octet is two digits of the line
-  pub word_read : {there : Bool} (k : ℕ) (word : List ℕ) {given later : List ℕ} {r : Option ℕ} → there ≡ true → word ≡ word_in line split k
-      → length line ≤ 300000 → OctetsRead word given later r → 150000 ≤ length given → PartRead (word_if there (nth (line_words line) k)) later r
-  unfolding word_if
-  word_read k word t e short p room =
-      rw (t, ← word_at k word e) (part_read p (omega (arith, word_short line split k word e)) (omega (arith, word_short line split k word e)))
-
   -- the number of words
   pub counted : split.count ≡ length (line_words line)
   counted = count_of line split is-split
+
+-- word k, which the form has, read as octets, with room for them: an octet is two digits of the line
+pub word_read : {there : Bool} (words : List (List ℕ)) (k : ℕ) (word : List ℕ) {given later : List ℕ} {r : Option ℕ} → there ≡ true → word ≡ nth words k
+    → length word ≤ 300000 → OctetsRead word given later r → 150000 ≤ length given → PartRead (word_if there (nth words k)) later r
+unfolding word_if
+word_read words k word t e short p room = rw (t, ← e) (part_read p (omega arith) short)
 
 pub too_long : (line : List ℕ) → 300000 < length line → no_form ≡ answer_text line
 unfolding answer_text

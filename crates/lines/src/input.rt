@@ -10,15 +10,15 @@ use std::io::{Read, Write};
 
 // The start of a line that has not ended: the octets that are held of it stand first in `octets`.
 #[derive(Drop)]
-pub struct Line {
+pub struct Gathered {
     octets: [u8; memory::LINE],
     held: usize,
     ghost held_fits: { held ≤ length octets },
 }
 
-impl Line {
-    pub fn new() -> Line {
-        Line {
+impl Gathered {
+    pub fn new() -> Gathered {
+        Gathered {
             octets: memory::line(),
             held: 0,
         }
@@ -58,7 +58,7 @@ fn give<W: Write>(output: &mut W, line: &[u8], memory: &mut Memory) -> bool {
 fn take_lines<W: Write>(
     output: &mut W,
     chunk: &[u8],
-    line: &mut Line,
+    line: &mut Gathered,
     memory: &mut Memory,
 ) -> bool {
     let mut rest = chunk;
@@ -80,7 +80,7 @@ fn read_some<R: Read, W: Write>(
     input: &mut R,
     output: &mut W,
     chunk: &mut [u8],
-    line: &mut Line,
+    line: &mut Gathered,
     memory: &mut Memory,
 ) -> bool {
     let n = input.read(chunk).unwrap_or(0);
@@ -100,7 +100,7 @@ pub fn run<R: Read, W: Write>(
     input: &mut R,
     output: &mut W,
     chunk: &mut [u8],
-    line: &mut Line,
+    line: &mut Gathered,
     memory: &mut Memory,
 ) {
     for _ in 0..u64::MAX {

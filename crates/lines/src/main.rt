@@ -13,7 +13,7 @@ mod rows;
 
 fn main(rt: HostRuntime) {
     let mut chunk = memory::chunk();
-    let mut line = input::Line::new();
+    let mut line = input::Gathered::new();
     let mut memory = memory::Memory::new();
     input::run(
         &mut rt.stdin(),

@@ -9,6 +9,33 @@ use crate::rows::Form;
 use meaning::{Date, ElementName, Moment};
 use words::Words;
 
+// A line that is taken, and where its words are.
+#[derive(Clone, Copy)]
+pub struct Line<'a> {
+    text: &'a [u8],
+    words: Words,
+    ghost is_split: { words ≡ split_of text.now },
+    ghost short: { length text.now ≤ 300000 },
+}
+
+impl<'a> Line<'a> {
+    pub fn new(text: &'a [u8]) -> Line<'a>
+        requires { length text.now ≤ 300000 }
+        ensures { result.text.now ≡ text.now }
+    {
+        let words = words::split(text);
+        Line { text, words }
+    }
+
+    // Word k; no octets where there is no word k.
+    pub fn word(self, k: usize) -> &'a [u8]
+        ensures value { result.now ≡ nth (line_words self.entry.text.now) k }
+        ensures short { length result.now ≤ 300000 }
+    {
+        words::word(self.text, self.words, k)
+    }
+}
+
 // What a line of a form asks: how many octets D, M and DATA have, and the numbers.
 #[derive(Clone, Copy)]
 pub struct Asked {
@@ -29,63 +56,45 @@ pub struct Operands<'a> {
 
 // The numbers from a word on, as many as count, each at most what stands for it in most, and 0
 // behind the last; None where one is no number or too large.
-fn read_numbers(
-    line: &[u8],
-    split: Words,
-    from: usize,
-    count: usize,
-    most: [u64; 7],
-) -> Option<[u64; 7]>
-    requires split_value { split ≡ split_of line.now }
+fn read_numbers(line: Line<'_>, from: usize, count: usize, most: [u64; 7]) -> Option<[u64; 7]>
     requires from_bound { (from ≤ 3) × OfSeven count most }
-    ensures { result ≡ numbers_of (line_words line.now) from (take count most) }
+    ensures { result ≡ numbers_of (line_words line.entry.text.now) from (take count most) }
 {
     let mut values = [0u64; 7];
     for i in 0..count {
-        let word = words::word(line, split, from + i);
-        values[i] = words::number(word, most[i])?;
+        values[i] = words::number(line.word(from + i), most[i])?;
     }
     Some(values)
 }
 
 // How many octets word k has, where the form has it, with them at the start of out, which has room
 // for them: an octet is two digits of the line. None where it is no word of octets.
-fn read_octets(
-    line: &[u8],
-    split: Words,
-    k: usize,
-    there: bool,
-    out: &mut [u8; OCTETS],
-) -> Option<usize>
-    requires split_value { split ≡ split_of line.now }
-    requires line_len_bound { length line.now ≤ 300000 }
-    ensures { PartRead (word_if there (nth (line_words line.now) k)) out.new result }
+fn read_octets(line: Line<'_>, k: usize, there: bool, out: &mut [u8; OCTETS]) -> Option<usize>
+    ensures { PartRead (word_if there (nth (line_words line.entry.text.now) k)) out.new result }
 {
     if !there {
         return Some(0);
     }
-    words::octets(words::word(line, split, k), out)
+    words::octets(line.word(k), out)
 }
 
 // Reads all that a line of this form asks; None where it is not of the form.
-pub fn read_asked(line: &[u8], split: Words, form: Form, memory: &mut Memory) -> Option<Asked>
-    requires split_value { split ≡ split_of line.now }
-    requires line_len_bound { length line.now ≤ 300000 }
+pub fn read_asked(line: Line<'_>, form: Form, memory: &mut Memory) -> Option<Asked>
     requires lent_bound { (form.lent ≤ 2) × OfSeven form.numbers form.most }
-    ensures read { AskedRead form (line_words line.now) memory.new.description memory.new.image memory.new.given result }
+    ensures read { AskedRead form (line_words line.entry.text.now) memory.new.description memory.new.image memory.new.given result }
     ensures same_reply { memory.new.reply ≡ memory.old.reply }
 {
-    if split.count != form.words {
+    if line.words.count != form.words {
         return None;
     }
     let lent = form.lent;
     let count = form.numbers;
     let most = form.most;
     let from = 1 + lent;
-    let d = read_octets(line, split, 1, 0 < lent, &mut memory.description)?;
-    let m = read_octets(line, split, 2, 1 < lent, &mut memory.image)?;
-    let numbers = read_numbers(line, split, from, count, most)?;
-    let given = read_octets(line, split, from + count, form.given, &mut memory.given)?;
+    let d = read_octets(line, 1, 0 < lent, &mut memory.description)?;
+    let m = read_octets(line, 2, 1 < lent, &mut memory.image)?;
+    let numbers = read_numbers(line, from, count, most)?;
+    let given = read_octets(line, from + count, form.given, &mut memory.given)?;
     Some(Asked {
         d,
         m,

@@ -5,7 +5,7 @@ ghost use Rattle.lines.specs.Answer.{answer_text, reply_text, row_text, Within, 
 ghost use Rattle.lines.specs.Kinds.{tables_place, messages_place, kind_place};
 
 use crate::memory::Memory;
-use crate::read::Operands;
+use crate::read::{Line, Operands};
 use crate::rows::{Kind, MessageKind, TableKind};
 use crate::{ask, memory, message, put, read, rows};
 
@@ -76,17 +76,17 @@ fn reply(kind: Kind, operands: Operands<'_>, m: &mut [u8], out: &mut [u8]) -> us
 // Puts the reply to a line, and the line feed that ends it, at the start of the memory's reply, and
 // answers how many octets that is. Of a line longer than 300,000 octets the first 300,001 are handed
 // over, by which it is told. Nothing of what the memory holds before the call is read.
-pub fn answer(line: &[u8], memory: &mut Memory) -> usize
-    ensures { Replied memory.old.reply (answer_text line.now) memory.new.reply result }
+pub fn answer(text: &[u8], memory: &mut Memory) -> usize
+    ensures { Replied memory.old.reply (answer_text text.now) memory.new.reply result }
 {
-    if LONGEST < line.len() {
+    if LONGEST < text.len() {
         return put::no_form(&mut memory.reply);
     }
-    let split = words::split(line);
-    let Some(kind) = rows::kind_of(words::word(line, split, 0)) else {
+    let line = Line::new(text);
+    let Some(kind) = rows::kind_of(line.word(0)) else {
         return put::no_form(&mut memory.reply);
     };
-    let Some(asked) = read::read_asked(line, split, kind.form(), memory) else {
+    let Some(asked) = read::read_asked(line, kind.form(), memory) else {
         return put::no_form(&mut memory.reply);
     };
     let image = &mut memory.image[..];

@@ -1,7 +1,6 @@
 -- `lines::read::read_numbers`. The loop's invariant: the words before i are numbers within their limits, and values are what they come to. Assumes nothing.
 use mathlib.Core.Path.{◌∙◌}
 use native.Mathlib.Omega.{arith}
-use Rattle.lines.proofs.AnswerLaws.{word_at}
 use Rattle.lines.proofs.ReadLaws.{limits_long, so_far_none, so_far_more, so_far_not, so_far_all}
 use Rattle.lines.proofs.read.read_numbers.Goals as goal
 
@@ -10,13 +9,11 @@ loop-i-init c = so_far_none _ _ _
 
 pub loop-i-preserved : goal.loop-i-preserved
 loop-i-preserved c =
-    let w = word_at _ _ c.requires.split_value _ _ c.word-word.ensures.reply in
-    so_far_more c.requires.from_bound.1 c.loop-i.invariant (omega arith) w c.number.ensures _ c.in_ok-values.was
+    so_far_more c.requires.from_bound.1 c.loop-i.invariant (omega arith) c.word.ensures.value c.number.ensures _ c.in_ok-values.was
 
 pub returns-in_err-values : goal.returns-in_err-values
 returns-in_err-values c =
-    let w = word_at _ _ c.requires.split_value _ _ c.word-word.ensures.reply in
-    c.from_residual.ensures ∙ so_far_not c.requires.from_bound.1 c.loop-i.invariant (omega arith) w c.number.ensures c.in_err-values.was
+    c.from_residual.ensures ∙ so_far_not c.requires.from_bound.1 c.loop-i.invariant (omega arith) c.word.ensures.value c.number.ensures c.in_err-values.was
 
 pub returns : goal.returns
 returns c = so_far_all c.loop-i.invariant (omega (arith, limits_long c.requires.from_bound.1))

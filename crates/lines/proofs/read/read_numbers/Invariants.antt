@@ -5,4 +5,4 @@ use Rattle.lines.proofs.ReadLaws.{SoFar}
 use Rattle.lines.proofs.read.read_numbers.Given as goal
 
 abbrev pub invariant-loop-i : goal.invariant-loop-i
-invariant-loop-i l = SoFar (line_words l.line) l.from (take l.count l.most) l.values l.i
+invariant-loop-i l = SoFar (line_words l.fn.line.text.now) l.from (take l.count l.most) l.values l.i

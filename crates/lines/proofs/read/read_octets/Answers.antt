@@ -13,4 +13,4 @@ returns-then-not-there c = part_none _ _ (c.if-not-there.true)
 pub returns : goal.returns
 returns c =
     let long : length c.args.out.now ≡ 150000 = search rules in
-    word_read _ _ c.requires.split_value _ _ c.if-not-there.false c.word.ensures.reply c.requires.line_len_bound c.octets.ensures (omega (arith, long))
+    word_read _ _ _ c.if-not-there.false c.word.ensures.value c.word.ensures.short c.octets.ensures (omega (arith, long))
