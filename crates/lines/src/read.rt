@@ -103,6 +103,9 @@ pub fn read_asked(line: Line<'_>, form: Form, memory: &mut Memory) -> Option<Ask
     })
 }
 
+// What numbers name. These are no `From`: all but the first are types of crate meaning, and an
+// array's impl for them may stand neither here nor there.
+
 // A table by its two numbers.
 #[derive(Clone, Copy)]
 pub struct TableName {

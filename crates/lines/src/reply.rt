@@ -2,6 +2,7 @@
 // must have, and both the reply.
 ghost use Rattle.std.specs.Prelude.{◌≤◌, [], length};
 ghost use Rattle.lines.specs.Answer.{answer_text, reply_text, row_text, Within, room_for, Replied};
+ghost use Rattle.lines.specs.declared.rows.Kind.{Kind};
 ghost use Rattle.lines.specs.Kinds.{tables_place, messages_place, kind_place};
 
 use crate::memory::Memory;
@@ -46,9 +47,9 @@ fn reply_message(kind: MessageKind, operands: Operands<'_>, m: &mut [u8], out: &
 
 // The reply to a date's weekday: the refusal's number, and the answer's own.
 fn reply_weekday(numbers: [u64; 7], out: &mut [u8]) -> usize
-    requires within { Within 19 numbers }
+    requires within { Within (kind_place Kind.Weekday) numbers }
     requires room_for_in_bounds { room_for [] ≤ length out.old }
-    ensures { Replied out.old (row_text 19 [] [] numbers []) out.new result }
+    ensures { Replied out.old (row_text (kind_place Kind.Weekday) [] [] numbers []) out.new result }
 {
     let told = replies::told(dates::weekday_of(read::date(numbers)));
     let refusal = told.refusal;

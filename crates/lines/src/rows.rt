@@ -138,7 +138,8 @@ const ONE_MORE: usize = 5;
 
 const TWO_MORE: usize = 6;
 
-// The form of a line and of its reply: the fields of Form, with the words counted.
+// The form of a line and of its reply: the fields of Form, with the words counted. They go by
+// position, as in a table: by name each row would take ten lines.
 fn columns(
     lent: usize,
     numbers: usize,

@@ -38,6 +38,7 @@ fn fill(word: &[u8], out: &mut [u8], count: usize)
     requires count_in_bounds { count ≤ length out.old }
     ensures { out.new ≡ laid out.old 0 (octets_of word.now) }
 {
+    // By index: `zip` with `chunks_exact(2)` was tried, and left its goals open.
     for i in 0..count {
         let high = hex_value(word[i * 2]);
         let low = hex_value(word[i * 2 + 1]);
