@@ -1,28 +1,27 @@
 -- What answering leans on: a word of the line, and which reply is due in each case. Assumes nothing.
-use mathlib.Core.Path.{◌≡◌, refl, ap, ◌∙◌}
+use mathlib.Core.Path.{◌≡◌, refl, ◌∙◌}
 use mathlib.Core.List.{List, [], ◌∷◌}
-use mathlib.Core.Bool.{Bool, true, false, not, ◌&&◌, ◌||◌, and-eq-true_iff}
-use Prim.Native.Nat.{ℕ, zero, suc, ◌+◌, ◌≤◌, ◌<◌, zero-le}
-use native.Mathlib.Nat.{not-suc-le-zero, le_of_suc-le-suc, add-zero, zero-add}
+use mathlib.Core.Bool.{Bool, true, false, ◌&&◌, and-eq-true_iff}
+use Prim.Native.Nat.{ℕ, zero, suc, ◌≤◌, ◌<◌, zero-le}
+use native.Mathlib.Nat.{not-suc-le-zero, le_of_suc-le-suc}
 use native.Mathlib.Omega.{arith}
-use borrow.Author.Tests.{lt-ltb, le-ltb, lt-leb, leb-true, eqb-true, ne_eqb, not-true}
+use borrow.Author.Tests.{lt-ltb, le-ltb, leb-true, eqb-true}
 use lib.Dec.{leb, eqb}
 use lib.ListN.{length, get_or, take, length-take, length-drop}
-use lib.Seq.{length-take-le}
-use Rattle.meaning.specs.Basics.{◌=?◌}
+use Rattle.std.specs.List.{list_all}
 use Rattle.words.specs.declared.types.Words.{Words}
-use Rattle.words.specs.declared.types.Octets.{Octets}
+use Rattle.std.specs.Prelude.{Option, Some, None}
+use Rattle.words.specs.declared.types.Span.{Span}
 use Rattle.words.specs.Hex.{OctetsRead}
 use Rattle.words.specs.Line.{line_words, split_of, part_of, word_in}
 use Rattle.words.proofs.Cases.{by_test}
 use Rattle.words.proofs.LineLaws.{count_of, word_of}
 use Rattle.lines.specs.declared.rows.Form.{Form}
-use Rattle.lines.specs.declared.read.Part.{Part}
 use Rattle.lines.specs.declared.read.Asked.{Asked}
-use Rattle.lines.specs.Answer.{nth, Row, table_rows, message_rows, date_rows, rows, no_row, row_at, kind_of, form_of, Within, word_if, is_kind, takes}
+use Rattle.lines.specs.Answer.{nth, Row, table_rows, message_rows, date_rows, rows, no_row, row_at, kind_of, form_of, Within, word_if, takes}
 use Rattle.lines.specs.Answer.{no_form, row_text, reply_text, answer_as, answer_words, answer_text, room_for, Replied}
 use Rattle.lines.specs.Read.{OfSeven, PartRead, AskedRead}
-use Rattle.lines.proofs.OctetLaws.{part_from, part_read}
+use Rattle.lines.proofs.OctetLaws.{part_read}
 use Rattle.lines.proofs.ReadLaws.{read_within}
 
 -- a reply that was put, under another name
@@ -30,14 +29,14 @@ pub put_as : {out later text : List ℕ} {r : ℕ} (other : List ℕ) → Replie
 put_as other p e = rw e at p
 
 -- no word is longer than its line
-short_part : (line : List ℕ) (s e : ℕ) → length (part_of line s e) ≤ length line
+short_part : (line : List ℕ) (s : Span) → length (part_of line s) ≤ length line
 unfolding part_of
-short_part line s e =
-    by_test (leb s e && leb e (length line)) (λ h. rw h (simp (length-take, length-drop) (omega arith))) (λ h. rw h zero-le)
+short_part line s =
+    by_test (leb s.start s.end && leb s.end (length line)) (λ h. rw h (simp (length-take, length-drop) (omega arith))) (λ h. rw h zero-le)
 
 pub word_short : (line : List ℕ) (split : Words) (k : ℕ) (word : List ℕ) → word ≡ word_in line split k → length word ≤ length line
 unfolding word_in
-word_short line split k word e = rw e (short_part line _ _)
+word_short line split k word e = rw e (short_part line _)
 
 -- WHICH QUESTION
 -- what `word` answers of a line that was split, and what `check::same` answers of its first word and a name
@@ -46,16 +45,15 @@ module _ (line : List ℕ) (split : Words) (is-split : split ≡ split_of line) 
   unfolding nth
   word_at k word e = word_of line split k word is-split e
 
-  -- word k, which the form has, read as octets, with room for them: an octet is two digits of the line
-  pub word_read : {there : Bool} (k : ℕ) (word : List ℕ) {given later : List ℕ} {r : Octets} {part : Part} → there ≡ true → word ≡ word_in line split k
-      → length line ≤ 300000 → OctetsRead word given later r → 150000 ≤ length given → part_from r ≡ part → PartRead (word_if there (nth (line_words line) k)) later part
-  unfolding word_if
-  word_read k word t e short p room f =
-      rw (t, ← word_at k word e, ← f) (part_read p (omega (arith, word_short line split k word e)))
-
   -- the number of words
-  pub counted : (k : ℕ) → (split.count =? k) ≡ (length (line_words line) =? k)
-  counted k = ap (λ (n : ℕ). n =? k) (count_of line split is-split)
+  pub counted : split.count ≡ length (line_words line)
+  counted = count_of line split is-split
+
+-- word k, which the form has, read as octets, with room for them: an octet is two digits of the line
+pub word_read : {there : Bool} (words : List (List ℕ)) (k : ℕ) (word : List ℕ) {given later : List ℕ} {r : Option ℕ} → there ≡ true → word ≡ nth words k
+    → length word ≤ 300000 → OctetsRead word given later r → 150000 ≤ length given → PartRead (word_if there (nth words k)) later r
+unfolding word_if
+word_read words k word t e short p room = rw (t, ← e) (part_read p (omega arith) short)
 
 pub too_long : (line : List ℕ) → 300000 < length line → no_form ≡ answer_text line
 unfolding answer_text
@@ -66,59 +64,32 @@ unfolding answer_text
 taken line h = rw (le-ltb 300000 (length line) h)
 
 -- THE TABLE: a rule that holds of every row, computed once for all
-all_from : (f : ℕ → Row → Bool) → (from : ℕ) → List Row → Bool
-all_from f from [] = true
-all_from f from (r ∷ rs) = f from r && all_from f (from + 1) rs
+all_at : (f : Row → Bool) (rs : List Row) → list_all f rs ≡ true → (k : ℕ) → k < length rs → f (get_or rs k no_row) ≡ true
+all_at f [] h k l = absurd (not-suc-le-zero l)
+all_at f (r ∷ rs) h zero l = ((and-eq-true_iff (f r) _).0 h).0
+all_at f (r ∷ rs) h (suc k) l = all_at f rs ((and-eq-true_iff (f r) _).0 h).1 k (le_of_suc-le-suc l)
 
-all_at : (f : ℕ → Row → Bool) (from : ℕ) (rs : List Row) → all_from f from rs ≡ true → (k : ℕ) → k < length rs → f (from + k) (get_or rs k no_row) ≡ true
-unfolding all_from
-all_at f from [] h k l = absurd (not-suc-le-zero l)
-all_at f from (r ∷ rs) h zero l = rw (add-zero from) ((and-eq-true_iff (f from r) _).0 h).0
-all_at f from (r ∷ rs) h (suc k) l =
-    let e : from + suc k ≡ from + 1 + k = omega arith in
-    rw e (all_at f (from + 1) rs ((and-eq-true_iff (f from r) _).0 h).1 k (le_of_suc-le-suc l))
-
--- at most D and M, and seven numbers, with room for seven limits; at most six numbers told; octets told by the rows that `put_part` knows
-knows : (kind : ℕ) → Bool
-knows k = eqb k 3 || (eqb k 5 || (eqb k 11 || (eqb k 13 || leb 14 k)))
-
-fits : ℕ → Row → Bool
-fits k r = leb r.form.lent 2 && (leb r.form.numbers 7 && (eqb (length r.form.most) 7 && (leb r.form.told 6 && (knows k || not r.form.part))))
+-- at most D and M, and seven numbers, with room for seven limits; at most six numbers told
+fits : Row → Bool
+fits r = leb r.form.lent 2 && (leb r.form.numbers 7 && (eqb (length r.form.most) 7 && leb r.form.told 6))
 
 pub record RowFits (kind : ℕ) : Type 0 where
   pub lent : (form_of kind).lent ≤ 2
   pub numbers : OfSeven (form_of kind).numbers (form_of kind).most
   pub told : (form_of kind).told ≤ 6
-  pub part : kind < 14 → (kind ≡ 3 → ⊥) → (kind ≡ 5 → ⊥) → (kind ≡ 11 → ⊥) → (kind ≡ 13 → ⊥) → (form_of kind).part ≡ false
 
 pub row_fits : (kind : ℕ) → kind < length rows → RowFits kind
-unfolding table_rows message_rows date_rows rows row_at form_of knows fits all_from
+unfolding table_rows message_rows date_rows rows row_at form_of fits
 row_fits kind h =
     let f : Form = form_of kind in
-    let lent = (and-eq-true_iff (leb f.lent 2) _).0 (rw (zero-add kind) at (all_at fits 0 rows refl kind h)) in
+    let lent = (and-eq-true_iff (leb f.lent 2) _).0 (all_at fits rows refl kind h) in
     let all = (and-eq-true_iff (leb f.numbers 7) _).0 lent.1 in
     let rest = (and-eq-true_iff (eqb (length f.most) 7) _).0 all.1 in
-    let last = (and-eq-true_iff (leb f.told 6) _).0 rest.1 in
     record {
       lent = leb-true _ _ lent.0;
       numbers = record { few = leb-true _ _ all.0; long = eqb-true _ _ rest.0 };
-      told = leb-true _ _ last.0;
-      part = λ l a b c e. not-true f.part (rw (lt-leb 14 kind l, ne_eqb kind 3 a, ne_eqb kind 5 b, ne_eqb kind 11 c, ne_eqb kind 13 e) at last.1);
+      told = leb-true _ _ rest.1;
     }
-
--- but for two, a row takes any numbers within their limits
-no_kinds : ℕ → Row → Bool
-no_kinds k r = eqb k 16 || (eqb k 18 || eqb (length r.kinds) 0)
-
-no_kinds_lem : (ks : List ℕ) (x : ℕ) → length ks ≡ 0 → true ≡ is_kind ks x
-unfolding is_kind
-no_kinds_lem [] x e = refl
-no_kinds_lem (k ∷ ks) x e = absurd (omega arith)
-
-pub any_kind : (kind : ℕ) (numbers : List ℕ) → kind < length rows → (kind ≡ 16 → ⊥) → (kind ≡ 18 → ⊥) → true ≡ takes kind numbers
-unfolding table_rows message_rows date_rows rows row_at no_kinds all_from takes
-any_kind kind numbers h a b =
-    no_kinds_lem (row_at kind).kinds (get_or numbers 0 0) (eqb-true _ _ (rw (zero-add kind, ne_eqb kind 16 a, ne_eqb kind 18 b) at (all_at no_kinds 0 rows refl kind h)))
 
 -- what it takes is replied, and what it doesn't is no form
 pub taken_text : (kind : ℕ) (d m numbers new : List ℕ) {b : Bool} → b ≡ takes kind numbers → b ≡ true → row_text kind d m numbers new ≡ reply_text kind d m numbers new
@@ -136,29 +107,30 @@ unfolding answer_words
 unknown kind line is-kind is-word h short = rw (← is-word, ← is-kind, le-ltb kind (length rows) h) refl ∙ taken line short
 
 -- THE REPLIES
-module _ (kind : ℕ) {f : Form} (line : List ℕ) {word description image given : List ℕ} {r : Asked} (is-kind : kind ≡ kind_of word) (is-form : f ≡ form_of kind)
+module _ (kind : ℕ) {f : Form} (line : List ℕ) {word description image given : List ℕ} {r : Option Asked} (is-kind : kind ≡ kind_of word) (is-form : f ≡ form_of kind)
     (is-word : word ≡ nth (line_words line) 0) (inside : kind < length rows) (s : AskedRead f (line_words line) description image given r) where
   answer_as_lem : answer_as kind f (line_words line) ≡ answer_words (line_words line)
   unfolding answer_words
   answer_as_lem = rw (is-form, ← is-word, ← is-kind, lt-ltb kind (length rows) inside)
 
-  pub asked_reply : r.is ≡ true → length line ≤ 300000
-      → reply_text kind (take r.d description) (take r.m image) r.numbers (take r.given given) ≡ answer_text line
+  pub asked_reply : (a : Asked) → r ≡ Some a → length line ≤ 300000
+      → reply_text kind (take a.d description) (take a.m image) a.numbers (take a.given given) ≡ answer_text line
   unfolding answer_as
-  asked_reply h short = rw (s.d_octets h, s.m_octets h, s.given_octets h, s.values h, ← s.reply, h) refl ∙ answer_as_lem ∙ taken line short
+  asked_reply a h short =
+      let o = s.asked a h in rw (o.d_octets, o.m_octets, o.given_octets, o.values, ← s.reply, h) refl ∙ answer_as_lem ∙ taken line short
 
-  pub asked_none : r.is ≡ false → length line ≤ 300000 → no_form ≡ answer_text line
+  pub asked_none : r ≡ None → length line ≤ 300000 → no_form ≡ answer_text line
   unfolding answer_as
   asked_none h short = rw (← s.reply, h) refl ∙ answer_as_lem ∙ taken line short
 
-  -- the part of the image that M is has room in the reply where the whole has
-  pub asked_room : (earlier out : List ℕ) → length image ≡ length earlier → room_for earlier ≤ length out → room_for (take r.m image) ≤ length out
-  asked_room earlier out e h = omega (arith, length-take-le r.m image s.m_within, s.m_within)
-
   -- the numbers are within the limits of the kind
-  pub asked_within : r.is ≡ true → Within kind r.numbers
-  asked_within h = record { each = rw is-form at (read_within s h) }
+  pub asked_within : (a : Asked) → r ≡ Some a → Within kind a.numbers
+  asked_within a h = record { each = rw is-form at (read_within a s h) }
+
+-- the part of the image that M is has room in the reply where the whole has
+pub asked_room : (n : ℕ) (image out : List ℕ) → room_for image ≤ length out → room_for (take n image) ≤ length out
+asked_room n image out h = omega (arith, length-take n image)
 
 -- what D or a message has of octets
-pub asked_few : (n : ℕ) (description earlier : List ℕ) → length description ≡ length earlier → length earlier ≡ 150000 → length (take n description) ≤ 150000
-asked_few n description earlier e h = omega (arith, length-take n description)
+pub asked_few : (n : ℕ) (description : List ℕ) → n ≤ 150000 → length (take n description) ≤ 150000
+asked_few n description h = omega (arith, length-take n description)

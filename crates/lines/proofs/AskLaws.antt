@@ -1,6 +1,6 @@
 -- What asking leans on: the numbers of a row, what they name, and what a row's reply has. Assumes nothing.
 use mathlib.Core.Path.{◌≡◌, refl, sym, ap, ◌∙◌}
-use mathlib.Core.List.{List, [], ◌∷◌, ◌++◌, map}
+use mathlib.Core.List.{List, [], ◌∷◌, map}
 use mathlib.Core.Bool.{true, false, true≢false}
 use Prim.Native.Nat.{ℕ, ◌+◌, ◌*◌, ◌≤◌, ◌<◌, zero-le}
 use native.Mathlib.Omega.{arith}
@@ -37,23 +37,10 @@ asks {kind} k e t i o =
     let n : ℕ = (form_of kind).told in
     record { told = ap (take n) (rw e t); image = rw e i; octets = rw e o }
 
--- the last of seven rows, where it is none of the others
-pub seventh : {kind : ℕ} → kind < 7 → (kind ≡ 0 → ⊥) → (kind ≡ 1 → ⊥) → (kind ≡ 2 → ⊥) → (kind ≡ 3 → ⊥) → (kind ≡ 4 → ⊥) → (kind ≡ 5 → ⊥) → kind ≡ 6
-seventh h a b c d e f = omega arith
-
 -- a row that tells no numbers: the parts of the image
 pub asks_none : {kind : ℕ} {d m numbers new : List ℕ} {r : Told} (k : ℕ) → kind ≡ k → (form_of k).told ≡ 0 → m ≡ (said k d m numbers new).image
     → (said k d m numbers []).octets ≡ (said k d m numbers new).octets → Asks kind d m numbers new r m
 asks_none k e t i o = record { told = rw (e, t); image = rw e i; octets = rw e o }
-
--- a row of tables is a row, and so is one of messages
-pub in_rows : {kind : ℕ} → kind < length table_rows → kind < length rows
-unfolding table_rows message_rows date_rows rows
-in_rows h = omega arith
-
-pub message_in_rows : {kind : ℕ} → kind < length (table_rows ++ message_rows) → kind < length rows
-unfolding table_rows message_rows date_rows rows
-message_in_rows h = omega arith
 
 -- a row that tells octets, and one that doesn't
 module _ {kind : ℕ} {d m numbers out : List ℕ} {at : ℕ} where
@@ -62,11 +49,9 @@ module _ {kind : ℕ} {d m numbers out : List ℕ} {at : ℕ} where
   unfolding hex_behind
   parted k octets e t o l p = record { put = rw (e, t, ← o) p; short = λ f. rw (e, ← o) l }
 
-  pub not_parted : kind < length table_rows → (kind ≡ 3 → ⊥) → (kind ≡ 5 → ⊥) → (kind ≡ 11 → ⊥) → (kind ≡ 13 → ⊥) → at ≤ length out → Parted kind d m numbers out at out at
-  unfolding hex_behind table_rows
-  not_parted h a b c e l =
-      let f : (form_of kind).part ≡ false = (row_fits kind (in_rows h)).part h a b c e in
-      record { put = rw f (put_nothing out at l); short = λ t. absurd (true≢false (sym t ∙ f)) }
+  pub not_parted : (form_of kind).part ≡ false → at ≤ length out → Parted kind d m numbers out at out at
+  unfolding hex_behind
+  not_parted f l = record { put = rw f (put_nothing out at l); short = λ t. absurd (true≢false (sym t ∙ f)) }
 
 -- a part of the image is no longer than the image
 part_short : (m : List ℕ) (p : Place) → length (place_part m p) ≤ length m
@@ -104,48 +89,45 @@ module _ {kind : ℕ} (s : Said) (told : List ℕ) {out later : List ℕ} {f : F
         numbers_put p₂ (rw is-form at p₃) p₄)
 
 -- of a question about tables
-module _ {kind : ℕ} {d m numbers new out told later : List ℕ} {f : Form} {t : Told} (is-form : f ≡ form_of kind) (inside : kind < length table_rows) (is-told : told ≡ told_numbers t)
+module _ {kind : ℕ} {d m numbers new out told later : List ℕ} {f : Form} {t : Told} (is-form : f ≡ form_of kind) (inside : kind < length rows) (is-told : told ≡ told_numbers t)
     (a : Asks kind d m numbers new t later) (same : length later ≡ length m) (room : room_for m ≤ length out) {now₁ : List ℕ} {at₁ : ℕ}
     (p₁ : IsPut out 0 (add_words [] (map decimal_text (take f.told told))) now₁ at₁) where
   asked_told : take f.told told ≡ take (form_of kind).told (said kind d m numbers new).numbers
   asked_told = rw (is-form, is-told) a.told
 
   pub room_for_part : at₁ + 2 * length later + 300002 ≤ length now₁
-  room_for_part = room_behind (said kind d m numbers new) told is-form (in_rows inside) asked_told a.image (omega arith) p₁
+  room_for_part = room_behind (said kind d m numbers new) told is-form inside asked_told a.image (omega arith) p₁
 
   module _ {now₂ : List ℕ} {at₂ : ℕ} (p₂ : Parted kind d later numbers now₁ at₁ now₂ at₂) where
     pub room_for_image : at₂ + 2 * length later + 2 ≤ length now₂
-    room_for_image = image_room (said kind d m numbers new) told is-form (in_rows inside) asked_told a.image (omega arith) p₁ a.octets p₂.short p₂.put
+    room_for_image = image_room (said kind d m numbers new) told is-form inside asked_told a.image (omega arith) p₁ a.octets p₂.short p₂.put
 
     pub whole_put : {now₃ last : List ℕ} {at₃ r : ℕ} → IsPut now₂ at₂ (hex_behind at₂ f.after later) now₃ at₃ → IsPut now₃ at₃ (10 ∷ []) last r
         → Replied out (row_text kind d m numbers new) last r
     unfolding row_text
-    whole_put = whole (said kind d m numbers new) told is-form (in_rows inside) asked_told a.image (omega arith) p₁ a.octets p₂.short p₂.put
+    whole_put = whole (said kind d m numbers new) told is-form inside asked_told a.image (omega arith) p₁ a.octets p₂.short p₂.put
 
 -- of a message
-module _ {kind : ℕ} {d m numbers new out part later : List ℕ} {f : Form} {t : Answered} (is-form : f ≡ form_of kind) (inside : kind < length rows)
-    (a : MessageAsked kind d m numbers new t part later) (same : length later ≡ length m) (room : room_for m ≤ length out) {now₁ : List ℕ} {at₁ : ℕ}
+module _ {kind : ℕ} {d m numbers new out later : List ℕ} {f : Form} {t : Answered} (is-form : f ≡ form_of kind) (inside : kind < length rows)
+    (a : MessageAsked kind d m numbers new t later) (same : length later ≡ length m) (room : room_for m ≤ length out) {now₁ : List ℕ} {at₁ : ℕ}
     (p₁ : IsPut out 0 (add_words [] (map decimal_text (take f.told t.numbers))) now₁ at₁) where
   message_told : take f.told t.numbers ≡ take (form_of kind).told (said kind d m numbers new).numbers
   message_told = rw (is-form, a.told)
 
-  message_short : length (take t.count part) ≤ 150000
-  message_short = omega (arith, length-take t.count part, a.within)
+  pub room_for_message : at₁ + 2 * length t.octets.now + 2 ≤ length now₁
+  room_for_message = omega (arith, a.within, room_behind (said kind d m numbers new) t.numbers is-form inside message_told a.image (omega arith) p₁)
 
-  pub room_for_message : at₁ + 2 * length (take t.count part) + 2 ≤ length now₁
-  room_for_message = omega (arith, message_short, room_behind (said kind d m numbers new) t.numbers is-form inside message_told a.image (omega arith) p₁)
-
-  module _ {now₂ : List ℕ} {at₂ : ℕ} (p₂ : IsPut now₁ at₁ (hex_behind at₁ f.part (take t.count part)) now₂ at₂) where
-    message_put : IsPut now₁ at₁ (hex_behind at₁ (form_of kind).part (take t.count part)) now₂ at₂
+  module _ {now₂ : List ℕ} {at₂ : ℕ} (p₂ : IsPut now₁ at₁ (hex_behind at₁ f.part t.octets.now) now₂ at₂) where
+    message_put : IsPut now₁ at₁ (hex_behind at₁ (form_of kind).part t.octets.now) now₂ at₂
     message_put = rw is-form at p₂
 
     pub room_behind_message : at₂ + 2 * length later + 2 ≤ length now₂
-    room_behind_message = image_room (said kind d m numbers new) t.numbers is-form inside message_told a.image (omega arith) p₁ a.octets (λ e. omega (arith, message_short)) message_put
+    room_behind_message = image_room (said kind d m numbers new) t.numbers is-form inside message_told a.image (omega arith) p₁ a.octets (λ e. omega (arith, a.within)) message_put
 
     pub message_whole : {now₃ last : List ℕ} {at₃ r : ℕ} → IsPut now₂ at₂ (hex_behind at₂ f.after later) now₃ at₃ → IsPut now₃ at₃ (10 ∷ []) last r
         → Replied out (row_text kind d m numbers new) last r
     unfolding row_text
-    message_whole = whole (said kind d m numbers new) t.numbers is-form inside message_told a.image (omega arith) p₁ a.octets (λ e. omega (arith, message_short)) message_put
+    message_whole = whole (said kind d m numbers new) t.numbers is-form inside message_told a.image (omega arith) p₁ a.octets (λ e. omega (arith, a.within)) message_put
 
 -- of a date's weekday: numbers alone, and D, M and DATA have no part in it
 pub weekday_put : (numbers : List ℕ) {out now last : List ℕ} {at r : ℕ} {t : Told} → t ≡ told_by (weekday_reply (date_of numbers)) → room_for [] ≤ length out

@@ -4,18 +4,17 @@ use mathlib.Core.List.{List, ◌++◌}
 use Prim.Native.Nat.{ℕ, ◌+◌, ◌-◌, ◌≤◌, min}
 use native.Mathlib.Omega.{arith}
 use lib.ListN.{length, take, length-append}
-use lib.Seq.{take_at, take-take, take-append-add, length-take-le}
+use lib.Seq.{take_at, take-append-add, length-take-le}
 use Rattle.words.specs.Put.{IsPut, laid}
 use Rattle.words.proofs.PutLaws.{put_next, put_memory}
 use Rattle.lines.specs.Input.{Held}
 
--- of m octets xs the first n are put, all of them or as many as there is room for
-pub held_is : (line later xs : List ℕ) (m n held r : ℕ) → m ≤ length xs → held ≤ length line → n ≡ min m (length line - held)
-    → IsPut line held (take n xs) later r → Held line held (take m xs) later r
+-- of octets xs the first n are put, all of them or as many as there is room for
+pub held_is : (line later xs : List ℕ) (n held r : ℕ) → held ≤ length line → n ≡ min (length xs) (length line - held)
+    → IsPut line held (take n xs) later r → Held line held xs later r
 unfolding laid
-held_is line later xs m n held r hm hl e p =
+held_is line later xs n held r hl e p =
     let a : length (take held line) ≡ held = length-take-le held line hl in
-    let b : length (take m xs) ≡ m = length-take-le m xs hm in
     let c : length (take n xs) ≡ n = length-take-le n xs (omega arith) in
     let fit : held + length (take n xs) ≤ length line = omega arith in
     let q : r ≡ held + n = put_next p fit ∙ ap (λ (k : ℕ). held + k) c in
@@ -26,5 +25,5 @@ held_is line later xs m n held r hm hl e p =
       octets =
           ap (take r) (put_memory p fit)
           ∙ take_at (take held line ++ take n xs) _ r d
-          ∙ sym (rw (q, f, take-append-add (take held line) (take m xs) n, take-take n m xs (omega arith)));
+          ∙ sym (rw (q, f, take-append-add (take held line) xs n));
     }

@@ -1,32 +1,28 @@
 -- What asking about messages leans on: a message in a room, wherever the room is, and data copied out of a message. Assumes nothing.
 use Rattle.std.specs.Prelude.{if◌then◌else◌}
-use Prim.Native.Nat.{ℕ, ◌+◌, ◌≤◌, ◌<◌, zero-le}
+use Prim.Native.Nat.{ℕ, ◌+◌, ◌≤◌, zero-le}
 use mathlib.Core.Path.{◌≡◌, refl, sym, ap, ◌∙◌}
-use mathlib.Core.Bool.{Bool, true, false, ◌||◌, and-eq-true_iff}
-use mathlib.Core.List.{List, [], ◌∷◌, ◌++◌, append_assoc, append-nil}
+use mathlib.Core.Bool.{Bool, true, false, and-eq-true_iff}
+use mathlib.Core.List.{List, []}
 use mathlib.Core.Option.{Option, some, none}
-use lib.ListN.{length, take, drop, length-replicate}
-use lib.Seq.{take-length, take-append_seam, length-take-le}
+use lib.ListN.{length, take, drop, length-take, length-replicate}
+use lib.Seq.{take-append_seam, length-take-le}
 use native.Mathlib.Omega.{arith}
 use borrow.Author.Tests.{leb-true}
-use Rattle.meaning.specs.Basics.{◌=?◌, splice}
+use Rattle.meaning.specs.Basics.{splice}
 use Rattle.meaning.specs.declared.Reply.{Reply}
 use Rattle.meaning.specs.Numbers.{no_room}
 use Rattle.meaning.specs.Refusals.{told_by, told_numbers}
 use Rattle.meaning.specs.Messages.{Request, MeterReply, request_in, request_fits, request_octets, reply_fits, reply_octets, sent, sent_reply, sent_room, request_sent, request_room, reply_sent, reply_room, answer_to, serve_reply, serve_room, serve_image}
 use Rattle.lines.specs.declared.message.Answered.{Answered}
-use Rattle.lines.specs.Answer.{Said, table_rows, message_rows, said, in_room, room_of, among}
+use Rattle.lines.specs.Answer.{Said, said, in_room, room_of}
 use Rattle.lines.specs.Ask.{ReadAs, MessageAsked}
 
--- DATA COPIED
-pub copied_front : (src dst later : List ℕ) (n : ℕ) → n ≡ length src → later ≡ take (length src) src ++ drop (length src) dst → take n later ≡ src
-copied_front src dst later n e l = rw (e, l, take-length src) (take-append_seam src (drop (length src) dst))
-
--- A MESSAGE IN A ROOM: what is told of it goes by the room's length alone; its octets stand first in the room, and in whatever the room is the front of
+-- A MESSAGE IN A ROOM: what is told of it goes by the room's length alone; its octets stand first in the room
 pub record InFront (reply : List ℕ → Reply) (after : List ℕ → List ℕ) : Type 0 where
   pub told : (room other : List ℕ) → length room ≡ length other → reply room ≡ reply other
   pub within : (room : List ℕ) → (told_by (reply room)).first ≤ length room
-  pub octets : (room other rest : List ℕ) → length room ≡ length other → take (told_by (reply room)).first (after room ++ rest) ≡ take (told_by (reply other)).first (after other)
+  pub octets : (room other : List ℕ) → length room ≡ length other → take (told_by (reply room)).first (after room) ≡ take (told_by (reply other)).first (after other)
 
 module _ (fits : Bool) (xs : List ℕ) where
   same_sent : (room other : List ℕ) → length room ≡ length other → sent fits xs room ≡ sent fits xs other
@@ -38,11 +34,11 @@ module _ (fits : Bool) (xs : List ℕ) where
   short room true h = leb-true (length xs) (length room) ((and-eq-true_iff fits _).0 h).1
   short room false h = zero-le
 
-  first_there : (room rest : List ℕ) (b : Bool)
-      → take (told_by (if b then Reply.Total (length xs) else Reply.Refused no_room)).first ((if b then splice room 0 xs else room) ++ rest) ≡ (if b then xs else [])
+  first_there : (room : List ℕ) (b : Bool)
+      → take (told_by (if b then Reply.Total (length xs) else Reply.Refused no_room)).first (if b then splice room 0 xs else room) ≡ (if b then xs else [])
   unfolding splice told_by
-  first_there room rest true = rw (append_assoc xs (drop (0 + length xs) room) rest) (take-append_seam xs (drop (0 + length xs) room ++ rest))
-  first_there room rest false = refl
+  first_there room true = take-append_seam xs (drop (0 + length xs) room)
+  first_there room false = refl
 
   pub sent_in_front : InFront (sent_reply fits xs) (sent_room fits xs)
   unfolding sent_reply sent_room
@@ -50,13 +46,13 @@ module _ (fits : Bool) (xs : List ℕ) where
       record {
         told = λ room other e. rw (same_sent room other e);
         within = λ room. short room (sent fits xs room) refl;
-        octets = λ room other rest e.
-            rw (same_sent room other e) (first_there room rest (sent fits xs other)) ∙ sym (rw (append-nil (sent_room fits xs other)) at (first_there other [] (sent fits xs other)));
+        octets = λ room other e.
+            rw (same_sent room other e) (first_there room (sent fits xs other)) ∙ sym (first_there other (sent fits xs other));
       }
 
 none_in_front : InFront (λ room. Reply.Refused no_room) (λ room. room)
 unfolding told_by
-none_in_front = record { told = λ room other e. refl; within = λ room. zero-le; octets = λ room other rest e. refl }
+none_in_front = record { told = λ room other e. refl; within = λ room. zero-le; octets = λ room other e. refl }
 
 -- a request and a reply by their numbers, and what is served
 pub request_in_front : (q : Option Request) → InFront (request_sent q) (request_room q)
@@ -82,40 +78,27 @@ module _ (d m xs : List ℕ) where
 pub room_long : (n : ℕ) (part : List ℕ) → n ≤ length part → length (take n part) ≡ length (room_of n)
 room_long n part h = length-take-le n part h ∙ sym (length-replicate {A = ℕ} n 0)
 
--- the last row of messages
-pub last_row : {kind : ℕ} → (length table_rows ≤ kind) × (kind < length (table_rows ++ message_rows)) → (kind ≡ 14 → ⊥) → (kind ≡ 15 → ⊥) → (kind ≡ 16 → ⊥) → (kind ≡ 17 → ⊥) → kind ≡ 18
-unfolding table_rows message_rows
-last_row h a b c d = omega (arith, h.0, h.1)
+-- what is told of a message has room where it was put
+pub told_within : {reply : List ℕ → Reply} {after : List ℕ → List ℕ} → InFront reply after → {given : Reply} {before : List ℕ} (later : List ℕ) → given ≡ reply before
+    → length later ≡ length before → (told_by given).first ≤ length later
+told_within front {before = before} later g l = omega (arith, ap (λ (x : Reply). (told_by x).first) g, front.within before, l)
 
 -- a message that was put there
 module _ {kind : ℕ} {d m numbers new : List ℕ} {reply : List ℕ → Reply} {after : List ℕ → List ℕ} (front : InFront reply after) (n : ℕ) {img : List ℕ}
     (is : said kind d m numbers new ≡ in_room (reply (room_of n)) (after (room_of n)) img) (part : List ℕ) (small : n ≤ 150000) (long : length part ≡ 150000) where
   pub put_in_room : {r : Answered} {given : Reply} {room later : List ℕ} → given ≡ reply (take n part) → room ≡ after (take n part)
-      → (r.numbers ≡ told_numbers (told_by given)) × (r.count ≡ (told_by given).first) → later ≡ img → MessageAsked kind d m numbers new r (room ++ drop n part) later
-  put_in_room {r} g a s i =
+      → (r.numbers ≡ told_numbers (told_by given)) × (r.octets.now ≡ take (told_by given).first room) → later ≡ img → MessageAsked kind d m numbers new r later
+  put_in_room {r} {given} {room} g a s i =
       let same : length (take n part) ≡ length (room_of n) = room_long n part (omega arith) in
       let l : length (take n part) ≡ n = length-take-le n part (omega arith) in
       record {
         told = s.0 ∙ rw (g, is, front.told (take n part) (room_of n) same);
-        within = omega (arith, s.1, ap (λ (x : Reply). (told_by x).first) g, front.within (take n part), l);
-        octets = rw (s.1, g, a, is) (front.octets (take n part) (room_of n) (drop n part) same);
+        within = omega (arith, ap length s.1, length-take (told_by given).first room, ap (λ (x : Reply). (told_by x).first) g, front.within (take n part), l);
+        octets = s.1 ∙ rw (g, a, is) (front.octets (take n part) (room_of n) same);
         image = i ∙ rw is;
       }
 
 -- and one that was read
-pub was_read : {kind : ℕ} {d m numbers new part : List ℕ} {r : Answered} (s : Said) → (said kind d m numbers new).numbers ≡ s.numbers → (said kind d m numbers new).octets ≡ s.octets
-    → m ≡ (said kind d m numbers new).image → length d ≤ 150000 → ReadAs s d r part → MessageAsked kind d m numbers new r part m
+pub was_read : {kind : ℕ} {d m numbers new : List ℕ} {r : Answered} (s : Said) → (said kind d m numbers new).numbers ≡ s.numbers → (said kind d m numbers new).octets ≡ s.octets
+    → m ≡ (said kind d m numbers new).image → length d ≤ 150000 → ReadAs s d r → MessageAsked kind d m numbers new r m
 was_read s n o i l a = record { told = a.told ∙ sym n; within = omega (arith, a.within); octets = a.octets ∙ sym o; image = i }
-
--- A KIND AMONG THOSE OF A ROW
-pub among_last : (x k : ℕ) → (x =? k) ≡ among (k ∷ []) x
-unfolding among
-among_last x k = go (x =? k)
-  where
-    go : (b : Bool) → b ≡ (b || false)
-    go true = refl
-    go false = refl
-
-pub among_more : (x k : ℕ) (ks : List ℕ) {b r : Bool} → b ≡ among ks x → r ≡ (x =? k || b) → r ≡ among (k ∷ ks) x
-unfolding among
-among_more x k ks e f = f ∙ rw e

@@ -9,7 +9,7 @@ use native.Mathlib.Omega.{arith}
 use borrow.Author.Tests.{eq-eqb, ne_eqb}
 use lib.Dec.{eqb}
 use lib.ListN.{length, get_or, take, length-append, length-take, take-append-drop}
-use lib.Seq.{take-suc, length-take-le}
+use lib.Seq.{take-suc, take_all, length-take-le}
 use Rattle.words.specs.Put.{laid, IsPut}
 use Rattle.words.specs.Number.{decimal_text}
 use Rattle.words.proofs.Cases.{by_test}
@@ -99,48 +99,46 @@ module _ {out text now : List ℕ} {at : ℕ} (p : Replied out text now at) wher
   put_more : {more later : List ℕ} {next : ℕ} → IsPut now at more later next → length text + length more ≤ length out → Replied out (text ++ more) later next
   put_more q h = record { room = simp length-append h; put = put_then p.put q (omega arith) }
 
--- the first i of six numbers stand at the start of `now`, which is `out` otherwise; the next place is `at`
+-- the first i numbers stand at the start of `now`, which is `out` otherwise; the next place is `at`
 abbrev first : (numbers : List ℕ) → (i : ℕ) → List ℕ
 first numbers i = add_words [] (map decimal_text (take i numbers))
 
-pub record Counted (out numbers : List ℕ) (count : ℕ) (now : List ℕ) (at i : ℕ) : Type 0 where
-  pub within : i ≤ count
-  pub few : count ≤ 6
-  pub six : length numbers ≡ 6
+pub record Counted (out numbers now : List ℕ) (at i : ℕ) : Type 0 where
+  pub within : i ≤ length numbers
+  pub few : length numbers ≤ 6
   pub room : 126 ≤ length out
   pub is : IsPut out 0 (first numbers i) now at
 
-pub counted_none : (out numbers : List ℕ) (count : ℕ) → count ≤ 6 → length numbers ≡ 6 → 126 ≤ length out → Counted out numbers count out 0 0
+pub counted_none : (out numbers : List ℕ) → length numbers ≤ 6 → 126 ≤ length out → Counted out numbers out 0 0
 unfolding add_words
-counted_none out numbers count f l h = record { within = zero-le; few = f; six = l; room = h; is = put_nothing out 0 (omega arith) }
+counted_none out numbers f h = record { within = zero-le; few = f; room = h; is = put_nothing out 0 (omega arith) }
 
-module _ {out numbers : List ℕ} {count : ℕ} {now : List ℕ} {at i : ℕ} (s : Counted out numbers count now at i) where
+module _ {out numbers now : List ℕ} {at i : ℕ} (s : Counted out numbers now at i) where
   short_first : length (first numbers i) ≤ 21 * i
-  short_first = omega (arith, numbers_long [] (take i numbers), length-take-le i numbers (omega arith))
+  short_first = omega (arith, numbers_long [] (take i numbers), length-take-le i numbers s.within)
 
   first_so : Replied out (first numbers i) now at
   first_so = record { room = omega (arith, short_first); put = s.is }
 
-  pub counted_room : i < count → at + 21 ≤ length now
+  pub counted_room : i < length numbers → at + 21 ≤ length now
   counted_room h = omega (arith, put_end first_so, short_first, put_long s.is)
 
-  pub counted_more : {later : List ℕ} {next : ℕ} → i < count → IsPut now at (behind at (decimal_text (get_or numbers i 0))) later next → Counted out numbers count later next (i + 1)
+  pub counted_more : {later : List ℕ} {next : ℕ} → i < length numbers → IsPut now at (behind at (decimal_text (get_or numbers i 0))) later next → Counted out numbers later next (i + 1)
   unfolding add_words
   counted_more h p =
       let x : ℕ = get_or numbers i 0 in
-      let t : take (i + 1) numbers ≡ take i numbers ++ (x ∷ []) = rw add-one (take-suc numbers i 0 (omega arith)) in
+      let t : take (i + 1) numbers ≡ take i numbers ++ (x ∷ []) = rw add-one (take-suc numbers i 0 h) in
       let e : first numbers (i + 1) ≡ first numbers i ++ behind at (decimal_text x) =
       rw (t, map-append, add_append [] (map decimal_text (take i numbers)) (decimal_text x ∷ []), put_end first_so) in
       record {
         within = omega arith;
         few = s.few;
-        six = s.six;
         room = s.room;
         is = rw e (put_more first_so p (omega (arith, short_first, behind_short at (decimal_text x), text_short x))).put;
       }
 
-  pub counted_all : count ≤ i → IsPut out 0 (first numbers count) now at
-  counted_all h = let e : i ≡ count = omega arith in rw e at s.is
+  pub counted_all : length numbers ≤ i → IsPut out 0 (add_words [] (map decimal_text numbers)) now at
+  counted_all h = rw (take_all i numbers h) at s.is
 
 -- THE WHOLE REPLY: numbers, then octets where it has them, then the image afterwards where it has that; the line feed
 module _ (m octets image numbers : List ℕ) (count : ℕ) (part after : Bool) {out : List ℕ} (few : count ≤ 6) (room : room_for m ≤ length out)

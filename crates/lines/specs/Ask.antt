@@ -21,15 +21,15 @@ pub record Parted (kind : ℕ) (d m numbers out : List ℕ) (at : ℕ) (later : 
   pub put : IsPut out at (hex_behind at (form_of kind).part (said kind d m numbers []).octets) later r
   pub short : (form_of kind).part ≡ true → length (said kind d m numbers []).octets ≤ length m + 150000
 
--- a message was read: its numbers, and its octets at the start of `part`
-pub record ReadAs (s : Said) (message : List ℕ) (r : Answered) (part : List ℕ) : Type 0 where
+-- a message was read: its numbers, and its octets
+pub record ReadAs (s : Said) (message : List ℕ) (r : Answered) : Type 0 where
   pub told : r.numbers ≡ s.numbers
-  pub within : r.count ≤ length message
-  pub octets : take r.count part ≡ s.octets
+  pub within : length r.octets.now ≤ length message
+  pub octets : r.octets.now ≡ s.octets
 
--- a row of messages was asked: its numbers, its octets at the start of `part`, and the image afterwards
-pub record MessageAsked (kind : ℕ) (d m numbers new : List ℕ) (r : Answered) (part later : List ℕ) : Type 0 where
+-- a row of messages was asked: its numbers, its octets, and the image afterwards
+pub record MessageAsked (kind : ℕ) (d m numbers new : List ℕ) (r : Answered) (later : List ℕ) : Type 0 where
   pub told : r.numbers ≡ (said kind d m numbers new).numbers
-  pub within : r.count ≤ 150000
-  pub octets : take r.count part ≡ (said kind d m numbers new).octets
+  pub within : length r.octets.now ≤ 150000
+  pub octets : r.octets.now ≡ (said kind d m numbers new).octets
   pub image : later ≡ (said kind d m numbers new).image

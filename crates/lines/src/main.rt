@@ -13,19 +13,13 @@ mod rows;
 
 fn main(rt: HostRuntime) {
     let mut chunk = memory::chunk();
-    let mut line = memory::line();
-    let mut out = memory::reply();
-    let mut description = memory::octets();
-    let mut image = memory::octets();
-    let mut given = memory::octets();
+    let mut line = input::Gathered::new();
+    let mut memory = memory::Memory::new();
     input::run(
         &mut rt.stdin(),
         &mut rt.stdout(),
         &mut chunk,
         &mut line,
-        &mut out,
-        &mut description,
-        &mut image,
-        &mut given,
+        &mut memory,
     );
 }

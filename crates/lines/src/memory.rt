@@ -20,10 +20,30 @@ pub fn line() -> [u8; LINE] {
     [0u8; LINE]
 }
 
-pub fn reply() -> [u8; REPLY] {
+fn reply() -> [u8; REPLY] {
     [0u8; REPLY]
 }
 
 pub fn octets() -> [u8; OCTETS] {
     [0u8; OCTETS]
+}
+
+// What a line is answered in: room for its reply, and for the octets of D, M and DATA.
+#[derive(Drop)]
+pub struct Memory {
+    pub reply: [u8; REPLY],
+    pub description: [u8; OCTETS],
+    pub image: [u8; OCTETS],
+    pub given: [u8; OCTETS],
+}
+
+impl Memory {
+    pub fn new() -> Memory {
+        Memory {
+            reply: reply(),
+            description: octets(),
+            image: octets(),
+            given: octets(),
+        }
+    }
 }

@@ -1,6 +1,6 @@
 // Replies, put together at the start of out, word by word: a word stands behind a space unless it is
 // the first.
-ghost use Rattle.std.specs.Prelude.{map, ◌+◌, ◌*◌, ◌≤◌, length, take, []};
+ghost use Rattle.std.specs.Prelude.{map, ◌+◌, ◌*◌, ◌≤◌, length, []};
 ghost use Rattle.words.specs.Put.{IsPut};
 ghost use Rattle.words.specs.Number.{decimal_text};
 ghost use Rattle.words.specs.Hex.{hex_text};
@@ -34,17 +34,15 @@ fn put_number(out: &mut [u8], at: usize, n: u64) -> usize
     words::put_number(out, to, n)
 }
 
-// The first of six numbers, so many as count.
-pub fn put_numbers(out: &mut [u8], numbers: [u64; 6], count: usize) -> usize
-    requires count_bound { count ≤ 6 }
+// Numbers, at most six, at the start of out.
+pub fn put_numbers(out: &mut [u8], numbers: &[u64]) -> usize
+    requires numbers_few { length numbers.now ≤ 6 }
     requires in_bounds { 126 ≤ length out.old }
-    ensures { IsPut out.old 0 (add_words [] (map decimal_text (take count numbers))) out.new result }
+    ensures { IsPut out.old 0 (add_words [] (map decimal_text numbers.now)) out.new result }
 {
     let mut at = 0;
-    let mut i = 0;
-    while i < count {
-        at = put_number(out, at, numbers[i]);
-        i += 1;
+    for n in numbers {
+        at = put_number(out, at, *n);
     }
     at
 }

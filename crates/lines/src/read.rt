@@ -2,125 +2,109 @@
 ghost use Rattle.std.specs.Prelude.{◌≡◌, ℕ, ◌≤◌, length, get_or, take};
 ghost use Rattle.words.specs.Line.{line_words, split_of};
 ghost use Rattle.lines.specs.Answer.{nth, word_if, element_of, moment_of, tier_limits, date_of, date_limits};
-ghost use Rattle.lines.specs.Read.{OfSeven, NumbersRead, PartRead, AskedRead};
+ghost use Rattle.lines.specs.Read.{OfSeven, numbers_of, PartRead, AskedRead};
 
+use crate::memory::{Memory, OCTETS};
 use crate::rows::Form;
 use meaning::{Date, ElementName, Moment};
-use words::{Number, Octets, Words};
+use words::Words;
 
-// Numbers: whether each is one, and what they come to; 0 behind the last.
+// A line that is taken, and where its words are.
 #[derive(Clone, Copy)]
-pub struct Numbers {
-    pub are: bool,
-    pub values: [u64; 7],
+pub struct Line<'a> {
+    text: &'a [u8],
+    words: Words,
+    ghost is_split: { words ≡ split_of text.now },
+    ghost short: { length text.now ≤ 300000 },
 }
 
-// A word of octets: whether it is one, and how many octets it has.
-#[derive(Clone, Copy)]
-pub struct Part {
-    pub are: bool,
-    pub count: usize,
+impl<'a> Line<'a> {
+    pub fn new(text: &'a [u8]) -> Line<'a>
+        requires { length text.now ≤ 300000 }
+        ensures { result.text.now ≡ text.now }
+    {
+        let words = words::split(text);
+        Line { text, words }
+    }
+
+    // Word k; no octets where there is no word k.
+    pub fn word(self, k: usize) -> &'a [u8]
+        ensures value { result.now ≡ nth (line_words self.entry.text.now) k }
+        ensures short { length result.now ≤ 300000 }
+    {
+        words::word(self.text, self.words, k)
+    }
 }
 
-// A line: whether it is of the form that was looked for; how many octets D, M and DATA have, and
-// the numbers.
+// What a line of a form asks: how many octets D, M and DATA have, and the numbers.
 #[derive(Clone, Copy)]
 pub struct Asked {
-    pub is: bool,
     pub d: usize,
     pub m: usize,
     pub given: usize,
     pub numbers: [u64; 7],
 }
 
-// The numbers from a word on, as many as count, each at most what stands for it in most.
-fn read_numbers(line: &[u8], split: Words, from: usize, count: usize, most: [u64; 7]) -> Numbers
-    requires split_value { split ≡ split_of line.now }
+// What a line lends the row that it asks for, beside the image: the octets of D, the numbers and the
+// octets of DATA.
+#[derive(Clone, Copy)]
+pub struct Operands<'a> {
+    pub d: &'a [u8],
+    pub numbers: [u64; 7],
+    pub given: &'a [u8],
+}
+
+// The numbers from a word on, as many as count, each at most what stands for it in most, and 0
+// behind the last; None where one is no number or too large.
+fn read_numbers(line: Line<'_>, from: usize, count: usize, most: [u64; 7]) -> Option<[u64; 7]>
     requires from_bound { (from ≤ 3) × OfSeven count most }
-    ensures { NumbersRead (line_words line.now) from (take count most) result }
+    ensures { result ≡ numbers_of (line_words line.entry.text.now) from (take count most) }
 {
     let mut values = [0u64; 7];
-    let mut i = 0;
-    while i < count {
-        let word = words::word(line, split, from + i);
-        let read = words::number(word, most[i]);
-        match read {
-            Number::Is(n) => {
-                values[i] = n;
-                i += 1;
-            }
-            Number::Not => {
-                return Numbers { are: false, values };
-            }
-        }
+    for i in 0..count {
+        values[i] = words::number(line.word(from + i), most[i])?;
     }
-    Numbers { are: true, values }
+    Some(values)
 }
 
-// The octets of word k, where the form has it, at the start of out, which has room for them: an
-// octet is two digits of the line.
-fn read_octets(line: &[u8], split: Words, k: usize, there: bool, out: &mut [u8]) -> Part
-    requires split_value { split ≡ split_of line.now }
-    requires line_len_bound { length line.now ≤ 300000 }
-    requires in_bounds { 150000 ≤ length out.old }
-    ensures { PartRead (word_if there (nth (line_words line.now) k)) out.new result }
+// How many octets word k has, where the form has it, with them at the start of out, which has room
+// for them: an octet is two digits of the line. None where it is no word of octets.
+fn read_octets(line: Line<'_>, k: usize, there: bool, out: &mut [u8; OCTETS]) -> Option<usize>
+    ensures { PartRead (word_if there (nth (line_words line.entry.text.now) k)) out.new result }
 {
     if !there {
-        return Part {
-            are: true,
-            count: 0,
-        };
+        return Some(0);
     }
-    let read = words::octets(words::word(line, split, k), out);
-    match read {
-        Octets::Are(n) => Part {
-            are: true,
-            count: n,
-        },
-        Octets::Not => Part {
-            are: false,
-            count: 0,
-        },
-    }
+    words::octets(line.word(k), out)
 }
 
-// Reads all that a line of this form asks. Every word is read, whatever the others are, so that the
-// tests are joined once, at the end.
-pub fn read_asked(
-    line: &[u8],
-    split: Words,
-    form: Form,
-    description: &mut [u8],
-    image: &mut [u8],
-    given: &mut [u8],
-) -> Asked
-    requires split_value { split ≡ split_of line.now }
-    requires line_len_bound { length line.now ≤ 300000 }
-    requires in_bounds { 150000 ≤ length description.old }
-    requires in_bounds_2 { 150000 ≤ length image.old }
-    requires in_bounds_3 { 150000 ≤ length given.old }
+// Reads all that a line of this form asks; None where it is not of the form.
+pub fn read_asked(line: Line<'_>, form: Form, memory: &mut Memory) -> Option<Asked>
     requires lent_bound { (form.lent ≤ 2) × OfSeven form.numbers form.most }
-    ensures { AskedRead form (line_words line.now) description.new image.new given.new result }
+    ensures read { AskedRead form (line_words line.entry.text.now) memory.new.description memory.new.image memory.new.given result }
+    ensures same_reply { memory.new.reply ≡ memory.old.reply }
 {
+    if line.words.count != form.words {
+        return None;
+    }
     let lent = form.lent;
-    let d = read_octets(line, split, 1, 0 < lent, description);
-    let m = read_octets(line, split, 2, 1 < lent, image);
     let count = form.numbers;
     let most = form.most;
     let from = 1 + lent;
-    let read = read_numbers(line, split, from, count, most);
-    let new = read_octets(line, split, from + count, form.given, given);
-    let values = read.values;
-    let octets_are = basics::both(d.are, basics::both(m.are, new.are));
-    let words_are = basics::both(octets_are, read.are);
-    Asked {
-        is: basics::both(split.count == form.words, words_are),
-        d: d.count,
-        m: m.count,
-        given: new.count,
-        numbers: values,
-    }
+    let d = read_octets(line, 1, 0 < lent, &mut memory.description)?;
+    let m = read_octets(line, 2, 1 < lent, &mut memory.image)?;
+    let numbers = read_numbers(line, from, count, most)?;
+    let given = read_octets(line, from + count, form.given, &mut memory.given)?;
+    Some(Asked {
+        d,
+        m,
+        given,
+        numbers,
+    })
 }
+
+// What numbers name. These are no `From`: all but the first are types of crate meaning, and an
+// array's impl for them may stand neither here nor there.
 
 // A table by its two numbers.
 #[derive(Clone, Copy)]

@@ -1,55 +1,80 @@
 // The questions, a row each: a name, the form of the lines that ask it, and what its reply tells. specs/Answer.antt has the same table, with what each row asks.
-ghost use Rattle.std.specs.Prelude.{◌≡◌, ◌<◌, length};
-ghost use Rattle.lines.specs.Answer.{rows, kind_of, form_of, takes};
+ghost use Rattle.std.specs.Prelude.{◌≡◌, ◌+◌, ◌≤◌, if◌then◌else◌};
+ghost use Rattle.lines.specs.Answer.{kind_of, form_of, takes};
+ghost use Rattle.lines.specs.Kinds.{tables_place, messages_place, kind_place, found_place};
 
-use basics::either;
+// The questions about tables.
+#[derive(Clone, Copy)]
+pub enum TableKind {
+    Check,
+    Layout,
+    Table,
+    TablePart,
+    Where,
+    Octets,
+    Number,
+    WriteRange,
+    WriteOctets,
+    WriteNumber,
+    Tier,
+    Matrix,
+    Seasoned,
+    ReadRange,
+}
 
-// The rows, by their places in the table.
-pub const CHECK: usize = 0;
+// The messages.
+#[derive(Clone, Copy)]
+pub enum MessageKind {
+    Serve,
+    ReadRequest,
+    WriteRequest,
+    ReadReply,
+    WriteReply,
+}
 
-pub const LAYOUT: usize = 1;
+// A row of the table.
+#[derive(Clone, Copy)]
+pub enum Kind {
+    Tables(TableKind),
+    Messages(MessageKind),
+    // The row of a date alone.
+    Weekday,
+}
 
-pub const TABLE: usize = 2;
+// The rows in the table's order, which is that of NAMES.
+const KINDS: [Kind; 20] = [
+    Kind::Tables(TableKind::Check),
+    Kind::Tables(TableKind::Layout),
+    Kind::Tables(TableKind::Table),
+    Kind::Tables(TableKind::TablePart),
+    Kind::Tables(TableKind::Where),
+    Kind::Tables(TableKind::Octets),
+    Kind::Tables(TableKind::Number),
+    Kind::Tables(TableKind::WriteRange),
+    Kind::Tables(TableKind::WriteOctets),
+    Kind::Tables(TableKind::WriteNumber),
+    Kind::Tables(TableKind::Tier),
+    Kind::Tables(TableKind::Matrix),
+    Kind::Tables(TableKind::Seasoned),
+    Kind::Tables(TableKind::ReadRange),
+    Kind::Messages(MessageKind::Serve),
+    Kind::Messages(MessageKind::ReadRequest),
+    Kind::Messages(MessageKind::WriteRequest),
+    Kind::Messages(MessageKind::ReadReply),
+    Kind::Messages(MessageKind::WriteReply),
+    Kind::Weekday,
+];
 
-pub const TABLEPART: usize = 3;
+const NAMES: &[u8] =
+    b"check layout table tablepart where octets number writerange writeoctets writenumber tier matrix seasoned readrange serve readrequest writerequest readreply writereply weekday";
 
-pub const WHERE: usize = 4;
-
-pub const OCTETS: usize = 5;
-
-pub const NUMBER: usize = 6;
-
-pub const WRITERANGE: usize = 7;
-
-pub const WRITEOCTETS: usize = 8;
-
-pub const WRITENUMBER: usize = 9;
-
-pub const TIER: usize = 10;
-
-pub const MATRIX: usize = 11;
-
-pub const SEASONED: usize = 12;
-
-pub const READRANGE: usize = 13;
-
-// The rows of messages stand behind those of tables.
-pub const MESSAGES: usize = 14;
-
-pub const SERVE: usize = 14;
-
-pub const READREQUEST: usize = 15;
-
-pub const WRITEREQUEST: usize = 16;
-
-pub const READREPLY: usize = 17;
-
-pub const WRITEREPLY: usize = 18;
-
-// The row of a date alone stands last.
-pub const WEEKDAY: usize = 19;
-
-pub const ROWS: usize = 20;
+// Which row a name is of; None where it is of none.
+pub fn kind_of(name: &[u8]) -> Option<Kind>
+    ensures { found_place result ≡ kind_of name.now }
+{
+    let place = words::index_of(name, NAMES)?;
+    Some(KINDS[place])
+}
 
 // The form of a line: how many words it has; how many of octets stand behind the name, none, D, or D
 // and M; how many numbers stand behind those, and the most that each may come to; whether DATA stands
@@ -103,16 +128,6 @@ const REQUEST_MOST: [u64; 7] = [u64::MAX, u64::MAX, u64::MAX, u64::MAX, ROOM, 0,
 
 const REPLY_MOST: [u64; 7] = [u64::MAX, u64::MAX, ROOM, 0, 0, 0, 0];
 
-// Which row a name is of; ROWS where it is of none.
-pub fn kind_of(name: &[u8]) -> usize
-    ensures { result ≡ kind_of name.now }
-{
-    words::index_of(
-        name,
-        b"check layout table tablepart where octets number writerange writeoctets writenumber tier matrix seasoned readrange serve readrequest writerequest readreply writereply weekday",
-    )
-}
-
 // How many numbers a reply tells: none, a refusal's, or one or two of the answer's own behind those;
 // of a message that was written the refusal's number, of one that was read three or five, of a weekday two.
 const NOTHING: usize = 0;
@@ -123,66 +138,113 @@ const ONE_MORE: usize = 5;
 
 const TWO_MORE: usize = 6;
 
-// A row of the table: the fields of Form, in their order.
-#[derive(Clone, Copy)]
-struct Row(usize, usize, usize, [u64; 7], bool, usize, bool, bool);
-
-const TABLE_ROWS: [Row; ROWS] = [
-    Row(2, 1, 0, NONE, false, REFUSAL, false, false),
-    Row(3, 2, 0, NONE, false, ONE_MORE, false, false),
-    Row(5, 2, 2, TABLE_MOST, false, TWO_MORE, false, false),
-    Row(5, 2, 2, TABLE_MOST, false, NOTHING, true, false),
-    Row(9, 2, 6, ELEMENT_MOST, false, TWO_MORE, false, false),
-    Row(9, 2, 6, ELEMENT_MOST, false, NOTHING, true, false),
-    Row(9, 2, 6, ELEMENT_MOST, false, ONE_MORE, false, false),
-    Row(7, 2, 3, RANGE_MOST, true, REFUSAL, false, true),
-    Row(10, 2, 6, ELEMENT_MOST, true, REFUSAL, false, true),
-    Row(10, 2, 7, VALUE_MOST, false, REFUSAL, false, true),
-    Row(9, 2, 6, TIER_MOST, false, TWO_MORE, false, false),
-    Row(3, 2, 0, NONE, false, REFUSAL, true, false),
-    Row(6, 2, 3, DATE_MOST, false, ONE_MORE, false, false),
-    Row(7, 2, 4, LENGTH_MOST, false, TWO_MORE, true, false),
-    Row(5, 2, 1, ROOM_MOST, true, 1, true, true),
-    Row(2, 1, 0, NONE, false, 5, true, false),
-    Row(7, 0, 5, REQUEST_MOST, true, 1, true, false),
-    Row(2, 1, 0, NONE, false, 3, true, false),
-    Row(5, 0, 3, REPLY_MOST, true, 1, true, false),
-    Row(4, 0, 3, DATE_MOST, false, 2, false, false),
-];
-
-// The form of the lines that ask the question of a row, and its reply.
-pub fn form_of(kind: usize) -> Form
-    requires { kind < length rows }
-    ensures { result ≡ form_of kind }
+// The form of a line and of its reply: the fields of Form, with the words counted. They go by
+// position, as in a table: by name each row would take ten lines.
+fn columns(
+    lent: usize,
+    numbers: usize,
+    most: [u64; 7],
+    given: bool,
+    told: usize,
+    part: bool,
+    after: bool,
+) -> Form
+    requires { (lent ≤ 2) × (numbers ≤ 7) }
+    ensures { result ≡ record {
+      words = 1 + lent + numbers + (if given then 1 else 0);
+      lent = lent;
+      numbers = numbers;
+      most = most;
+      given = given;
+      told = told;
+      part = part;
+      after = after;
+    } }
 {
-    let row = TABLE_ROWS[kind];
-    let most = row.3;
+    let last = if given { 1 } else { 0 };
     Form {
-        words: row.0,
-        lent: row.1,
-        numbers: row.2,
+        words: 1 + lent + numbers + last,
+        lent,
+        numbers,
         most,
-        given: row.4,
-        told: row.5,
-        part: row.6,
-        after: row.7,
+        given,
+        told,
+        part,
+        after,
     }
 }
 
-// Whether a row takes numbers: of a message that is to be written, whether there is such a kind.
-pub fn takes(kind: usize, numbers: [u64; 7]) -> bool
-    requires { kind < length rows }
-    ensures { result ≡ takes kind numbers }
-{
-    let first = numbers[0];
-    if kind == WRITEREQUEST {
-        return either(
-            first == 48,
-            either(first == 63, either(first == 64, first == 79)),
-        );
+impl TableKind {
+    // The form of the lines that ask this question, and its reply.
+    pub fn form(self) -> Form
+        ensures { result ≡ form_of (tables_place self) }
+    {
+        match self {
+            TableKind::Check => columns(1, 0, NONE, false, REFUSAL, false, false),
+            TableKind::Layout => columns(2, 0, NONE, false, ONE_MORE, false, false),
+            TableKind::Table => columns(2, 2, TABLE_MOST, false, TWO_MORE, false, false),
+            TableKind::TablePart => columns(2, 2, TABLE_MOST, false, NOTHING, true, false),
+            TableKind::Where => columns(2, 6, ELEMENT_MOST, false, TWO_MORE, false, false),
+            TableKind::Octets => columns(2, 6, ELEMENT_MOST, false, NOTHING, true, false),
+            TableKind::Number => columns(2, 6, ELEMENT_MOST, false, ONE_MORE, false, false),
+            TableKind::WriteRange => columns(2, 3, RANGE_MOST, true, REFUSAL, false, true),
+            TableKind::WriteOctets => columns(2, 6, ELEMENT_MOST, true, REFUSAL, false, true),
+            TableKind::WriteNumber => columns(2, 7, VALUE_MOST, false, REFUSAL, false, true),
+            TableKind::Tier => columns(2, 6, TIER_MOST, false, TWO_MORE, false, false),
+            TableKind::Matrix => columns(2, 0, NONE, false, REFUSAL, true, false),
+            TableKind::Seasoned => columns(2, 3, DATE_MOST, false, ONE_MORE, false, false),
+            TableKind::ReadRange => columns(2, 4, LENGTH_MOST, false, TWO_MORE, true, false),
+        }
     }
-    if kind == WRITEREPLY {
-        return either(first == 1, either(first == 2, first == 3));
+}
+
+impl MessageKind {
+    // The form of the lines that ask for this message, and its reply.
+    pub fn form(self) -> Form
+        ensures { result ≡ form_of (messages_place self) }
+    {
+        match self {
+            MessageKind::Serve => columns(2, 1, ROOM_MOST, true, 1, true, true),
+            MessageKind::ReadRequest => columns(1, 0, NONE, false, 5, true, false),
+            MessageKind::WriteRequest => columns(0, 5, REQUEST_MOST, true, 1, true, false),
+            MessageKind::ReadReply => columns(1, 0, NONE, false, 3, true, false),
+            MessageKind::WriteReply => columns(0, 3, REPLY_MOST, true, 1, true, false),
+        }
     }
-    true
+
+    // Whether a message that is to be written has a kind that there is, by the first number; the
+    // others take any.
+    fn takes(self, numbers: [u64; 7]) -> bool
+        ensures { result ≡ takes (messages_place self) numbers }
+    {
+        let first = numbers[0];
+        match self {
+            MessageKind::WriteRequest => matches!(first, 48 | 63 | 64 | 79),
+            MessageKind::WriteReply => matches!(first, 1 | 2 | 3),
+            MessageKind::Serve | MessageKind::ReadRequest | MessageKind::ReadReply => true,
+        }
+    }
+}
+
+impl Kind {
+    // The form of the lines that ask for this row, and its reply.
+    pub fn form(self) -> Form
+        ensures { result ≡ form_of (kind_place self) }
+    {
+        match self {
+            Kind::Tables(kind) => kind.form(),
+            Kind::Messages(kind) => kind.form(),
+            Kind::Weekday => columns(0, 3, DATE_MOST, false, 2, false, false),
+        }
+    }
+
+    // Whether the row takes numbers.
+    pub fn takes(self, numbers: [u64; 7]) -> bool
+        ensures { result ≡ takes (kind_place self) numbers }
+    {
+        match self {
+            Kind::Messages(kind) => kind.takes(numbers),
+            Kind::Tables(_) | Kind::Weekday => true,
+        }
+    }
 }

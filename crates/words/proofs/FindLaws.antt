@@ -1,36 +1,35 @@
--- What looking for an octet leans on: `Passed` says that it is none of those from place `from` up to place i. Assumes nothing.
-use mathlib.Core.Path.{◌≡◌, refl, ◌∙◌}
-use mathlib.Core.List.{List}
-use Prim.Native.Nat.{ℕ, ◌+◌, ◌≤◌, ◌<◌}
-use native.Mathlib.Numerals.{add-one}
+-- What looking for an octet leans on: `position` of the library answers how many octets stand before the first of it. Assumes nothing.
+use mathlib.Core.Path.{◌≡◌, refl, ap}
+use mathlib.Core.List.{List, [], ◌∷◌}
+use mathlib.Core.Bool.{cond}
+use Prim.Native.Nat.{ℕ, ◌≤◌, zero-le, suc-le-suc}
 use native.Mathlib.Omega.{arith}
-use borrow.Author.Tests.{eq-eqb, ne_eqb}
-use lib.ListN.{length, get_or, drop, drop_of_length-le}
-use lib.Seq.{drop-cons}
+use borrow.Author.Tests.{lt-ltb, le-ltb}
+use lib.Dec.{eqb}
+use lib.ListN.{length}
+use Rattle.std.specs.Prelude.{Some, None}
+use Rattle.std.specs.List.{position, position_or_len}
+use Rattle.std.proofs.lemmas.List.Recursion.{is_position_or_len}
 use Rattle.words.specs.Find.{first_of}
+use Rattle.words.proofs.Cases.{by_test, by_less}
 
-pub record Passed (b : ℕ) (text : List ℕ) (from i : ℕ) : Type 0 where
-  pub reached : from ≤ i
-  pub within : from ≤ length text → i ≤ length text
-  pub left : from + first_of b (drop from text) ≡ i + first_of b (drop i text)
+first_is : (b : ℕ) (xs : List ℕ) → first_of b xs ≡ position_or_len (λ x. eqb x b) xs
+unfolding first_of
+first_is b = is_position_or_len (first_of b) (λ x. eqb x b) refl (λ x xs. ap (cond (eqb x b) 0) (omega arith))
 
-pub passed_none : (b : ℕ) (text : List ℕ) (from : ℕ) → Passed b text from from
-passed_none b text from = record { reached = omega arith; within = λ h. h; left = refl }
+first_within : (b : ℕ) (xs : List ℕ) → first_of b xs ≤ length xs
+unfolding first_of
+first_within b [] = zero-le
+first_within b (x ∷ xs) = by_test (eqb x b) (λ e. rw e zero-le) (λ e. rw e (suc-le-suc (first_within b xs)))
 
-module _ {b : ℕ} {text : List ℕ} {from i : ℕ} (p : Passed b text from i) where
-  pub passed_more : i < length text → (get_or text i 0 ≡ b → ⊥) → Passed b text from (i + 1)
-  unfolding first_of
-  passed_more h e =
-      record {
-        reached = omega (arith, p.reached);
-        within = λ _. omega arith;
-        left = p.left ∙ rw (drop-cons text i 0 h, ne_eqb (get_or text i 0) b e, add-one) (omega arith);
-      }
+pub found : (b : ℕ) (xs : List ℕ) (i : ℕ) → Some i ≡ position (λ x. eqb x b) xs → i ≡ first_of b xs
+found b xs i e =
+    by_less (first_of b xs) (length xs)
+    (λ h. cc (rw (← first_is b xs, lt-ltb _ _ h) at e))
+    (λ h. absurd (cc (rw (← first_is b xs, le-ltb _ _ h) at e)))
 
-  pub found_here : i < length text → get_or text i 0 ≡ b → i ≡ from + first_of b (drop from text)
-  unfolding first_of
-  found_here h e = rw (p.left, drop-cons text i 0 h, eq-eqb (get_or text i 0) b e) (omega arith)
-
-  pub found_none : length text ≤ i → i ≡ from + first_of b (drop from text)
-  unfolding first_of
-  found_none h = rw (p.left, drop_of_length-le text h) (omega arith)
+pub not_found : (b : ℕ) (xs : List ℕ) → None ≡ position (λ x. eqb x b) xs → length xs ≡ first_of b xs
+not_found b xs e =
+    by_less (first_of b xs) (length xs)
+    (λ h. absurd (cc (rw (← first_is b xs, lt-ltb _ _ h) at e)))
+    (λ h. omega (arith, first_within b xs))

@@ -1,61 +1,19 @@
 -- What reading and writing hex leans on. Assumes nothing.
 use mathlib.Core.Path.{◌≡◌, refl, sym, ap, ◌∙◌}
 use mathlib.Core.List.{List, [], ◌∷◌}
-use mathlib.Core.Bool.{Bool, true, false, ◌&&◌, and-false, and-eq-true_iff, or-false}
+use mathlib.Core.Bool.{true, false, ◌&&◌, and-false, and-eq-true_iff, or-false}
 use Prim.Native.Nat.{ℕ, zero, suc, ◌+◌, ◌*◌, ◌/◌, ◌%◌, ◌≤◌, ◌<◌, zero-le}
 use native.Mathlib.Numerals.{add-one}
 use native.Mathlib.Nat.{not-suc-le-zero, le_of_suc-le-suc}
-use native.Mathlib.Omega.{arith, by_contra}
-use borrow.Author.Tests.{le-leb, lt-leb, leb-true, eq-eqb}
+use native.Mathlib.Omega.{arith}
+use borrow.Author.Tests.{le-leb, lt-leb, eq-eqb}
 use lib.Dec.{leb, eqb}
-use lib.ListN.{length, get_or, drop, drop_of_length-le}
-use lib.Seq.{drop-cons}
-use Rattle.words.specs.declared.types.Octets.TheVariants.{Are, Not}
+use lib.ListN.{length, get_or}
+use Rattle.std.specs.Prelude.{Some, None}
 use Rattle.words.specs.Hex.{is_hex, hex_value, all_hex, is_dash, are_octets, octets_of, can_read, OctetsRead, hex_digit, hex_pairs, hex_text}
 use Rattle.words.specs.Put.{fits, laid}
 
--- A DIGIT
-pub hex_low : (b : ℕ) → b < 48 → false ≡ is_hex b
-unfolding is_hex
-hex_low b h = rw (lt-leb 48 b h, lt-leb 97 b (omega arith))
-
-pub hex_number : (b : ℕ) → 48 ≤ b → b ≤ 57 → true ≡ is_hex b
-unfolding is_hex
-hex_number b h k = rw (le-leb 48 b h, le-leb b 57 k)
-
-pub hex_between : (b : ℕ) → 57 < b → b < 97 → false ≡ is_hex b
-unfolding is_hex
-hex_between b h k = rw (lt-leb b 57 h, and-false, lt-leb 97 b k)
-
-pub hex_letter : (b : ℕ) → 97 ≤ b → leb b 102 ≡ is_hex b
-unfolding is_hex
-hex_letter b h = rw (lt-leb b 57 (omega arith), and-false, le-leb 97 b h)
-
--- what a hex digit is, as bounds
-module _ (b : ℕ) (e : is_hex b ≡ true) where
-  never : false ≡ is_hex b → ⊥
-  never f = let z : ◌≡◌ {A = ℕ} 0 1 = cc in omega arith
-
-  pub number_low : 48 ≤ b
-  number_low = by_contra 48 b (λ h. never (hex_low b h))
-
-  pub letter_low : 57 < b → 97 ≤ b
-  letter_low h = by_contra 97 b (λ l. never (hex_between b h l))
-
-  pub letter_high : 57 < b → b ≤ 102
-  letter_high h = leb-true b 102 (hex_letter b (letter_low h) ∙ e)
-
 -- A WORD
--- judging goes by what is left from place i on
-pub hex_next : {t : Bool} (word : List ℕ) (i : ℕ) → all_hex word ≡ all_hex (drop i word) → i < length word → is_hex (get_or word i 0) ≡ t
-    → all_hex word ≡ (t && all_hex (drop (i + 1) word))
-unfolding all_hex
-hex_next word i e h f = e ∙ rw (drop-cons word i 0 h, add-one, f)
-
-pub hex_end : (word : List ℕ) (i : ℕ) → length word ≤ i → all_hex (drop i word) ≡ true
-unfolding all_hex
-hex_end word i h = rw (drop_of_length-le word h)
-
 pub hex_at : (word : List ℕ) (i : ℕ) → all_hex word ≡ true → i < length word → is_hex (get_or word i 0) ≡ true
 unfolding all_hex
 hex_at [] i e h = absurd (not-suc-le-zero h)
@@ -137,22 +95,22 @@ hex_word word h k e f = tests word h ∙ rw (le-leb 2 (length word) k, eq-eqb (l
 module _ {word out : List ℕ} where
   -- the word is one of octets, with room for them
   pub read : {later : List ℕ} {n : ℕ} → are_octets word ≡ true → length (octets_of word) ≤ length out → later ≡ laid out 0 (octets_of word)
-      → n ≡ length (octets_of word) → OctetsRead word out later (Are n)
+      → n ≡ length (octets_of word) → OctetsRead word out later (Some n)
   unfolding can_read fits
   read e h f g =
       let t : leb (0 + length (octets_of word)) (length out) ≡ true = le-leb (0 + length (octets_of word)) (length out) (omega arith) in
       record { reply = rw (e, t, g); memory = rw (e, t) f }
 
-  pub not_octets : are_octets word ≡ false → OctetsRead word out out Not
+  pub not_octets : are_octets word ≡ false → OctetsRead word out out None
   unfolding can_read
   not_octets e = record { reply = rw e; memory = rw e }
 
-  pub no_space : length out < length (octets_of word) → OctetsRead word out out Not
+  pub no_space : length out < length (octets_of word) → OctetsRead word out out None
   unfolding can_read fits
   no_space h =
       let t : leb (0 + length (octets_of word)) (length out) ≡ false = lt-leb (0 + length (octets_of word)) (length out) (omega arith) in
       record { reply = rw (t, and-false); memory = rw (t, and-false) }
 
-  pub dash_read : length word ≡ 1 → get_or word 0 0 ≡ 45 → OctetsRead word out out (Are 0)
+  pub dash_read : length word ≡ 1 → get_or word 0 0 ≡ 45 → OctetsRead word out out (Some 0)
   unfolding laid
   dash_read h e = let n : octets_of word ≡ [] = (single word h).1 in read ((single word h).0 ∙ eq-eqb _ _ e) (rw n zero-le) (rw n) (rw n)

@@ -1,14 +1,18 @@
 -- What looking a name up leans on: `Looked` says that it is none of the first k words. Assumes nothing.
 use mathlib.Core.Path.{◌≡◌, sym, ◌∙◌}
-use mathlib.Core.List.{List, []}
+use mathlib.Core.List.{List, [], ◌∷◌}
 use mathlib.Core.Bool.{Bool, true, false, cond}
-use Prim.Native.Nat.{ℕ, suc, ◌+◌, ◌≤◌, ◌<◌, zero-le}
+use Rattle.std.specs.Prelude.{Some, None}
+use borrow.Author.Tests.{lt-ltb, le-ltb}
+use Prim.Native.Nat.{ℕ, suc, ◌+◌, ◌≤◌, ◌<◌, zero-le, suc-le-suc}
 use native.Mathlib.Numerals.{add-one}
 use native.Mathlib.Nat.{zero-add, add-zero}
 use native.Mathlib.Omega.{arith}
 use lib.ListN.{length, get_or, drop, drop_of_length-le}
 use lib.Seq.{drop-cons}
-use Rattle.words.specs.Line.{is_name, word_index}
+use Rattle.std.specs.Option.{unwrap_or}
+use Rattle.words.proofs.Cases.{by_test, by_less}
+use Rattle.words.specs.Line.{is_name, word_index, word_place}
 
 pub record Looked (name : List ℕ) (words : List (List ℕ)) (k : ℕ) : Type 0 where
   pub within : k ≤ length words
@@ -23,12 +27,40 @@ module _ {name : List ℕ} {words : List (List ℕ)} {k : ℕ} (l : Looked name 
   unfolding word_index
   next_word h e = l.left ∙ rw (drop-cons words k [] h, add-one k, e)
 
-  pub looked_here : k < length words → is_name name (get_or words k []) ≡ true → k ≡ word_index name words
-  looked_here h e = sym (next_word h e ∙ add-zero k)
+  pub looked_here : k < length words → is_name name (get_or words k []) ≡ true → Some k ≡ word_place name words
+  unfolding word_place
+  looked_here h e = let f : word_index name words ≡ k = next_word h e ∙ add-zero k in rw (f, lt-ltb _ _ h)
 
   pub looked_on : k < length words → is_name name (get_or words k []) ≡ false → Looked name words (k + 1)
   looked_on h e = record { within = omega arith; left = next_word h e ∙ omega arith }
 
-  pub looked_all : length words ≤ k → length words ≡ word_index name words
-  unfolding word_index
-  looked_all h = let e : drop k words ≡ [] = drop_of_length-le words h in sym (l.left ∙ rw e (omega arith))
+  pub looked_all : length words ≤ k → None ≡ word_place name words
+  unfolding word_index word_place
+  looked_all h =
+      let e : drop k words ≡ [] = drop_of_length-le words h in
+      let f : length words ≤ word_index name words = rw (l.left, e) (omega arith) in
+      rw (le-ltb _ _ f)
+
+-- FOR CALLERS: in numbers, the place of no word is how many there are
+index_within : (name : List ℕ) (words : List (List ℕ)) → word_index name words ≤ length words
+unfolding word_index
+index_within name [] = zero-le
+index_within name (word ∷ words) = by_test (is_name name word) (λ e. rw e zero-le) (λ e. rw e (suc-le-suc (index_within name words)))
+
+pub place_or_all : (name : List ℕ) (words : List (List ℕ)) → unwrap_or (word_place name words) (length words) ≡ word_index name words
+unfolding word_place
+place_or_all name words =
+    by_less (word_index name words) (length words) (λ h. rw (lt-ltb _ _ h))
+    (λ h. rw (le-ltb _ _ h) (omega (arith, index_within name words)))
+
+pub place_found : (name : List ℕ) (words : List (List ℕ)) (k : ℕ) → word_place name words ≡ Some k → (k < length words) × (k ≡ word_index name words)
+unfolding word_place
+place_found name words k e =
+    by_less (word_index name words) (length words)
+    (λ h. let f : word_index name words ≡ k = cc (rw (lt-ltb _ _ h) at e) in (omega arith, sym f))
+    (λ h. absurd (cc (rw (le-ltb _ _ h) at e)))
+
+pub place_none : (name : List ℕ) (words : List (List ℕ)) → word_place name words ≡ None → length words ≡ word_index name words
+unfolding word_place
+place_none name words e =
+    by_less (word_index name words) (length words) (λ h. absurd (cc (rw (lt-ltb _ _ h) at e))) (λ h. omega (arith, index_within name words))

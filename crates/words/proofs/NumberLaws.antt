@@ -11,8 +11,8 @@ use borrow.Author.Tests.{le-leb, lt-leb, lt-ltb, le-ltb}
 use lib.Dec.{ltb}
 use lib.ListN.{length, get_or, take, drop, length-append, take-append-drop}
 use lib.Seq.{take-suc, take_all}
-use Rattle.words.specs.declared.types.Number.TheVariants.{Is, Not}
-use Rattle.words.specs.Number.{is_digit, all_digits, value_of, is_number, number_of, digits_of, decimal_text}
+use Rattle.std.specs.Prelude.{Some, None}
+use Rattle.words.specs.Number.{is_digit, digit_of, all_digits, value_of, is_number, number_of, digits_of, decimal_text}
 use Rattle.io.specs.Digits.{last_digits as digits, IsDigitCount}
 use Rattle.words.proofs.Cases.{by_test}
 
@@ -41,6 +41,15 @@ pub digit : (b : ℕ) → 48 ≤ b → b ≤ 57 → is_digit b ≡ true
 unfolding is_digit
 digit b h k = simp (le-leb _ _ h, le-leb _ _ k)
 
+-- what `digit_of` answers, as the test
+some_digit : (b d : ℕ) → digit_of b ≡ Some d → (is_digit b ≡ true) × (d ≡ b - 48)
+unfolding digit_of
+some_digit b d e = by_test (is_digit b) (λ t. (t, cc (rw t at e))) (λ t. absurd (cc (rw t at e)))
+
+none_digit : (b : ℕ) → digit_of b ≡ None → is_digit b ≡ false
+unfolding digit_of
+none_digit b e = by_test (is_digit b) (λ t. absurd (cc (rw t at e))) (λ t. t)
+
 -- a word with another octet than a digit
 not_all : (word : List ℕ) (i : ℕ) → i < length word → is_digit (get_or word i 0) ≡ false → all_digits word ≡ false
 unfolding all_digits
@@ -49,13 +58,13 @@ not_all (b ∷ word) zero h e = rw e
 not_all (b ∷ word) (suc i) h e = rw (not_all word i (le_of_suc-le-suc h) e) (and-false (is_digit b))
 
 -- THE REPLIES
-pub empty : (word : List ℕ) (most : ℕ) → length word ≡ 0 → Not ≡ number_of word most
+pub empty : (word : List ℕ) (most : ℕ) → length word ≡ 0 → None ≡ number_of word most
 unfolding number_of is_number
 empty word most h = rw h
 
-pub no_digit : (word : List ℕ) (most i : ℕ) → i < length word → is_digit (get_or word i 0) ≡ false → Not ≡ number_of word most
+pub no_digit : (word : List ℕ) (most i : ℕ) → i < length word → digit_of (get_or word i 0) ≡ None → None ≡ number_of word most
 unfolding number_of is_number
-no_digit word most i h e = rw (not_all word i h e, and-false)
+no_digit word most i h e = rw (not_all word i h (none_digit _ e), and-false)
 
 -- the octets before place i are digits that come to n, which is no more than most
 pub record SoFar (word : List ℕ) (most i n : ℕ) : Type 0 where
@@ -68,32 +77,31 @@ pub so_far_none : (word : List ℕ) (most : ℕ) → SoFar word most 0 0
 unfolding all_digits value_of
 so_far_none word most = record { within = zero-le; digits = refl; value = refl; small = zero-le }
 
-module _ (word : List ℕ) (most i n : ℕ) (s : SoFar word most i n) (h : i < length word) where
+module _ {word : List ℕ} {most i n d : ℕ} (s : SoFar word most i n) (h : i < length word) (e : digit_of (get_or word i 0) ≡ Some d) where
   one_more : take (i + 1) word ≡ take i word ++ (get_or word i 0 ∷ [])
   one_more = rw add-one (take-suc word i 0 h)
 
-  its_value : value_of (take (i + 1) word) ≡ n * 10 + (get_or word i 0 - 48)
-  its_value = rw (one_more, value_more, ← s.value)
+  its_value : value_of (take (i + 1) word) ≡ n * 10 + d
+  its_value = rw (one_more, value_more, ← s.value, (some_digit _ d e).1)
 
-  pub so_far_more : 48 ≤ get_or word i 0 → get_or word i 0 ≤ 57 → n * 10 + (get_or word i 0 - 48) ≤ most
-      → SoFar word most (i + 1) (n * 10 + (get_or word i 0 - 48))
+  pub so_far_more : n * 10 + d ≤ most → SoFar word most (i + 1) (n * 10 + d)
   unfolding all_digits
-  so_far_more low high k =
+  so_far_more k =
       record {
         within = omega arith;
-        digits = rw (one_more, digits_append, s.digits, digit _ low high);
+        digits = rw (one_more, digits_append, s.digits, (some_digit _ d e).0);
         value = sym its_value;
         small = k;
       }
 
-  pub too_large : most < n * 10 + (get_or word i 0 - 48) → Not ≡ number_of word most
+  pub too_large : most < n * 10 + d → None ≡ number_of word most
   unfolding number_of is_number
   too_large k =
       let v : value_of (take (i + 1) word) ≤ value_of word =
       rw take-append-drop at (value_front (take (i + 1) word) (drop (i + 1) word)) in
       rw (lt-leb (value_of word) most (omega (arith, its_value)), and-false, and-false)
 
-pub so_far_all : (word : List ℕ) (most i n : ℕ) → SoFar word most i n → 0 < length word → length word ≤ i → Is n ≡ number_of word most
+pub so_far_all : (word : List ℕ) (most i n : ℕ) → SoFar word most i n → 0 < length word → length word ≤ i → Some n ≡ number_of word most
 unfolding number_of is_number
 so_far_all word most i n s h k =
     let e : word ≡ take i word = sym (take_all i word k) in

@@ -10,7 +10,7 @@ use native.Mathlib.Omega.{arith}
 use borrow.Author.Tests.{le-leb, lt-leb, lt-ltb, le-ltb, eqb-true}
 use lib.Dec.{eqb}
 use lib.ListN.{length, get_or, length-append}
-use Rattle.words.specs.declared.types.Number.TheVariants.{Is}
+use Rattle.std.specs.Prelude.{Some}
 use Rattle.words.specs.Number.{all_digits, value_of, is_number, number_of, digits_of, decimal_text}
 use Rattle.words.specs.Hex.{is_hex, hex_value, all_hex, are_octets, octets_of, hex_digit, hex_pairs, hex_text}
 use Rattle.words.specs.Line.{longer, words_of}
@@ -47,7 +47,7 @@ spells (suc f) n h =
     (λ l. rw (le-ltb n 10 l) (one_more n _ (spells f (n / 10) (omega (arith, pow-suc 10 (suc f))))))
 
 -- a number's text, read with any most that is no less, is the number
-pub number_back : (n most : ℕ) → n < 2 ^ 64 → n ≤ most → number_of (decimal_text n) most ≡ Is n
+pub number_back : (n most : ℕ) → n < 2 ^ 64 → n ≤ most → number_of (decimal_text n) most ≡ Some n
 unfolding number_of is_number decimal_text
 number_back n most h l =
     let s = spells 19 n (omega arith) in

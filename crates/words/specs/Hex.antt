@@ -1,9 +1,8 @@
 -- A word as octets, and octets as a word. Octets are lower-case hex, two digits each, at least one octet; the word `-` is no octets.
 -- Octets are ASCII: `0` is 48, `9` 57, `a` 97, `f` 102 and `-` 45. Assumes nothing.
-use Rattle.std.specs.Prelude.{ℕ, ◌+◌, ◌-◌, ◌*◌, ◌/◌, ◌%◌, List, [], ◌∷◌, ◌≡◌, Bool, true, false, cond, ◌&&◌, ◌||◌, leb, ltb, eqb, length}
+use Rattle.std.specs.Prelude.{ℕ, ◌+◌, ◌-◌, ◌*◌, ◌/◌, ◌%◌, List, [], ◌∷◌, ◌≡◌, Bool, false, cond, ◌&&◌, ◌||◌, leb, ltb, eqb, length, Option, Some, None}
+use Rattle.std.specs.List.{list_all}
 use Rattle.words.specs.Put.{fits, laid}
-use Rattle.words.specs.declared.types.Octets.{Octets}
-use Rattle.words.specs.declared.types.Octets.TheVariants.{Are, Not}
 
 -- a hex digit: `0` to `9`, or `a` to `f`
 unfoldable pub is_hex : ℕ → Bool
@@ -15,8 +14,7 @@ hex_value b = cond (leb b 57) (b - 48) (b - 87)
 
 -- every octet is a hex digit
 unfoldable pub all_hex : List ℕ → Bool
-all_hex [] = true
-all_hex (b ∷ rest) = is_hex b && all_hex rest
+all_hex word = list_all is_hex word
 
 -- the word `-`
 unfoldable pub is_dash : List ℕ → Bool
@@ -39,9 +37,9 @@ unfoldable pub can_read : List ℕ → List ℕ → Bool
 can_read word out = are_octets word && fits out 0 (octets_of word)
 
 -- a word was read into `out`: the reply is how many octets, and `out` starts with them, the rest as before; or it cannot be read, the
--- reply is Not and `out` is unchanged
-pub record OctetsRead (word out later : List ℕ) (r : Octets) : Type 0 where
-  pub reply : r ≡ cond (can_read word out) (Are (length (octets_of word))) Not
+-- reply is None and `out` is unchanged
+pub record OctetsRead (word out later : List ℕ) (r : Option ℕ) : Type 0 where
+  pub reply : r ≡ cond (can_read word out) (Some (length (octets_of word))) None
   pub memory : later ≡ cond (can_read word out) (laid out 0 (octets_of word)) out
 
 -- a hex digit as text

@@ -1,6 +1,7 @@
 -- The words of a line. A line is words with exactly one space between, none of them empty; at most forty are taken. A space is 32.
 -- Assumes nothing.
-use Rattle.std.specs.Prelude.{ℕ, suc, ◌+◌, ◌-◌, List, [], ◌∷◌, ◌++◌, Bool, true, false, cond, ◌&&◌, leb, eqb, length, get_or, replicate, take, drop}
+use Rattle.std.specs.Prelude.{ℕ, suc, ◌+◌, ◌-◌, List, [], ◌∷◌, ◌++◌, Bool, true, false, cond, ◌&&◌, leb, eqb, length, get_or, replicate, take, drop, Option, Some, None, nat_lt}
+use Rattle.words.specs.declared.types.Span.{Span}
 use Rattle.words.specs.declared.types.Words.{Words}
 
 -- one octet more at the front of the first word
@@ -18,19 +19,18 @@ unfoldable pub none_empty : List (List ℕ) → Bool
 none_empty [] = true
 none_empty (word ∷ words) = leb 1 (length word) && none_empty words
 
--- where words start in a line, the first at `at`, one space between
-unfoldable pub starts_from : ℕ → List (List ℕ) → List ℕ
-starts_from at [] = []
-starts_from at (word ∷ words) = at ∷ starts_from (at + length word + 1) words
+-- where words are in a line, the first at `at`, one space between
+unfoldable pub spans_from : ℕ → List (List ℕ) → List Span
+spans_from at [] = []
+spans_from at (word ∷ words) = record { start = at; end = at + length word } ∷ spans_from (at + length word + 1) words
 
--- and where they end
-unfoldable pub ends_from : ℕ → List (List ℕ) → List ℕ
-ends_from at [] = []
-ends_from at (word ∷ words) = (at + length word) ∷ ends_from (at + length word + 1) words
+-- no part at all
+abbrev pub no_span : Span
+no_span = record { start = 0; end = 0 }
 
--- filled up with zeros to forty
-unfoldable pub forty : List ℕ → List ℕ
-forty places = places ++ replicate (40 - length places) 0
+-- filled up with such parts to forty
+unfoldable pub forty : List Span → List Span
+forty spans = spans ++ replicate (40 - length spans) no_span
 
 -- the words of a line; none at all where one of them is empty or there are more than forty
 unfoldable pub line_words : List ℕ → List (List ℕ)
@@ -38,27 +38,27 @@ line_words line = cond (none_empty (words_of line) && leb (length (words_of line
 
 -- where given words are
 unfoldable pub places_of : List (List ℕ) → Words
-places_of words = record { count = length words; starts = forty (starts_from 0 words); ends = forty (ends_from 0 words) }
+places_of words = record { count = length words; spans = forty (spans_from 0 words) }
 
 -- where the words of a line are
 unfoldable pub split_of : List ℕ → Words
 split_of line = places_of (line_words line)
 
--- the octets of a line from `start` up to `end`; none where the two do not stand in order inside the line
-unfoldable pub part_of : List ℕ → ℕ → ℕ → List ℕ
-part_of line start end = cond (leb start end && leb end (length line)) (take (end - start) (drop start line)) []
+-- the octets of a part of a line; none where its two ends do not stand in order inside the line
+unfoldable pub part_of : List ℕ → Span → List ℕ
+part_of line span = cond (leb span.start span.end && leb span.end (length line)) (take (span.end - span.start) (drop span.start line)) []
 
 -- the octet of the line at which that part stands; where the two do not stand in order, it is empty and stands at octet 0
-unfoldable pub part_start : List ℕ → ℕ → ℕ → ℕ
-part_start line start end = cond (leb start end && leb end (length line)) start 0
+unfoldable pub part_start : List ℕ → Span → ℕ
+part_start line span = cond (leb span.start span.end && leb span.end (length line)) span.start 0
 
 -- word k of a line, by places
 unfoldable pub word_in : List ℕ → Words → ℕ → List ℕ
-word_in line places k = part_of line (get_or places.starts k 0) (get_or places.ends k 0)
+word_in line places k = part_of line (get_or places.spans k no_span)
 
 -- the octet of the line at which it stands
 unfoldable pub word_start : List ℕ → Words → ℕ → ℕ
-word_start line places k = part_start line (get_or places.starts k 0) (get_or places.ends k 0)
+word_start line places k = part_start line (get_or places.spans k no_span)
 
 -- a word is a name, octet by octet
 unfoldable pub is_name : List ℕ → List ℕ → Bool
@@ -71,3 +71,7 @@ is_name (b ∷ word) (c ∷ name) = eqb b c && is_name word name
 unfoldable pub word_index : (name : List ℕ) → (words : List (List ℕ)) → ℕ
 word_index name [] = 0
 word_index name (word ∷ words) = cond (is_name name word) 0 (suc (word_index name words))
+
+-- the same, and None where it is none of them
+unfoldable pub word_place : (name : List ℕ) → (words : List (List ℕ)) → Option ℕ
+word_place name words = cond (nat_lt (word_index name words) (length words)) (Some (word_index name words)) None

@@ -1,12 +1,14 @@
 -- A word as a number, and a number as a word. A number is one or more decimal digits, leading zeros allowed, with a value of at most
 -- a given `most`; a reply's numbers have no leading zeros. Octets are ASCII: `0` is 48 and `9` is 57. Assumes nothing.
-use Rattle.std.specs.Prelude.{ℕ, zero, suc, ◌+◌, ◌-◌, ◌*◌, ◌/◌, ◌%◌, ◌^◌, List, [], ◌∷◌, ◌++◌, Bool, true, cond, ◌&&◌, leb, ltb, length}
-use Rattle.words.specs.declared.types.Number.{Number}
-use Rattle.words.specs.declared.types.Number.TheVariants.{Is, Not}
+use Rattle.std.specs.Prelude.{ℕ, zero, suc, ◌+◌, ◌-◌, ◌*◌, ◌/◌, ◌%◌, ◌^◌, List, [], ◌∷◌, ◌++◌, Bool, true, cond, ◌&&◌, leb, ltb, length, Option, Some, None}
 
 -- a decimal digit: `0` to `9`
 unfoldable pub is_digit : ℕ → Bool
 is_digit b = leb 48 b && leb b 57
+
+-- what an octet counts as a digit
+unfoldable pub digit_of : ℕ → Option ℕ
+digit_of b = cond (is_digit b) (Some (b - 48)) None
 
 -- every octet is a decimal digit
 unfoldable pub all_digits : List ℕ → Bool
@@ -23,8 +25,8 @@ unfoldable pub is_number : List ℕ → ℕ → Bool
 is_number word most = leb 1 (length word) && (all_digits word && leb (value_of word) most)
 
 -- a word as a number
-unfoldable pub number_of : List ℕ → ℕ → Number
-number_of word most = cond (is_number word most) (Is (value_of word)) Not
+unfoldable pub number_of : List ℕ → ℕ → Option ℕ
+number_of word most = cond (is_number word most) (Some (value_of word)) None
 
 -- a number in decimal, in at most so many digits: under ten, its one digit; else the digits of its tenth, then its last digit
 unfoldable pub digits_of : ℕ → ℕ → List ℕ

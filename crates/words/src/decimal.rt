@@ -1,43 +1,36 @@
 // A word as a number.
 ghost use Rattle.std.specs.Prelude.{◌≡◌};
-ghost use Rattle.words.specs.Number.{number_of};
+ghost use Rattle.words.specs.Number.{digit_of, number_of};
 
-use crate::types::Number;
-
-// A cast with a name: what reads an octet through it need not show that the octet fits.
-fn wide(x: u8) -> u64
-    ensures { result ≡ x }
+// What an octet counts as a decimal digit; None where it is none.
+#[tactic(auto, using(std::proofs::lemmas::Bool::Decides::nat_tests), unfolding(crate::specs::Number::digit_of, crate::specs::Number::is_digit))]
+fn digit(b: u8) -> Option<u64>
+    ensures { result ≡ digit_of b }
 {
-    x as u64
+    if b.is_ascii_digit() {
+        return Some(u64::from(b - b'0'));
+    }
+    None
 }
 
-// The word's value; Not where the word is empty, has another octet than a digit, or comes to more
+// The word's value; None where the word is empty, has another octet than a digit, or comes to more
 // than most. The value so far is at most `most` at each turn, so no sum wraps however long the word.
-pub fn number(word: &[u8], most: u64) -> Number
+pub fn number(word: &[u8], most: u64) -> Option<u64>
     ensures { result ≡ number_of word.now most }
 {
-    if word.len() == 0 {
-        return Number::Not;
+    if word.is_empty() {
+        return None;
     }
     let mut n: u64 = 0;
-    let mut i = 0;
-    while i < word.len() {
-        let b = word[i];
-        if b < b'0' {
-            return Number::Not;
-        }
-        if b'9' < b {
-            return Number::Not;
-        }
-        let d = wide(b) - 48;
+    for b in word {
+        let d = digit(*b)?;
         if most < d {
-            return Number::Not;
+            return None;
         }
         if (most - d) / 10 < n {
-            return Number::Not;
+            return None;
         }
         n = n * 10 + d;
-        i += 1;
     }
-    Number::Is(n)
+    Some(n)
 }

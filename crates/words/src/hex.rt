@@ -3,49 +3,32 @@ ghost use Rattle.std.specs.Prelude.{◌≡◌, true, ◌*◌, ◌≤◌, ◌<◌
 ghost use Rattle.words.specs.Hex.{is_hex, hex_value, all_hex, octets_of, OctetsRead};
 ghost use Rattle.words.specs.Put.{laid};
 
-use crate::types::Octets;
-
 // Whether an octet is a hex digit, `0` to `9` or `a` to `f`.
+#[tactic(auto, using(std::proofs::lemmas::Bool::Decides::nat_tests), unfolding(crate::specs::Hex::is_hex))]
 fn is_hex(b: u8) -> bool
     ensures { result ≡ is_hex b }
 {
-    if b < b'0' {
-        return false;
-    }
-    if b <= b'9' {
-        return true;
-    }
-    if b < b'a' {
-        return false;
-    }
-    b <= b'f'
+    matches!(b, b'0'..=b'9' | b'a'..=b'f')
 }
 
 // What a hex digit counts.
+#[tactic(auto, using(std::proofs::lemmas::Bool::Decides::nat_tests), unfolding(crate::specs::Hex::is_hex, crate::specs::Hex::hex_value))]
 fn hex_value(b: u8) -> u8
     requires { is_hex b ≡ true }
     ensures value { result ≡ hex_value b }
     ensures upper_bound { result < 16 }
 {
-    if b <= b'9' {
-        return b - b'0';
+    match b {
+        b'0'..=b'9' => b - b'0',
+        _ => b - b'a' + 10,
     }
-    b - 87 // b'a' counts 10
 }
 
 // The first pass: whether every octet is a hex digit.
 fn all_hex(word: &[u8]) -> bool
     ensures { result ≡ all_hex word.now }
 {
-    let mut i = 0;
-    while i < word.len() {
-        let b = word[i];
-        if !is_hex(b) {
-            return false;
-        }
-        i += 1;
-    }
-    true
+    word.iter().all(|b| is_hex(*b))
 }
 
 // The second pass, over a word that the first has judged: its octets to the start of out.
@@ -55,39 +38,38 @@ fn fill(word: &[u8], out: &mut [u8], count: usize)
     requires count_in_bounds { count ≤ length out.old }
     ensures { out.new ≡ laid out.old 0 (octets_of word.now) }
 {
-    let mut i = 0;
-    while i < count {
+    // By index: `zip` with `chunks_exact(2)` was tried, and left its goals open.
+    for i in 0..count {
         let high = hex_value(word[i * 2]);
         let low = hex_value(word[i * 2 + 1]);
         out[i] = high * 16 + low;
-        i += 1;
     }
 }
 
-// How many octets the word stands for, with out starting with them; Not, and out unchanged, where
+// How many octets the word stands for, with out starting with them; None, and out unchanged, where
 // the word is none of octets or out has no room.
-pub fn octets(word: &[u8], out: &mut [u8]) -> Octets
+pub fn octets(word: &[u8], out: &mut [u8]) -> Option<usize>
     ensures { OctetsRead word.now out.old out.new result }
 {
     let count = word.len() / 2;
     if word.len() == 1 {
         if word[0] == b'-' {
-            return Octets::Are(0);
+            return Some(0);
         }
-        return Octets::Not;
+        return None;
     }
     if word.len() < 2 {
-        return Octets::Not;
+        return None;
     }
     if word.len() % 2 != 0 {
-        return Octets::Not;
+        return None;
     }
     if !all_hex(word) {
-        return Octets::Not;
+        return None;
     }
     if out.len() < count {
-        return Octets::Not;
+        return None;
     }
     fill(word, out, count);
-    Octets::Are(count)
+    Some(count)
 }

@@ -2,7 +2,7 @@
 //
 // A line is words with exactly one space between. A number is decimal digits; octets are lower-case
 // hex, two digits each, and the word `-` is no octets. No function has a `requires`: what a word is
-// not is an answer, Not, and a text that has no room is not put. Whether a word is a given name is
+// not is an answer, None, and a text that has no room is not put. Whether a word is a given name is
 // asked by `check::same`, of the kit.
 //
 // What each function answers, and what it leaves in memory that it is lent, is said in specs/.
@@ -18,4 +18,4 @@ pub use decimal::number;
 pub use hex::octets;
 pub use line::{index_of, split, word};
 pub use reply::{put_number, put_octet, put_octets, put_text};
-pub use types::{Number, Octets, Words};
+pub use types::{Span, Words};

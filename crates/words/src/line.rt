@@ -1,25 +1,24 @@
 // A line as words.
 ghost use Rattle.std.specs.Prelude.{◌≡◌, ◌+◌, ◌≤◌, [], length, drop};
 ghost use Rattle.words.specs.Find.{first_of};
-ghost use Rattle.words.specs.Line.{line_words, split_of, places_of, part_of, part_start, word_in, word_start, word_index};
+ghost use Rattle.words.specs.Line.{line_words, split_of, places_of, part_of, part_start, word_in, word_start, no_span, word_place};
 
-use crate::types::Words;
+use crate::types::{Span, Words};
 
-// The place of the first octet b at or after `from`; the text's end where there is none. Where `from`
-// is past the end, it is the answer.
-fn find(text: &[u8], from: usize, b: u8) -> usize
-    ensures value { result ≡ from + first_of b (drop from text.now) }
-    ensures within { from ≤ length text.now → result ≤ length text.now }
+// The place of the first space at or after `from`; the text's end where there is none.
+fn find_space(text: &[u8], from: usize) -> usize
+    requires { from ≤ length text.now }
+    ensures value { result ≡ from + first_of 32 (drop from text.now) }
+    ensures within { result ≤ length text.now }
 {
-    let mut i = from;
-    while i < text.len() {
-        if text[i] == b {
-            return i;
-        }
-        i += 1;
+    match text[from..].iter().position(|b| *b == b' ') {
+        Some(before) => from + before,
+        None => text.len(),
     }
-    i
 }
+
+// No part at all.
+const NO_SPAN: Span = Span { start: 0, end: 0 };
 
 // The answer for what is not a line of words.
 fn no_words() -> Words
@@ -27,8 +26,7 @@ fn no_words() -> Words
 {
     Words {
         count: 0,
-        starts: [0usize; 40],
-        ends: [0usize; 40],
+        spans: [NO_SPAN; 40],
     }
 }
 
@@ -37,23 +35,18 @@ fn no_words() -> Words
 pub fn split(line: &[u8]) -> Words
     ensures { result ≡ split_of line.now }
 {
-    let mut starts = [0usize; 40];
-    let mut ends = [0usize; 40];
+    let mut spans = [NO_SPAN; 40];
     let mut from = 0;
-    let mut n = 0;
-    while n < 40 {
-        let end = find(line, from, b' ');
+    for n in 0..40 {
+        let end = find_space(line, from);
         if end == from {
             return no_words();
         }
-        starts[n] = from;
-        ends[n] = end;
-        n += 1;
+        spans[n] = Span { start: from, end };
         if end == line.len() {
             return Words {
-                count: n,
-                starts,
-                ends,
+                count: n + 1,
+                spans,
             };
         }
         from = end + 1;
@@ -61,18 +54,19 @@ pub fn split(line: &[u8]) -> Words
     no_words()
 }
 
-// The octets from start up to end, or none where these do not stand in order inside the line.
-fn part(line: &[u8], start: usize, end: usize) -> &[u8]
-    ensures reply { result.now ≡ part_of line.now start end }
-    ensures place { result.ref_ptr ≡ (line.entry.ref_ptr.0, line.entry.ref_ptr.1 + part_start line.now start end) }
+// The octets of a part, or none where it does not stand inside the line. `get` of a range would be
+// the same part, but promises nothing of where it stands, which the clause `place` does.
+fn part(line: &[u8], span: Span) -> &[u8]
+    ensures reply { result.now ≡ part_of line.now span }
+    ensures place { result.ref_ptr ≡ (line.entry.ref_ptr.0, line.entry.ref_ptr.1 + part_start line.now span) }
 {
-    if end < start {
+    if span.end < span.start {
         return &line[0..0];
     }
-    if line.len() < end {
+    if line.len() < span.end {
         return &line[0..0];
     }
-    &line[start..end]
+    &line[span.start..span.end]
 }
 
 // Word k of a line by the places that split answered for it; no octets where there is no word k.
@@ -80,28 +74,19 @@ pub fn word(line: &[u8], places: Words, k: usize) -> &[u8]
     ensures reply { result.now ≡ word_in line.now places k }
     ensures place { result.ref_ptr ≡ (line.entry.ref_ptr.0, line.entry.ref_ptr.1 + word_start line.now places k) }
 {
-    if k < 40 {
-        let starts = places.starts;
-        let ends = places.ends;
-        let start = starts[k];
-        let end = ends[k];
-        return part(line, start, end);
-    }
-    part(line, 0, 0)
+    let span = places.spans.get(k).copied().unwrap_or(NO_SPAN);
+    part(line, span)
 }
 
-// Which word of a text a name is, counted from 0; how many words the text has where it is none.
-pub fn index_of(name: &[u8], text: &[u8]) -> usize
-    ensures { result ≡ word_index name.now (line_words text.now) }
+// Which word of a text a name is, counted from 0; None where it is none of them.
+pub fn index_of(name: &[u8], text: &[u8]) -> Option<usize>
+    ensures { result ≡ word_place name.now (line_words text.now) }
 {
     let places = split(text);
-    let count = places.count;
-    let mut k = 0;
-    while k < count {
+    for k in 0..places.count {
         if check::same(name, word(text, places, k)) {
-            return k;
+            return Some(k);
         }
-        k += 1;
     }
-    count
+    None
 }

@@ -1,21 +1,10 @@
 // Texts into a reply. Each function puts a text at a place of out and answers the next place; where
-// there is no room it changes nothing and answers the place itself.
+// there is no room it changes nothing and answers the place itself. Out and place are no struct,
+// since the clause of each public function, `IsPut`, speaks of both.
 ghost use Rattle.std.specs.Prelude.{◌≡◌, ◌∷◌, [], ◌+◌, ◌≤◌, ◌<◌, ◌*◌, length};
 ghost use Rattle.words.specs.Put.{laid, IsPut};
 ghost use Rattle.words.specs.Number.{decimal_text};
 ghost use Rattle.words.specs.Hex.{hex_digit, hex_pairs, hex_text};
-
-// The text to out, where it has room.
-fn copy_at(out: &mut [u8], at: usize, text: &[u8])
-    requires { at + length text.now ≤ length out.old }
-    ensures { out.new ≡ laid out.old at text.now }
-{
-    let mut j = 0;
-    while j < text.len() {
-        out[at + j] = text[j];
-        j += 1;
-    }
-}
 
 // A text as it stands.
 pub fn put_text(out: &mut [u8], at: usize, text: &[u8]) -> usize
@@ -27,8 +16,9 @@ pub fn put_text(out: &mut [u8], at: usize, text: &[u8]) -> usize
     if out.len() - at < text.len() {
         return at;
     }
-    copy_at(out, at, text);
-    at + text.len()
+    let next = at + text.len();
+    out[at..next].copy_from_slice(text);
+    next
 }
 
 // One octet, such as a space.
@@ -48,6 +38,7 @@ pub fn put_number(out: &mut [u8], at: usize, n: u64) -> usize
 }
 
 // A hex digit as text, in lower case.
+#[tactic(auto, using(std::proofs::lemmas::Bool::Decides::nat_tests), unfolding(crate::specs::Hex::hex_digit))]
 fn hex_digit(d: u8) -> u8
     requires { d < 16 }
     ensures { result ≡ hex_digit d }
@@ -63,14 +54,11 @@ fn hex_at(out: &mut [u8], at: usize, octets: &[u8])
     requires { at + length octets.now * 2 ≤ length out.old }
     ensures { out.new ≡ laid out.old at (hex_pairs octets.now) }
 {
-    let mut i = 0;
     let mut to = at;
-    while i < octets.len() {
-        let b = octets[i];
-        out[to] = hex_digit(b / 16);
-        out[to + 1] = hex_digit(b % 16);
+    for b in octets {
+        out[to] = hex_digit(*b / 16);
+        out[to + 1] = hex_digit(*b % 16);
         to += 2;
-        i += 1;
     }
 }
 
@@ -79,7 +67,7 @@ fn hex_at(out: &mut [u8], at: usize, octets: &[u8])
 pub fn put_octets(out: &mut [u8], at: usize, octets: &[u8]) -> usize
     ensures { IsPut out.old at (hex_text octets.now) out.new result }
 {
-    if octets.len() == 0 {
+    if octets.is_empty() {
         return put_octet(out, at, b'-');
     }
     if out.len() < at {

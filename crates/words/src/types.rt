@@ -1,24 +1,15 @@
 // What reading answers.
 
-// A word as a number.
+// A part of a line: its octets from start up to end.
 #[derive(Clone, Copy)]
-pub enum Number {
-    Is(u64),
-    Not,
+pub struct Span {
+    pub start: usize,
+    pub end: usize,
 }
 
-// A word as octets: how many were read.
-#[derive(Clone, Copy)]
-pub enum Octets {
-    Are(usize),
-    Not,
-}
-
-// The words of a line: word k is its part from starts[k] to ends[k], for k below count. What is
-// past count is 0.
+// The words of a line: word k is the part spans[k], for k below count. What is past count is empty.
 #[derive(Clone, Copy)]
 pub struct Words {
     pub count: usize,
-    pub starts: [usize; 40],
-    pub ends: [usize; 40],
+    pub spans: [Span; 40],
 }

@@ -1,81 +1,75 @@
--- `lines::message::ask`: row by row. No row is left over. Assumes nothing.
-use mathlib.Core.Path.{refl, sym, ◌∙◌}
+-- `lines::message::ask`: row by row. Assumes nothing.
+use mathlib.Core.Path.{refl, ap, ◌∙◌}
 use native.Mathlib.Omega.{arith}
 use mathlib.Core.List.{[]}
-use lib.ListN.{get_or}
-use lib.Seq.{length-take-le}
+use lib.ListN.{get_or, length-take}
 use Rattle.lines.specs.Answer.{table_rows, message_rows, rows, row_at, form_of, limits, said, room_of, of_request, of_reply}
 use Rattle.meaning.specs.Messages.{request_of, reply_of, serve_image}
+use Rattle.lines.specs.Kinds.{messages_place}
 use Rattle.lines.proofs.AskLaws.{fits_at}
-use Rattle.lines.proofs.MessageLaws.{serve_in_front, request_in_front, reply_in_front, same_image, room_long, last_row, put_in_room, was_read}
+use Rattle.lines.proofs.MessageLaws.{serve_in_front, request_in_front, reply_in_front, same_image, room_long, told_within, put_in_room, was_read}
 use Rattle.lines.proofs.message.ask.Goals as goal
 
-pub slice_bounds-serve-end : goal.slice_bounds-serve-end
+pub slice_bounds-room-end : goal.slice_bounds-room-end
 unfolding table_rows message_rows rows row_at form_of limits said
-slice_bounds-serve-end c = omega (arith, fits_at 14 0 65544 refl c.requires.within c.if-kind-eq-SERVE.true, c.requires.d_len_bound.1)
+slice_bounds-room-end c =
+    let fits = fits_at 14 0 65544 refl c.requires.within (ap messages_place c.in-Serve.is) in
+    omega (arith, length-take (get_or c.args.operands.numbers 0 0) c.args.part.now, c.requires.d_len_bound.1)
 
-pub slice_bounds-serve-end-then-kind-eq-SERVE : goal.slice_bounds-serve-end-then-kind-eq-SERVE
+pub sent-requires : goal.sent-requires
 unfolding table_rows message_rows rows row_at form_of limits said
-slice_bounds-serve-end-then-kind-eq-SERVE c =
-    sym (length-take-le _ _ (omega (arith, fits_at 14 0 65544 refl c.requires.within c.if-kind-eq-SERVE.true, c.requires.d_len_bound.1)))
+sent-requires c =
+    told_within (serve_in_front c.args.operands.d.now c.args.m.now c.args.operands.given.now) c.serve-reply.new.room c.serve-reply.ensures.reply c.serve-reply.auto.room
 
-pub returns-then-kind-eq-SERVE : goal.returns-then-kind-eq-SERVE
+pub returns-in-Serve : goal.returns-in-Serve
 unfolding table_rows message_rows rows row_at form_of limits said
-returns-then-kind-eq-SERVE c =
-    let fits = fits_at 14 0 65544 refl c.requires.within c.if-kind-eq-SERVE.true in
-    let n = get_or c.args.numbers 0 0 in
-    put_in_room (serve_in_front c.args.d.now c.args.m.now c.args.given.now) n {img = serve_image c.args.d.now c.args.m.now c.args.given.now (room_of n)} (rw c.if-kind-eq-SERVE.true refl) c.args.part.now (omega (arith, fits)) c.requires.d_len_bound.1 c.serve.ensures.reply c.serve.ensures.room c.sent.ensures
-    (c.serve.ensures.image ∙ same_image c.args.d.now c.args.m.now c.args.given.now _ _ (room_long n c.args.part.now (omega (arith, fits, c.requires.d_len_bound.1))))
+returns-in-Serve c =
+    let fits = fits_at 14 0 65544 refl c.requires.within (ap messages_place c.in-Serve.is) in
+    put_in_room (serve_in_front c.args.operands.d.now c.args.m.now c.args.operands.given.now) (get_or c.args.operands.numbers 0 0) {img = serve_image c.args.operands.d.now c.args.m.now c.args.operands.given.now (room_of (get_or c.args.operands.numbers 0 0))} (rw c.in-Serve.is refl) c.args.part.now (omega (arith, fits)) c.requires.d_len_bound.1 c.serve-reply.ensures.reply c.serve-reply.ensures.room c.sent.ensures
+    (c.serve-reply.ensures.image ∙ same_image c.args.operands.d.now c.args.m.now c.args.operands.given.now _ _ (room_long (get_or c.args.operands.numbers 0 0) c.args.part.now (omega (arith, fits, c.requires.d_len_bound.1))))
 
-pub read_request-requires : goal.read_request-requires
-read_request-requires c = omega (arith, c.requires.d_len_bound.0, c.requires.d_len_bound.1)
-
-pub returns-then-kind-eq-READREQUEST : goal.returns-then-kind-eq-READREQUEST
+pub returns-in-ReadRequest : goal.returns-in-ReadRequest
 unfolding table_rows message_rows rows row_at form_of limits said
-returns-then-kind-eq-READREQUEST c =
-    was_read (of_request c.args.d.now [] [] []) (rw c.if-kind-eq-READREQUEST.true refl) (rw c.if-kind-eq-READREQUEST.true refl) (rw c.if-kind-eq-READREQUEST.true refl) c.requires.d_len_bound.0 c.read_request.ensures
+returns-in-ReadRequest c =
+    was_read (of_request c.args.operands.d.now [] [] []) (rw c.in-ReadRequest.is refl) (rw c.in-ReadRequest.is refl) (rw c.in-ReadRequest.is refl) c.requires.d_len_bound.0 c.read_request.ensures
 
-pub slice_bounds-write_request-end : goal.slice_bounds-write_request-end
+pub slice_bounds-room-end-in-WriteRequest : goal.slice_bounds-room-end-in-WriteRequest
 unfolding table_rows message_rows rows row_at form_of limits said
-slice_bounds-write_request-end c =
-    omega (arith, fits_at 16 4 65544 refl c.requires.within c.if-kind-eq-WRITEREQUEST.true, c.requires.d_len_bound.1)
+slice_bounds-room-end-in-WriteRequest c =
+    let fits = fits_at 16 4 65544 refl c.requires.within (ap messages_place c.in-WriteRequest.is) in
+    omega (arith, length-take (get_or c.args.operands.numbers 4 0) c.args.part.now, c.requires.d_len_bound.1)
 
-pub slice_bounds-write_request-end-then-kind-eq-WRITEREQUEST : goal.slice_bounds-write_request-end-then-kind-eq-WRITEREQUEST
+pub sent-requires-in-WriteRequest : goal.sent-requires-in-WriteRequest
 unfolding table_rows message_rows rows row_at form_of limits said
-slice_bounds-write_request-end-then-kind-eq-WRITEREQUEST c =
-    sym (length-take-le _ _ (omega (arith, fits_at 16 4 65544 refl c.requires.within c.if-kind-eq-WRITEREQUEST.true, c.requires.d_len_bound.1)))
+sent-requires-in-WriteRequest c =
+    told_within (request_in_front (request_of (get_or c.args.operands.numbers 0 0) (get_or c.args.operands.numbers 1 0) (get_or c.args.operands.numbers 2 0) (get_or c.args.operands.numbers 3 0) c.args.operands.given.now)) c.write_request-reply.new.room c.write_request-reply.ensures.reply c.write_request-reply.auto.room
 
-pub returns-then-kind-eq-WRITEREQUEST : goal.returns-then-kind-eq-WRITEREQUEST
+pub returns-in-WriteRequest : goal.returns-in-WriteRequest
 unfolding table_rows message_rows rows row_at form_of limits said
-returns-then-kind-eq-WRITEREQUEST c =
-    let fits = fits_at 16 4 65544 refl c.requires.within c.if-kind-eq-WRITEREQUEST.true in
-    let n = c.args.numbers in
-    put_in_room (request_in_front (request_of (get_or n 0 0) (get_or n 1 0) (get_or n 2 0) (get_or n 3 0) c.args.given.now)) (get_or n 4 0) (rw c.if-kind-eq-WRITEREQUEST.true refl) c.args.part.now (omega (arith, fits)) c.requires.d_len_bound.1 c.write_request.ensures.reply c.write_request.ensures.room c.sent-then-kind-eq-WRITEREQUEST.ensures refl
+returns-in-WriteRequest c =
+    let fits = fits_at 16 4 65544 refl c.requires.within (ap messages_place c.in-WriteRequest.is) in
+    put_in_room (request_in_front (request_of (get_or c.args.operands.numbers 0 0) (get_or c.args.operands.numbers 1 0) (get_or c.args.operands.numbers 2 0) (get_or c.args.operands.numbers 3 0) c.args.operands.given.now)) (get_or c.args.operands.numbers 4 0) (rw c.in-WriteRequest.is refl) c.args.part.now (omega (arith, fits)) c.requires.d_len_bound.1 c.write_request-reply.ensures.reply c.write_request-reply.ensures.room c.sent-in-WriteRequest.ensures
+    refl
 
-pub read_reply-requires : goal.read_reply-requires
-read_reply-requires c = omega (arith, c.requires.d_len_bound.0, c.requires.d_len_bound.1)
-
-pub returns-then-kind-eq-READREPLY : goal.returns-then-kind-eq-READREPLY
+pub returns-in-ReadReply : goal.returns-in-ReadReply
 unfolding table_rows message_rows rows row_at form_of limits said
-returns-then-kind-eq-READREPLY c =
-    was_read (of_reply c.args.d.now [] [] []) (rw c.if-kind-eq-READREPLY.true refl) (rw c.if-kind-eq-READREPLY.true refl) (rw c.if-kind-eq-READREPLY.true refl) c.requires.d_len_bound.0 c.read_reply.ensures
+returns-in-ReadReply c =
+    was_read (of_reply c.args.operands.d.now [] [] []) (rw c.in-ReadReply.is refl) (rw c.in-ReadReply.is refl) (rw c.in-ReadReply.is refl) c.requires.d_len_bound.0 c.read_reply.ensures
 
-pub slice_bounds-write_reply-end : goal.slice_bounds-write_reply-end
+pub slice_bounds-room-end-in-WriteReply : goal.slice_bounds-room-end-in-WriteReply
 unfolding table_rows message_rows rows row_at form_of limits said
-slice_bounds-write_reply-end c =
-    omega (arith, fits_at 18 2 65544 refl c.requires.within (last_row c.requires.table_rows_len_bound c.if-kind-eq-SERVE.false c.if-kind-eq-READREQUEST.false c.if-kind-eq-WRITEREQUEST.false c.if-kind-eq-READREPLY.false), c.requires.d_len_bound.1)
+slice_bounds-room-end-in-WriteReply c =
+    let fits = fits_at 18 2 65544 refl c.requires.within (ap messages_place c.in-WriteReply.is) in
+    omega (arith, length-take (get_or c.args.operands.numbers 2 0) c.args.part.now, c.requires.d_len_bound.1)
 
-pub slice_bounds-write_reply-end-2 : goal.slice_bounds-write_reply-end-2
+pub sent-requires-in-WriteReply : goal.sent-requires-in-WriteReply
 unfolding table_rows message_rows rows row_at form_of limits said
-slice_bounds-write_reply-end-2 c =
-    sym (length-take-le _ _ (omega (arith, fits_at 18 2 65544 refl c.requires.within (last_row c.requires.table_rows_len_bound c.if-kind-eq-SERVE.false c.if-kind-eq-READREQUEST.false c.if-kind-eq-WRITEREQUEST.false c.if-kind-eq-READREPLY.false), c.requires.d_len_bound.1)))
+sent-requires-in-WriteReply c =
+    told_within (reply_in_front (reply_of (get_or c.args.operands.numbers 0 0) (get_or c.args.operands.numbers 1 0) c.args.operands.given.now)) c.write_reply-reply.new.room c.write_reply-reply.ensures.reply c.write_reply-reply.auto.room
 
-pub returns : goal.returns
+pub returns-in-WriteReply : goal.returns-in-WriteReply
 unfolding table_rows message_rows rows row_at form_of limits said
-returns c =
-    let n = c.args.numbers in
-    let pre = c.requires in
-    let kind = last_row pre.table_rows_len_bound c.if-kind-eq-SERVE.false c.if-kind-eq-READREQUEST.false c.if-kind-eq-WRITEREQUEST.false c.if-kind-eq-READREPLY.false in
-    let fits = fits_at 18 2 65544 refl pre.within kind in
-    let written = c.write_reply.ensures in
-    put_in_room (reply_in_front (reply_of (get_or n 0 0) (get_or n 1 0) c.args.given.now)) (get_or n 2 0) (rw kind refl) c.args.part.now (omega (arith, fits)) pre.d_len_bound.1 written.reply written.room c.sent-2.ensures refl
+returns-in-WriteReply c =
+    let fits = fits_at 18 2 65544 refl c.requires.within (ap messages_place c.in-WriteReply.is) in
+    put_in_room (reply_in_front (reply_of (get_or c.args.operands.numbers 0 0) (get_or c.args.operands.numbers 1 0) c.args.operands.given.now)) (get_or c.args.operands.numbers 2 0) (rw c.in-WriteReply.is refl) c.args.part.now (omega (arith, fits)) c.requires.d_len_bound.1 c.write_reply-reply.ensures.reply c.write_reply-reply.ensures.room c.sent-in-WriteReply.ensures
+    refl

@@ -1,28 +1,14 @@
--- `lines::message::read_reply`: its numbers, and its data copied. Assumes nothing.
-use mathlib.Core.Path.{refl, sym, ap, ◌∙◌}
+-- `lines::message::read_reply`: its numbers, and its data. Assumes nothing.
+use mathlib.Core.Path.{ap}
 use native.Mathlib.Omega.{arith}
 use lib.ListN.{length}
-use lib.Seq.{length-take-le, take-length}
 use Rattle.messages.proofs.Parts.{reply_short}
-use Rattle.lines.proofs.MessageLaws.{copied_front}
 use Rattle.lines.proofs.message.read_reply.Goals as goal
-
-pub slice_bounds-copy_from_slice-end : goal.slice_bounds-copy_from_slice-end
-slice_bounds-copy_from_slice-end c = omega (arith, ap length c.reply_data-data.ensures.reply, reply_short c.args.d.now, c.requires)
-
-pub slice_bounds-copy_from_slice-end-2 : goal.slice_bounds-copy_from_slice-end-2
-slice_bounds-copy_from_slice-end-2 c =
-    sym (length-take-le _ _ (omega (arith, ap length c.reply_data-data.ensures.reply, reply_short c.args.d.now, c.requires)))
-
-pub copy_from_slice-requires : goal.copy_from_slice-requires
-copy_from_slice-requires c =
-    length-take-le _ _ (omega (arith, ap length c.reply_data-data.ensures.reply, reply_short c.args.d.now, c.requires))
 
 pub returns : goal.returns
 returns c =
-    let new = c.reply_data-data.ensures.reply in
     record {
       told = rw (c.reply_told-told.ensures, c.read_reply.ensures);
-      within = omega (arith, ap length new, reply_short c.args.d.now);
-      octets = copied_front c.reply_data-data.result.now c.args.part.now _ _ refl (rw (c.copy_from_slice.ensures.after, take-length c.reply_data-data.result.now)) ∙ new;
+      within = omega (arith, ap length c.reply_data.ensures.reply, reply_short c.args.d.now);
+      octets = c.reply_data.ensures.reply;
     }

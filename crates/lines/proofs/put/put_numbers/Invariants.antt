@@ -1,10 +1,6 @@
--- `lines::put::put_numbers`: the loop's invariant, `Counted`: the first i numbers stand in `out`. The measure is how many are left. Assumes nothing.
-use Prim.Native.Nat.{◌-◌}
+-- `lines::put::put_numbers`: the loop's invariant, `Counted`: the numbers so far stand in `out`. Assumes nothing.
 use Rattle.lines.proofs.PutLaws.{Counted}
 use Rattle.lines.proofs.put.put_numbers.Given as goal
 
-abbrev pub invariant-loop-i : goal.invariant-loop-i
-invariant-loop-i l = Counted l.initial.out l.numbers l.count l.out l.at l.i
-
-abbrev pub decreases-loop-i : goal.decreases-loop-i
-decreases-loop-i l = l.count - l.i
+abbrev pub invariant-loop-n : goal.invariant-loop-n
+invariant-loop-n l = Counted l.initial.out l.numbers l.out l.at l.n-index

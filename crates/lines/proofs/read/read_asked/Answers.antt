@@ -1,24 +1,24 @@
 -- `lines::read::read_asked`: the line is of the form where its words are as many and each was read. Assumes nothing.
-use native.Mathlib.Omega.{arith}
 use Rattle.lines.proofs.AnswerLaws.{counted}
-use Rattle.lines.proofs.ReadLaws.{asked_read}
+use Rattle.lines.proofs.ReadLaws.{miscounted, not_part, not_numbers, d_none, m_none, given_none, numbers_none, asked_read}
 use Rattle.lines.proofs.read.read_asked.Goals as goal
 
-pub overflow_add-from : goal.overflow_add-from
-overflow_add-from c = omega (arith, c.requires.lent_bound.0)
+pub returns-then-line-form-clause-read : goal.returns-then-line-form-clause-read
+returns-then-line-form-clause-read c = miscounted (counted _ _ c.args.line.is_split) c.if-line-form.true
 
-pub read_numbers-read-requires : goal.read_numbers-read-requires
-read_numbers-read-requires c =
-    record { split_value = c.requires.split_value; from_bound = (omega (arith, c.requires.lent_bound.0), c.requires.lent_bound.1) }
+pub returns-in_err-d-clause-read : goal.returns-in_err-d-clause-read
+returns-in_err-d-clause-read c = rw c.from_residual.ensures (d_none (not_part c.read_octets.ensures c.in_err-d.was))
 
-pub overflow_add-from-2 : goal.overflow_add-from-2
-overflow_add-from-2 c = omega (arith, c.requires.lent_bound.0, c.requires.lent_bound.1.few)
+pub returns-in_err-m-clause-read : goal.returns-in_err-m-clause-read
+returns-in_err-m-clause-read c = rw c.from_residual-in_err-m.ensures (m_none (not_part c.read_octets-2.ensures c.in_err-m.was))
 
-pub read_octets-new-requires : goal.read_octets-new-requires
-read_octets-new-requires c =
-    record { split_value = c.requires.split_value; line_len_bound = c.requires.line_len_bound; in_bounds = c.requires.in_bounds_3 }
+pub returns-in_err-numbers-clause-read : goal.returns-in_err-numbers-clause-read
+returns-in_err-numbers-clause-read c = rw c.from_residual-in_err-numbers.ensures (numbers_none (not_numbers _ _ _ c.read_numbers.ensures c.in_err-numbers.was))
 
-pub returns : goal.returns
-returns c =
-    asked_read c.read_octets-d.ensures c.read_octets-m.ensures c.read_numbers-read.ensures c.read_octets-new.ensures (counted _ _ c.requires.split_value _)
-    c.both.ensures c.both-octets_are.ensures c.both-words_are.ensures c.both-2.ensures
+pub returns-in_err-given-clause-read : goal.returns-in_err-given-clause-read
+returns-in_err-given-clause-read c = rw c.from_residual-in_err-given.ensures (given_none (not_part c.read_octets-3.ensures c.in_err-given.was))
+
+pub returns-clause-read : goal.returns-clause-read
+returns-clause-read c =
+    asked_read (counted _ _ c.args.line.is_split) c.if-line-form.false c.read_octets.ensures c.in_ok-d.was c.read_octets-2.ensures c.in_ok-m.was
+    c.read_numbers.ensures c.in_ok-numbers.was c.read_octets-3.ensures c.in_ok-given.was

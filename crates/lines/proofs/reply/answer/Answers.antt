@@ -1,62 +1,66 @@
 -- `lines::reply::answer`: no form where the line is too long, of no row, or not of its row's form; else the reply to what it asks. Assumes nothing.
-use mathlib.Core.Path.{sym}
+use mathlib.Core.Path.{◌≡◌, sym}
 use native.Mathlib.Omega.{arith}
+use borrow.Author.Rules.{rules}
+use lib.ListN.{length}
 use lib.Seq.{length-take-le}
-use borrow.Author.Tests.{not-true, not-false}
 use Rattle.lines.specs.Answer.{table_rows, message_rows, date_rows, rows}
-use Rattle.lines.proofs.AnswerLaws.{put_as, word_at, row_fits, too_long, unknown, asked_reply, asked_none, asked_room, asked_within, asked_few}
+use Rattle.lines.proofs.AnswerLaws.{put_as, row_fits, too_long, unknown, asked_reply, asked_none, asked_room, asked_within, asked_few}
+use Rattle.lines.proofs.KindLaws.{kinds_in}
 use Rattle.lines.proofs.reply.answer.Goals as goal
 
-pub returns-then-line-gt-LONGEST : goal.returns-then-line-gt-LONGEST
-unfolding table_rows message_rows date_rows rows
-returns-then-line-gt-LONGEST c = put_as _ c.no_form.ensures (too_long _ (omega arith))
+pub returns-then-text-gt-LONGEST : goal.returns-then-text-gt-LONGEST
+returns-then-text-gt-LONGEST c = put_as _ c.no_form.ensures (too_long _ (omega arith))
 
-pub returns-then-kind-ge-ROWS : goal.returns-then-kind-ge-ROWS
+pub returns-in_default : goal.returns-in_default
 unfolding table_rows message_rows date_rows rows
-returns-then-kind-ge-ROWS c =
-    let name = word_at _ _ c.split-split.ensures _ _ c.word.ensures.reply in
-    put_as _ c.no_form-then-kind-ge-ROWS.ensures (unknown _ _ c.kind_of-kind.ensures name c.if-kind-ge-ROWS.true (omega (arith, c.if-line-gt-LONGEST.false)))
+returns-in_default c =
+    let name = rw c.new-line.ensures at c.word.ensures.value in
+    put_as _ c.no_form-in_default.ensures
+    (unknown _ _ (rw c.in_default.is at c.kind_of.ensures) name (omega arith) (omega (arith, c.if-text-gt-LONGEST.false)))
 
-pub form_of-requires : goal.form_of-requires
-unfolding table_rows message_rows date_rows rows
-form_of-requires c = omega arith
+pub read_asked-requires : goal.read_asked-requires
+read_asked-requires c =
+    let fits = row_fits _ (kinds_in c.in-Some.kind) in
+    record { lent_bound = rw c.form.ensures (fits.lent, fits.numbers) }
 
-pub read_asked-asked-requires : goal.read_asked-asked-requires
-unfolding table_rows message_rows date_rows rows
-read_asked-asked-requires c =
-    record { split_value = c.split-split.ensures; line_len_bound = omega arith; in_bounds = omega (arith, c.requires.items); in_bounds_2 = c.requires.tables; in_bounds_3 = c.requires.new; lent_bound = rw c.form_of.ensures ((row_fits _ c.if-kind-ge-ROWS.false).lent, (row_fits _ c.if-kind-ge-ROWS.false).numbers) }
+pub returns-in_default-read_asked : goal.returns-in_default-read_asked
+returns-in_default-read_asked c =
+    let name = rw c.new-line.ensures at c.word.ensures.value in
+    let read = rw c.new-line.ensures at c.read_asked.ensures.read in
+    rw (← c.read_asked.ensures.same_reply)
+    (put_as _ c.no_form-in_default-read_asked.ensures
+    (asked_none _ _ (rw c.in-Some.is at c.kind_of.ensures) c.form.ensures name (kinds_in _) read c.in_default-read_asked.is (omega (arith, c.if-text-gt-LONGEST.false))))
 
-pub no_form-requires-then-not-asked : goal.no_form-requires-then-not-asked
-unfolding table_rows message_rows date_rows rows
-no_form-requires-then-not-asked c = omega (arith, c.requires.reply)
+pub shared_ref_as_front-operands : goal.shared_ref_as_front-operands
+shared_ref_as_front-operands c = (c.read_asked.ensures.read.asked _ c.in-Some-read_asked.is).d_few
 
-pub returns-then-not-asked : goal.returns-then-not-asked
-unfolding table_rows message_rows date_rows rows
-returns-then-not-asked c =
-    let name = word_at _ _ c.split-split.ensures _ _ c.word.ensures.reply in
-    put_as _ c.no_form-then-not-asked.ensures
-    (asked_none _ _ c.kind_of-kind.ensures c.form_of.ensures name c.if-kind-ge-ROWS.false c.read_asked-asked.ensures (not-true _ c.if-not-asked.true) (omega (arith, c.if-line-gt-LONGEST.false)))
+pub slice_bounds-reply-end : goal.slice_bounds-reply-end
+slice_bounds-reply-end c =
+    let image_long : length c.read_asked.new.memory.image ≡ 150000 = search rules in
+    let few = (c.read_asked.ensures.read.asked _ c.in-Some-read_asked.is).m_few in
+    sym (length-take-le c.in-Some-read_asked.asked.m c.read_asked.new.memory.image (omega arith))
 
-pub slice_bounds-reply-end-2 : goal.slice_bounds-reply-end-2
-unfolding table_rows message_rows date_rows rows
-slice_bounds-reply-end-2 c = sym (length-take-le _ _ c.read_asked-asked.ensures.d_within)
-
-pub slice_bounds-reply-end-4 : goal.slice_bounds-reply-end-4
-unfolding table_rows message_rows date_rows rows
-slice_bounds-reply-end-4 c = sym (length-take-le _ _ c.read_asked-asked.ensures.m_within)
-
-pub slice_bounds-reply-end-6 : goal.slice_bounds-reply-end-6
-unfolding table_rows message_rows date_rows rows
-slice_bounds-reply-end-6 c = sym (length-take-le _ _ c.read_asked-asked.ensures.given_within)
+pub shared_ref_as_front-operands-2 : goal.shared_ref_as_front-operands-2
+shared_ref_as_front-operands-2 c = (c.read_asked.ensures.read.asked _ c.in-Some-read_asked.is).given_few
 
 pub reply-requires : goal.reply-requires
-unfolding table_rows message_rows date_rows rows
 reply-requires c =
-    let name = word_at _ _ c.split-split.ensures _ _ c.word.ensures.reply in record { kind_in_bounds = c.if-kind-ge-ROWS.false; m_in_bounds = asked_room _ _ c.kind_of-kind.ensures c.form_of.ensures name c.if-kind-ge-ROWS.false c.read_asked-asked.ensures c.args.image.now c.args.out.now c.read_asked-asked.auto.image c.requires.reply; within = asked_within _ _ c.kind_of-kind.ensures c.form_of.ensures name c.if-kind-ge-ROWS.false c.read_asked-asked.ensures (not-false _ c.if-not-asked.false); d_len_bound = asked_few c.read_asked-asked.result.d c.read_asked-asked.new.description c.args.description.now c.read_asked-asked.auto.description c.requires.items }
+    let name = rw c.new-line.ensures at c.word.ensures.value in
+    let read = rw c.new-line.ensures at c.read_asked.ensures.read in
+    let kind = rw c.in-Some.is at c.kind_of.ensures in
+    let image_long : length c.read_asked.new.memory.image ≡ 150000 = search rules in
+    let reply_long : length c.read_asked.new.memory.reply ≡ 900131 = search rules in
+    record {
+      m_in_bounds = asked_room c.in-Some-read_asked.asked.m c.read_asked.new.memory.image c.read_asked.new.memory.reply (omega arith);
+      within = asked_within _ _ kind c.form.ensures name (kinds_in _) read _ c.in-Some-read_asked.is;
+      d_len_bound = asked_few c.in-Some-read_asked.asked.d c.read_asked.new.memory.description (c.read_asked.ensures.read.asked _ c.in-Some-read_asked.is).d_few;
+    }
 
 pub returns : goal.returns
-unfolding table_rows message_rows date_rows rows
 returns c =
-    let name = word_at _ _ c.split-split.ensures _ _ c.word.ensures.reply in
-    put_as _ c.reply.ensures
-    (asked_reply _ _ c.kind_of-kind.ensures c.form_of.ensures name c.if-kind-ge-ROWS.false c.read_asked-asked.ensures (not-false _ c.if-not-asked.false) (omega (arith, c.if-line-gt-LONGEST.false)))
+    let name = rw c.new-line.ensures at c.word.ensures.value in
+    let read = rw c.new-line.ensures at c.read_asked.ensures.read in
+    rw (← c.read_asked.ensures.same_reply)
+    (put_as _ c.reply.ensures
+    (asked_reply _ _ (rw c.in-Some.is at c.kind_of.ensures) c.form.ensures name (kinds_in _) read _ c.in-Some-read_asked.is (omega (arith, c.if-text-gt-LONGEST.false))))

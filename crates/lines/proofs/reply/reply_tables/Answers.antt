@@ -1,25 +1,39 @@
 -- `lines::reply::reply_tables`: asked, then the numbers, the octets and the image afterwards. Assumes nothing.
+use mathlib.Core.Path.{◌≡◌, sym}
 use native.Mathlib.Omega.{arith}
+use lib.Seq.{length-take-le}
+use lib.ListN.{length, length-take}
 use borrow.Author.Rules.{rules}
-use Rattle.lines.proofs.AskLaws.{told_few, in_rows, room_for_part, room_for_image, whole_put}
+use Rattle.lines.proofs.AskLaws.{told_few, room_for_part, room_for_image, whole_put}
+use Rattle.lines.proofs.KindLaws.{tables_in}
 use Rattle.lines.proofs.reply.reply_tables.Goals as goal
 
-pub form_of-form-requires : goal.form_of-form-requires
-form_of-form-requires c = in_rows (search rules)
+pub slice_bounds-told-end : goal.slice_bounds-told-end
+slice_bounds-told-end c =
+    let six : length c.numbers-told.result ≡ 6 = search rules in
+    let few = told_few c.form-form.ensures (tables_in _) in
+    omega arith
+
+pub slice_bounds-put_numbers-end : goal.slice_bounds-put_numbers-end
+slice_bounds-put_numbers-end c =
+    let six : length c.numbers-told.result ≡ 6 = search rules in
+    let few = told_few c.form-form.ensures (tables_in _) in
+    sym (length-take-le _ _ (omega arith))
 
 pub put_numbers-first-requires : goal.put_numbers-first-requires
 put_numbers-first-requires c =
-    record { count_bound = told_few c.form_of-form.ensures (in_rows (search rules)); in_bounds = omega arith }
+    let few = told_few c.form-form.ensures (tables_in _) in
+    record { numbers_few = omega (arith, length-take c.form-form.result.told c.numbers-told.result); in_bounds = omega (arith, c.requires.m_in_bounds) }
 
 pub put_part-second-requires : goal.put_part-second-requires
 put_part-second-requires c =
-    record { kind_in_bounds = c.requires.kind_in_bounds; within = c.requires.within; m_in_bounds = room_for_part c.form_of-form.ensures c.requires.kind_in_bounds c.numbers-told.ensures c.ask.ensures (search rules) c.requires.m_in_bounds c.put_numbers-first.ensures }
+    record { within = c.requires.within; m_in_bounds = room_for_part c.form-form.ensures (tables_in _) c.numbers-told.ensures c.ask.ensures (search rules) c.requires.m_in_bounds c.put_numbers-first.ensures }
 
 pub put_octets_if-last-requires : goal.put_octets_if-last-requires
 put_octets_if-last-requires c =
-    room_for_image c.form_of-form.ensures c.requires.kind_in_bounds c.numbers-told.ensures c.ask.ensures (search rules) c.requires.m_in_bounds c.put_numbers-first.ensures c.put_part-second.ensures
+    room_for_image c.form-form.ensures (tables_in _) c.numbers-told.ensures c.ask.ensures (search rules) c.requires.m_in_bounds c.put_numbers-first.ensures c.put_part-second.ensures
 
 pub returns : goal.returns
 returns c =
-    whole_put c.form_of-form.ensures c.requires.kind_in_bounds c.numbers-told.ensures c.ask.ensures (search rules) c.requires.m_in_bounds c.put_numbers-first.ensures c.put_part-second.ensures
+    whole_put c.form-form.ensures (tables_in _) c.numbers-told.ensures c.ask.ensures (search rules) c.requires.m_in_bounds c.put_numbers-first.ensures c.put_part-second.ensures
     c.put_octets_if-last.ensures c.put_octet.ensures

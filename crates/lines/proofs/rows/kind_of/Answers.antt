@@ -1,13 +1,50 @@
--- `lines::rows::kind_of`: the words of the text are the names of the table. Assumes nothing.
-use borrow.Author.Rules.{rules}
+-- `lines::rows::kind_of`: the words of NAMES are the names of the table, and KINDS has the rows in its order. Assumes nothing.
+use mathlib.Core.Path.{◌≡◌, sym, ◌∙◌}
+use mathlib.Core.List.{List, [], ◌∷◌, map}
+use Prim.Native.Nat.{ℕ, ◌+◌, ◌<◌}
+use native.Mathlib.Nat.{zero-add}
+use native.Mathlib.Omega.{arith}
+use lib.ListN.{get_or, get_or-map}
+use Rattle.std.proofs.lemmas.List.FromFn.{get_or-range_with_len}
+use Rattle.lines.specs.declared.rows.TableKind.{TableKind}
+use Rattle.lines.specs.declared.rows.MessageKind.{MessageKind}
 use Rattle.words.specs.Line.{longer, words_of, none_empty, line_words}
-use Rattle.lines.specs.Answer.{table_rows, message_rows, date_rows, rows, kind_of}
+use Rattle.words.proofs.IndexLaws.{place_found, place_none}
+use Rattle.lines.specs.declared.rows.Kind.{Kind}
+use Rattle.lines.specs.Answer.{Row, table_rows, message_rows, date_rows, rows, kind_of}
+use Rattle.lines.specs.Kinds.{kind_place}
 use Rattle.lines.proofs.rows.kind_of.Goals as goal
 
-pub index_of-requires : goal.index_of-requires
+abbrev kinds : List Kind
+kinds = Kind.Tables TableKind.Check ∷ Kind.Tables TableKind.Layout ∷ Kind.Tables TableKind.Table ∷ Kind.Tables TableKind.TablePart ∷ Kind.Tables TableKind.Where ∷ Kind.Tables TableKind.Octets ∷ Kind.Tables TableKind.Number ∷ Kind.Tables TableKind.WriteRange ∷ Kind.Tables TableKind.WriteOctets ∷ Kind.Tables TableKind.WriteNumber ∷ Kind.Tables TableKind.Tier ∷ Kind.Tables TableKind.Matrix ∷ Kind.Tables TableKind.Seasoned ∷ Kind.Tables TableKind.ReadRange ∷ Kind.Messages MessageKind.Serve ∷ Kind.Messages MessageKind.ReadRequest ∷ Kind.Messages MessageKind.WriteRequest ∷ Kind.Messages MessageKind.ReadReply ∷ Kind.Messages MessageKind.WriteReply ∷ Kind.Weekday ∷ []
+
+in_order : (k : ℕ) (d : Kind) → k < 20 → kind_place (get_or kinds k d) ≡ k
+in_order k d h =
+    let e : get_or (map kind_place kinds) k (kind_place d) ≡ 0 + k = get_or-range_with_len 0 20 k (kind_place d) h in
+    sym (get_or-map kind_place kinds k d) ∙ e ∙ zero-add k
+
+pub returns-in_err-place : goal.returns-in_err-place
 unfolding longer words_of none_empty line_words table_rows message_rows date_rows rows kind_of
-index_of-requires c = search rules
+returns-in_err-place c =
+    let names : List (List ℕ) = map (λ (r : Row). r.name) rows in
+    rw c.from_residual.ensures (place_none c.args.name.now names (sym c.index_of.ensures ∙ c.in_err-place.was))
+
+pub bounds-place-place : goal.bounds-place-place
+unfolding longer words_of none_empty line_words table_rows message_rows date_rows rows kind_of
+bounds-place-place c =
+    let names : List (List ℕ) = map (λ (r : Row). r.name) rows in
+    (place_found c.args.name.now names c.in_ok-place.place (sym c.index_of.ensures ∙ c.in_ok-place.was)).0
+
+pub offset_bounds-place : goal.offset_bounds-place
+unfolding longer words_of none_empty line_words table_rows message_rows date_rows rows kind_of
+offset_bounds-place c =
+    let names : List (List ℕ) = map (λ (r : Row). r.name) rows in
+    let h : c.in_ok-place.place < 20 = (place_found c.args.name.now names c.in_ok-place.place (sym c.index_of.ensures ∙ c.in_ok-place.was)).0 in
+    omega arith
 
 pub returns : goal.returns
 unfolding longer words_of none_empty line_words table_rows message_rows date_rows rows kind_of
-returns c = c.index_of.ensures
+returns c =
+    let names : List (List ℕ) = map (λ (r : Row). r.name) rows in
+    let f = place_found c.args.name.now names c.in_ok-place.place (sym c.index_of.ensures ∙ c.in_ok-place.was) in
+    in_order c.in_ok-place.place (Kind.Tables TableKind.Check) f.0 ∙ f.1

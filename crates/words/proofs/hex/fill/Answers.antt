@@ -1,5 +1,4 @@
--- `words::hex::fill`. The loop's invariant: the first i of the word's octets stand at the start of out. The measure is the number of
--- octets left. Assumes nothing.
+-- `words::hex::fill`. The loop's invariant: the first i of the word's octets stand at the start of out. Assumes nothing.
 use mathlib.Core.Path.{refl, ◌≡◌}
 use native.Mathlib.Omega.{arith}
 use lib.ListN.{length}

@@ -1,7 +1,5 @@
--- `words::hex::fill`. The loop's invariant: the first i of the word's octets stand at the start of out. The measure is the number of
--- octets left. Assumes nothing.
+-- `words::hex::fill`. The loop's invariant: the first i of the word's octets stand at the start of out. Assumes nothing.
 use mathlib.Core.Path.{◌≡◌}
-use Prim.Native.Nat.{◌-◌}
 use lib.ListN.{length}
 use Rattle.words.specs.Hex.{octets_of}
 use Rattle.words.proofs.PutLaws.{Pasted}
@@ -9,6 +7,3 @@ use Rattle.words.proofs.hex.fill.Given as goal
 
 abbrev pub invariant-loop-i : goal.invariant-loop-i
 invariant-loop-i l = (length (octets_of l.word) ≡ l.count) × Pasted l.initial.out 0 (octets_of l.word) l.out l.i
-
-abbrev pub decreases-loop-i : goal.decreases-loop-i
-decreases-loop-i l = l.count - l.i

@@ -20,5 +20,4 @@ loop-k-preserved c =
 
 pub returns : goal.returns
 returns c =
-    let count = count_of _ _ c.split-places.ensures in
-    count ∙ looked_all c.loop-k.invariant (omega arith)
+    looked_all c.loop-k.invariant (omega (arith, count_of _ _ c.split-places.ensures))

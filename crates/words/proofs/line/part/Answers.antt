@@ -4,12 +4,12 @@ use native.Mathlib.Omega.{arith}
 use Rattle.words.proofs.LineLaws.{part_of_lem, part_crossed, part_over, stands_of, stands_crossed, stands_over}
 use Rattle.words.proofs.line.part.Goals as goal
 
-pub returns-then-end-start : goal.returns-then-end-start
-returns-then-end-start c =
+pub returns-then-span : goal.returns-then-span
+returns-then-span c =
     record { reply = sym (part_crossed _ _ _ (omega arith)); place = stands_crossed _ _ _ _ _ (omega arith) }
 
-pub returns-then-line-end : goal.returns-then-line-end
-returns-then-line-end c =
+pub returns-then-line-span : goal.returns-then-line-span
+returns-then-line-span c =
     record { reply = sym (part_over _ _ _ (omega arith)); place = stands_over _ _ _ _ _ (omega arith) }
 
 pub returns : goal.returns

@@ -9,15 +9,15 @@ pub loop-n-init : goal.loop-n-init
 loop-n-init c = split_none _
 
 pub returns-then-end-from : goal.returns-then-end-from
-returns-then-end-from c = c.no_words.ensures ∙ split_empty _ c.loop-n.invariant c.find-end.ensures.value c.if-end-from.true
+returns-then-end-from c = c.no_words.ensures ∙ split_empty _ c.loop-n.invariant c.find_space-end.ensures.value c.if-end-from.true
 
 pub returns-then-end-line : goal.returns-then-end-line
 returns-then-end-line c =
-    split_last _ c.loop-n.invariant c.find-end.ensures.value c.if-end-line.true c.if-end-from.false (omega arith)
+    split_last _ c.loop-n.invariant c.find_space-end.ensures.value c.if-end-line.true c.if-end-from.false (omega arith)
 
 pub loop-n-preserved : goal.loop-n-preserved
 loop-n-preserved c =
-    split_more _ c.loop-n.invariant c.find-end.ensures.value (omega arith) c.if-end-from.false (omega arith)
+    split_more _ c.loop-n.invariant c.find_space-end.ensures.value (omega arith) c.if-end-from.false (omega arith)
 
 pub returns : goal.returns
 returns c = c.no_words-2.ensures ∙ split_many c.loop-n.invariant (omega arith)

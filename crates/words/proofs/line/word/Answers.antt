@@ -1,22 +1,13 @@
--- `words::word`: past the fortieth place a list answers 0, and so does the code. Assumes nothing.
-use mathlib.Core.Path.{◌≡◌}
+-- `words::word`: past the fortieth place a list answers no part, and so does the code. Assumes nothing.
+use mathlib.Core.Path.{◌≡◌, ◌∙◌}
 use native.Mathlib.Omega.{arith}
-use borrow.Author.Rules.{rules}
-use lib.ListN.{length, get_or-eq_default}
-use Rattle.words.specs.Line.{word_in, word_start}
+use lib.ListN.{get_or}
+use Rattle.words.specs.Line.{word_in, word_start, no_span}
 use Rattle.words.proofs.line.word.Goals as goal
-
-pub returns-then-k-lt40 : goal.returns-then-k-lt40
-unfolding word_in word_start
-returns-then-k-lt40 c = c.part.ensures
 
 pub returns : goal.returns
 unfolding word_in word_start
 returns c =
-    let s : length c.args.places.starts ≡ 40 = search rules in
-    let e : length c.args.places.ends ≡ 40 = search rules in
-    rw (
-      get_or-eq_default c.args.places.starts 0 {n = c.args.k} (omega arith),
-      get_or-eq_default c.args.places.ends 0 {n = c.args.k} (omega arith),
-    )
-    c.part-2.ensures
+    let e : c.unwrap_or-span.result ≡ get_or c.args.places.spans c.args.k no_span =
+    c.unwrap_or-span.ensures ∙ rw c.copied.ensures (c.get.ensures.lookup.4 (omega arith) no_span) in
+    rw (← e) c.part.ensures
