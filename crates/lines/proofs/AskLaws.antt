@@ -6,7 +6,6 @@ use Prim.Native.Nat.{ℕ, ◌+◌, ◌*◌, ◌≤◌, ◌<◌, zero-le}
 use native.Mathlib.Omega.{arith}
 use lib.ListN.{length, get_or, take, length-take, length-drop}
 use Rattle.meaning.specs.Basics.{part}
-use Rattle.meaning.specs.declared.Place.{Place}
 use Rattle.meaning.specs.declared.Told.{Told}
 use Rattle.meaning.specs.Refusals.{told_by, told_numbers, place_part}
 use Rattle.meaning.specs.Calendar.{weekday_reply}
@@ -21,6 +20,8 @@ use Rattle.lines.specs.declared.message.Answered.{Answered}
 use Rattle.lines.specs.Ask.{Asks, Parted, MessageAsked}
 use Rattle.lines.proofs.AnswerLaws.{row_fits}
 use Rattle.lines.proofs.PutLaws.{put_nothing, part_room, after_room, reply_put}
+use Rattle.std.specs.Prelude.{Ok, Err}
+use Rattle.meaning.specs.Values.{Place, at}
 
 -- numbers within the limits of row k, all of them and one
 pub fits_all : (k : ℕ) (most : List ℕ) → limits (form_of k) ≡ most → {kind : ℕ} {numbers : List ℕ} → Within kind numbers → kind ≡ k
@@ -56,8 +57,8 @@ module _ {kind : ℕ} {d m numbers out : List ℕ} {at : ℕ} where
 -- a part of the image is no longer than the image
 part_short : (m : List ℕ) (p : Place) → length (place_part m p) ≤ length m
 unfolding place_part part
-part_short m (Place.At p n) = simp (length-take, length-drop) (omega arith)
-part_short m (Place.Refused r) = zero-le
+part_short m (Ok e) = simp (length-take, length-drop) (omega arith)
+part_short m (Err r) = zero-le
 
 pub place_short : (m : List ℕ) (p : Place) (octets : List ℕ) → octets ≡ place_part m p → length octets ≤ length m
 place_short m p octets e = rw e (part_short m p)

@@ -1,5 +1,5 @@
 -- What asking about messages leans on: a message in a room, wherever the room is, and data copied out of a message. Assumes nothing.
-use Rattle.std.specs.Prelude.{if◌then◌else◌}
+use Rattle.std.specs.Prelude.{if◌then◌else◌, Ok, Err}
 use Prim.Native.Nat.{ℕ, ◌+◌, ◌≤◌, zero-le}
 use mathlib.Core.Path.{◌≡◌, refl, sym, ap, ◌∙◌}
 use mathlib.Core.Bool.{Bool, true, false, and-eq-true_iff}
@@ -10,13 +10,14 @@ use lib.Seq.{take-append_seam, length-take-le}
 use native.Mathlib.Omega.{arith}
 use borrow.Author.Tests.{leb-true}
 use Rattle.meaning.specs.Basics.{splice}
-use Rattle.meaning.specs.declared.Reply.{Reply}
 use Rattle.meaning.specs.Numbers.{no_room}
 use Rattle.meaning.specs.Refusals.{told_by, told_numbers}
 use Rattle.meaning.specs.Messages.{Request, MeterReply, request_in, request_fits, request_octets, reply_fits, reply_octets, sent, sent_reply, sent_room, request_sent, request_room, reply_sent, reply_room, answer_to, serve_reply, serve_room, serve_image}
 use Rattle.lines.specs.declared.message.Answered.{Answered}
 use Rattle.lines.specs.Answer.{Said, said, in_room, room_of}
 use Rattle.lines.specs.Ask.{ReadAs, MessageAsked}
+use Rattle.meaning.specs.Values.{Reply}
+use Rattle.meaning.specs.declared.Answer.{Answer}
 
 -- A MESSAGE IN A ROOM: what is told of it goes by the room's length alone; its octets stand first in the room
 pub record InFront (reply : List ℕ → Reply) (after : List ℕ → List ℕ) : Type 0 where
@@ -29,13 +30,13 @@ module _ (fits : Bool) (xs : List ℕ) where
   unfolding sent
   same_sent room other e = rw e
 
-  short : (room : List ℕ) (b : Bool) → sent fits xs room ≡ b → (told_by (if b then Reply.Total (length xs) else Reply.Refused no_room)).first ≤ length room
+  short : (room : List ℕ) (b : Bool) → sent fits xs room ≡ b → (told_by (if b then Ok (Answer.Total (length xs)) else Err no_room)).first ≤ length room
   unfolding sent told_by
   short room true h = leb-true (length xs) (length room) ((and-eq-true_iff fits _).0 h).1
   short room false h = zero-le
 
   first_there : (room : List ℕ) (b : Bool)
-      → take (told_by (if b then Reply.Total (length xs) else Reply.Refused no_room)).first (if b then splice room 0 xs else room) ≡ (if b then xs else [])
+      → take (told_by (if b then Ok (Answer.Total (length xs)) else Err no_room)).first (if b then splice room 0 xs else room) ≡ (if b then xs else [])
   unfolding splice told_by
   first_there room true = take-append_seam xs (drop (0 + length xs) room)
   first_there room false = refl
@@ -50,7 +51,7 @@ module _ (fits : Bool) (xs : List ℕ) where
             rw (same_sent room other e) (first_there room (sent fits xs other)) ∙ sym (first_there other (sent fits xs other));
       }
 
-none_in_front : InFront (λ room. Reply.Refused no_room) (λ room. room)
+none_in_front : InFront (λ room. Err no_room) (λ room. room)
 unfolding told_by
 none_in_front = record { told = λ room other e. refl; within = λ room. zero-le; octets = λ room other e. refl }
 

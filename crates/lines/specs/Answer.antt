@@ -7,7 +7,6 @@ use Rattle.meaning.specs.Basics.{◌=?◌, ◌<?◌}
 use Rattle.meaning.specs.declared.Date.{Date}
 use Rattle.meaning.specs.declared.ElementName.{ElementName}
 use Rattle.meaning.specs.declared.Moment.{Moment}
-use Rattle.meaning.specs.declared.Reply.{Reply}
 use Rattle.meaning.specs.declared.ReplyTold.{ReplyTold}
 use Rattle.meaning.specs.declared.RequestTold.{RequestTold}
 use Rattle.meaning.specs.declared.Told.{Told}
@@ -21,6 +20,7 @@ use Rattle.words.specs.Hex.{are_octets, octets_of, hex_text}
 use Rattle.words.specs.Line.{line_words, word_index}
 use Rattle.words.specs.Put.{IsPut}
 use Rattle.lines.specs.declared.rows.Form.{Form}
+use Rattle.meaning.specs.Values.{Reply}
 
 -- TEXTS
 -- the octets of a quoted text
