@@ -11,15 +11,12 @@ ghost use Rattle.meaning.specs.Numbers.{image_short};
 ghost use Rattle.places.specs.Measuring.{numbers_in};
 ghost use Rattle.places.specs.Walking.{Readable, noted, meets, StepReady, step_of, WalkItemReady, WalksItem, WalkBodyReady, WalksBody};
 
-use crate::measure::{Span, chosen, item_size, leaf_span, value};
-use crate::rows::{Row, first_row, onward};
+use crate::measure::{ARRAY, Span, chosen, item_size, leaf_span, value};
+use crate::rows::Row;
 use basics::{both, either};
-use items::{Cursor, is_choice};
+use items::{Cursor, Read, is_choice};
 use meaning::{Fields, Refusal};
 use offsets::{ImageOffset, TableOffset, TableStart};
-
-// The kind that descriptions give an ARRAY.
-const ARRAY: u32 = 5;
 
 // The numbers of the slots with the one that a dimension sets.
 fn noted(
@@ -116,7 +113,7 @@ fn step(
     }
     let far = walked.octets();
     let octets = TableOffset::new(far + size);
-    let row = first_row(before, onward(far, row));
+    let row = before.or(row.onward(far));
     if slot == 0 {
         return Ok(Walk {
             numbers,
@@ -157,9 +154,7 @@ fn walk_item(d: &[u8], image: &[u8], aim: Aim, w: Walk, depth: usize) -> Result<
     ensures { WalksItem d.now image.now aim w depth result }
 {
     let place = w.next;
-    let read = place.read(d);
-    let f = read.fields;
-    let next = read.next;
+    let Read { fields: f, next } = place.read(d);
     let value = value_here(w, f);
     let inside = f.first + f.second;
     let after = next.past(inside);

@@ -10,20 +10,19 @@ ghost use Rattle.meaning.specs.Description.{item_count, is_element, is_array, co
 ghost use Rattle.meaning.specs.Numbers.{subscript_too_large};
 ghost use Rattle.meaning.specs.Ranges.{FieldsRange};
 ghost use Rattle.meaning.specs.Causes.{encloses, arrays_round, in_branch, is_one, subscripts_of, in_the_way, suits, why_none};
+ghost use Rattle.items.specs.Read.{read_at};
 ghost use Rattle.places.specs.Measuring.{numbers_in};
 ghost use Rattle.places.specs.Reasons.{step_in, refusal_in};
 
-use crate::measure::{chosen, value};
+use crate::measure::{ARRAY, chosen, value};
 use basics::{both, either};
-use items::{Cursor, is_choice};
+use items::{Cursor, Read, is_choice};
 use meaning::{ElementName, Fields, Inner, Refusal};
 
 // The kinds of items that are asked for.
 const UINT: u32 = 2;
 
 const SET: u32 = 4;
-
-const ARRAY: u32 = 5;
 
 // An element is a UINT, BLOCK or SET.
 fn is_element(f: Fields) -> bool
@@ -37,10 +36,7 @@ fn encloses(f: Fields, at: usize, item: usize) -> bool
     requires { FieldsRange f × (at < item) }
     ensures { result ≡ encloses f at item }
 {
-    if f.first + f.second < item - at {
-        return false;
-    }
-    true
+    item - at <= f.first + f.second
 }
 
 // 1 for an ARRAY that encloses the item.
@@ -48,10 +44,7 @@ fn one_round(f: Fields, at: usize, item: usize) -> usize
     requires { FieldsRange f × (at < item) }
     ensures { (result ≡ count (is_array f && encloses f at item)) × (result ≤ 1) }
 {
-    if both(f.kind == ARRAY, encloses(f, at, item)) {
-        return 1;
-    }
-    0
+    usize::from(both(f.kind == ARRAY, encloses(f, at, item)))
 }
 
 // How many ARRAYs stand round an item.
@@ -117,8 +110,7 @@ fn step_in(
 {
     let item = name.item;
     let at = place.item();
-    let read = place.read(d);
-    let f = read.fields;
+    let Read { fields: f, next } = place.read(d);
     let round = encloses(f, at, item);
     let value = value(numbers, f);
     if both(f.kind == ARRAY, round) {
@@ -128,7 +120,7 @@ fn step_in(
         return Err(too_large(depth));
     }
     if both(is_choice(f), round) {
-        if in_branch(at, chosen(d, f, read.next, value), item) {
+        if in_branch(at, chosen(d, f, next, value), item) {
             return Ok(depth);
         }
         return Err(Refusal::BRANCH_NOT_CHOSEN);
@@ -150,25 +142,25 @@ fn in_the_way(d: &[u8], numbers: [u32; 64], name: ElementName) -> Result<(), Ref
     Ok(())
 }
 
+// The item of that name, or what is read past the last.
+fn item_named(d: &[u8], name: ElementName) -> Fields
+    ensures { result ≡ (read_at d.now name.item).fields }
+{
+    Cursor::first().past(name.item).read(d).fields
+}
+
 // A number is asked of a UINT alone.
 pub(crate) fn suits(d: &[u8], name: ElementName, number: bool) -> bool
     ensures { result ≡ suits number d.now name }
 {
-    let start = Cursor::first();
-    let place = start.past(name.item);
-    let read = place.read(d);
-    let f = read.fields;
-    either(!number, f.kind == UINT)
+    either(!number, item_named(d, name).kind == UINT)
 }
 
 // The item is an element; one past the last is none.
 fn is_one(d: &[u8], name: ElementName) -> bool
     ensures { result ≡ is_one d.now name }
 {
-    let start = Cursor::first();
-    let place = start.past(name.item);
-    let read = place.read(d);
-    is_element(read.fields)
+    is_element(item_named(d, name))
 }
 
 // As many subscripts as ARRAYs, and no more than there are places.
