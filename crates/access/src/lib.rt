@@ -20,7 +20,7 @@ use meaning::{ElementName, Fields, Place, Refusal, Reply, Verdict};
 use offsets::{ImageOffset, TableOffset};
 use places::RangeTable;
 
-// The kind that descriptions give a TABLE.
+// The kind that descriptions give a TABLE: a number, as the fields of an item have it in crate meaning.
 const TABLE: u32 = 1;
 
 // WHAT THE DESCRIPTION SAYS OF AN ITEM

@@ -14,7 +14,7 @@ use basics::bit_range;
 use items::{Cursor, Read, nests};
 use meaning::{Fields, Inner};
 
-// The kind that descriptions give an ARRAY.
+// The kind that descriptions give an ARRAY: a number, as the fields of an item have it in crate meaning.
 pub(crate) const ARRAY: u32 = 5;
 
 // WHAT AN ITEM COMES TO
@@ -152,6 +152,7 @@ pub(crate) fn body_size(
         size: 0,
         row: Row::alone(None),
     };
+    // The next place is past all that is nested in the item, so no range tells it.
     while place.item() < end {
         let one = item_size(d, numbers, place, depth, wanted);
         span = joined(span, one.span);

@@ -14,7 +14,8 @@ pub struct Level {
     pub stride: u32,
 }
 
-// The ARRAYs round an element, outside in, and how many there are. Places past the depth mean nothing.
+// The ARRAYs round an element, outside in, and how many there are: four places, as memory is fixed.
+// Places past the depth mean nothing.
 #[derive(Clone, Copy)]
 pub struct Arrays {
     pub depth: usize,

@@ -191,6 +191,7 @@ fn survey_image(d: &[u8], image: &[u8], asked: Asked) -> Result<Answer, Refusal>
         },
         held: false,
     };
+    // The next table is past all items of this one, so no range tells it.
     while s.next.item() < items {
         s = survey_table(d, image, asked, s)?;
     }

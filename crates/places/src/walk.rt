@@ -194,6 +194,7 @@ pub(crate) fn walk_body(
 {
     let end = w.next.item() + items;
     let mut walk = w;
+    // The next place is past all that is nested in the item, so no range tells it.
     while walk.next.item() < end {
         walk = walk_item(d, image, aim, walk, depth)?;
     }

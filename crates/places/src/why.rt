@@ -19,7 +19,7 @@ use basics::{both, either};
 use items::{Cursor, Read, is_choice};
 use meaning::{ElementName, Fields, Inner, Refusal};
 
-// The kinds of items that are asked for.
+// The kinds of items that are asked for: numbers, as the fields of an item have them in crate meaning.
 const UINT: u32 = 2;
 
 const SET: u32 = 4;
