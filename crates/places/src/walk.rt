@@ -1,5 +1,5 @@
 // The walk over a table, item by item: the dimensions are read, and what is asked for is found on
-// the way. It stops as short at the first UINT, BLOCK or SET outside arrays, or outermost ARRAY,
+// the way. It is refused by 9 at the first UINT, BLOCK or SET outside arrays, or outermost ARRAY,
 // that doesn't end inside the image.
 //
 // Nothing is written. An ARRAY is measured, and stepped over whole; a choice is walked through by
