@@ -1,6 +1,6 @@
 -- Why there is no such element, item by item: how many ARRAYs are counted, and that what is left of the items leads to the same refusal as all of them. Assumes nothing.
 use Rattle.std.specs.Prelude.{Result, Ok, Err, if◌then◌else◌}
-use Prim.Native.Nat.{ℕ, suc, ◌+◌, ◌-◌, ◌<◌, ◌≤◌, min}
+use Prim.Native.Nat.{ℕ, suc, ◌+◌, ◌-◌, ◌<◌, ◌≤◌}
 use mathlib.Core.Path.{◌≡◌, refl, sym, ◌∙◌, ap}
 use mathlib.Core.Bool.{Bool, true, false, ◌&&◌}
 use mathlib.Core.List.{List}
@@ -25,11 +25,11 @@ use Rattle.items.proofs.ReadLaws.{fields_read, next_read}
 use Rattle.places.specs.Reasons.{step_in}
 
 -- what is said of an item that is read, where nothing is said of one past the last
-pub read_test : (test : Fields → Bool) → test malformed ≡ false → (d : List ℕ) (at : ℕ) {r : Read} → r ≡ read_at d at → test r.fields ≡ (at <? item_count d && test (fields_at d at))
+pub read_test : (test : Fields → Bool) → test malformed ≡ false → (d : List ℕ) (at : ℕ) {f : Fields} → f ≡ (read_at d at).fields → test f ≡ (at <? item_count d && test (fields_at d at))
 unfolding read_at
-read_test test none d at {r} e = go (at <? item_count d) refl
+read_test test none d at {f} e = go (at <? item_count d) refl
   where
-    go : (b : Bool) → (at <? item_count d) ≡ b → test r.fields ≡ (b && test (fields_at d at))
+    go : (b : Bool) → (at <? item_count d) ≡ b → test f ≡ (b && test (fields_at d at))
     go true g = rw (e, g)
     go false g = rw (e, g) none
 
@@ -183,10 +183,6 @@ module _ (at i : ℕ) (l : at < i) (c : Inner) where
       go (no p) = le-ltb (i - at - 1 - c.skip) c.items (omega arith) ∙ sym (le-ltb i (at + 1 + c.skip + c.items) (omega arith))
 
 -- WHY THERE IS NONE: the tests one after another
--- the item that is read there
-pub item_there : (i : ℕ) {z p : ℕ} → z ≡ 0 → p ≡ min (z + i) 18446744073709551615 → i ≤ 18446744073709551615 → p ≡ i
-item_there i z p l = omega arith
-
 module _ (number : Bool) (d : List ℕ) (v : Numbers) (q : ElementName) {one : Bool} (is_one_lem : one ≡ is_one d q) where
   pub not_one : one ≡ false → not_an_element ≡ why_none number d v q
   unfolding why_none

@@ -10,9 +10,9 @@ ghost use Rattle.meaning.specs.Ranges.{FieldsRange};
 ghost use Rattle.places.specs.Rows.{Few, alone};
 ghost use Rattle.places.specs.Measuring.{numbers_in, inner_of, leaf_span, joined, array_span, BodyReady, ItemReady, BodyAs, ItemAs};
 
-use crate::rows::{Extent, Row, alone, cut, first_row, in_array, onward};
+use crate::rows::{Extent, Row, cut};
 use basics::bit_range;
-use items::{Cursor, nests};
+use items::{Cursor, Read, nests};
 use meaning::{Fields, Inner, Kind};
 
 // WHAT AN ITEM COMES TO
@@ -97,18 +97,13 @@ pub(crate) fn leaf_span(f: Fields, value: usize, at: usize, wanted: usize) -> Sp
     ensures { result ≡ leaf_span f value at wanted }
 {
     let octets = leaf_octets(f, value);
-    if at == wanted {
-        return Span {
-            size: cut(octets),
-            row: alone(Some(Extent {
-                first: 0,
-                length: octets,
-            })),
-        };
-    }
+    let stands = (at == wanted).then_some(Extent {
+        first: 0,
+        length: octets,
+    });
     Span {
         size: cut(octets),
-        row: alone(None),
+        row: Row::alone(stands),
     }
 }
 
@@ -117,12 +112,9 @@ fn joined(before: Span, here: Span) -> Span
     requires { (before.size ≤ 65536) × (here.size ≤ 65536) }
     ensures { result ≡ joined before here }
 {
-    let first = before.row;
-    let second = here.row;
-    let size = before.size;
     Span {
-        size: cut(size + here.size),
-        row: first_row(first, onward(size, second)),
+        size: cut(before.size + here.size),
+        row: before.row.or(here.row.onward(before.size)),
     }
 }
 
@@ -131,11 +123,10 @@ fn array_span(count: usize, body: Span) -> Span
     requires { (count < 4294967296) × (body.size ≤ 65536) × Few 3 body.row.arrays }
     ensures { result ≡ array_span count body }
 {
-    let row = body.row;
-    let size = body.size;
+    let Span { size, row } = body;
     Span {
         size: cut(count * size),
-        row: in_array(count, size, row),
+        row: row.in_array(count, size),
     }
 }
 
@@ -163,12 +154,12 @@ pub(crate) fn body_size(
     let mut place = from;
     let mut span = Span {
         size: 0,
-        row: alone(None),
+        row: Row::alone(None),
     };
+    // The next place is past all that is nested in the item, so no range tells it.
     while place.item() < end {
         let one = item_size(d, numbers, place, depth, wanted);
-        let here = one.span;
-        span = joined(span, here);
+        span = joined(span, one.span);
         place = one.next;
     }
     span
@@ -186,9 +177,7 @@ pub(crate) fn item_size(
     requires { ItemReady d.now numbers place.at depth }
     ensures { ItemAs d.now numbers place.at depth wanted result }
 {
-    let read = place.read(d);
-    let f = read.fields;
-    let next = read.next;
+    let Read { fields: f, next } = place.read(d);
     let value = value(numbers, f);
     let inside = f.first + f.second;
     let after = next.past(inside);

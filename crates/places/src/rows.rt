@@ -14,7 +14,8 @@ pub struct Level {
     pub stride: u32,
 }
 
-// The ARRAYs round an element, outside in, and how many there are. Places past the depth mean nothing.
+// The ARRAYs round an element, outside in, and how many there are: four places, as memory is fixed.
+// Places past the depth mean nothing.
 #[derive(Clone, Copy)]
 pub struct Arrays {
     pub depth: usize,
@@ -35,33 +36,6 @@ pub struct Row {
     pub arrays: Arrays,
 }
 
-// A row with no ARRAYs.
-pub(crate) fn alone(stands: Option<Extent>) -> Row
-    ensures { result ≡ alone stands }
-{
-    Row {
-        stands,
-        arrays: Arrays {
-            depth: 0,
-            levels: [Level {
-                count: 0,
-                stride: 0,
-            }; 4],
-        },
-    }
-}
-
-// The one of the two that is a row.
-#[tactic(auto, unfolding(crate::specs::Rows::first_by))]
-pub(crate) fn first_row(a: Row, b: Row) -> Row
-    ensures { result ≡ first_of a b }
-{
-    match a.stands {
-        Some(_) => a,
-        None => b,
-    }
-}
-
 // A size, or 65,536 for any that is past every image.
 pub(crate) fn cut(size: usize) -> usize
     ensures { result ≡ cut size }
@@ -69,39 +43,68 @@ pub(crate) fn cut(size: usize) -> usize
     least(size, 65536)
 }
 
-// So many octets further on.
-#[tactic(auto, unfolding(crate::specs::Rows::moved_by))]
-pub(crate) fn onward(by: usize, row: Row) -> Row
-    ensures { result ≡ onward_by by row }
-{
-    match row.stands {
-        Some(Extent { first, length }) => Row {
-            stands: Some(Extent {
-                first: cut(cut(by) + cut(first)),
-                length,
-            }),
-            ..row
-        },
-        None => row,
+impl Row {
+    // A row with no ARRAYs.
+    pub(crate) fn alone(stands: Option<Extent>) -> Row
+        ensures { result ≡ alone stands }
+    {
+        Row {
+            stands,
+            arrays: Arrays {
+                depth: 0,
+                levels: [Level {
+                    count: 0,
+                    stride: 0,
+                }; 4],
+            },
+        }
     }
-}
 
-// Inside one ARRAY more.
-pub(crate) fn in_array(count: usize, stride: usize, row: Row) -> Row
-    requires { (count < 4294967296) × (stride ≤ 65536) × Few 3 row.arrays }
-    ensures { result ≡ with_array count stride row }
-{
-    let Arrays { depth, levels } = row.arrays;
-    let outer = Level {
-        count: count as u32,
-        stride: stride as u32,
-    };
-    Row {
-        arrays: Arrays {
-            depth: depth + 1,
-            levels: [outer, levels[0], levels[1], levels[2]],
-        },
-        ..row
+    // The one of the two that is a row.
+    #[tactic(auto, unfolding(crate::specs::Rows::first_by))]
+    pub(crate) fn or(self, other: Row) -> Row
+        ensures { result ≡ first_of self other }
+    {
+        match self.stands {
+            Some(_) => self,
+            None => other,
+        }
+    }
+
+    // So many octets further on.
+    #[tactic(auto, unfolding(crate::specs::Rows::moved_by))]
+    pub(crate) fn onward(self, by: usize) -> Row
+        ensures { result ≡ onward_by by self }
+    {
+        match self.stands {
+            Some(Extent { first, length }) => Row {
+                stands: Some(Extent {
+                    first: cut(cut(by) + cut(first)),
+                    length,
+                }),
+                ..self
+            },
+            None => self,
+        }
+    }
+
+    // Inside one ARRAY more.
+    pub(crate) fn in_array(self, count: usize, stride: usize) -> Row
+        requires { (count < 4294967296) × (stride ≤ 65536) × Few 3 self.arrays }
+        ensures { result ≡ with_array count stride self }
+    {
+        let Arrays { depth, levels } = self.arrays;
+        let outer = Level {
+            count: count as u32,
+            stride: stride as u32,
+        };
+        Row {
+            arrays: Arrays {
+                depth: depth + 1,
+                levels: [outer, levels[0], levels[1], levels[2]],
+            },
+            ..self
+        }
     }
 }
 

@@ -6,10 +6,10 @@ ghost use Rattle.meaning.specs.Layout.{lay_out};
 ghost use Rattle.meaning.specs.Refusals.{open_laid, open_image};
 ghost use Rattle.places.specs.Surveying.{is_first, seat_in, first_standing, held_after, TableReady, TableAs, SurveyReady, AnswerAs};
 
-use crate::rows::{Row, alone};
+use crate::rows::Row;
 use crate::walk::{Aim, Walk, walk_body};
 use basics::ends_within;
-use items::Cursor;
+use items::{Cursor, Read};
 use meaning::{Fields, Refusal};
 use offsets::{TableOffset, TableStart};
 
@@ -130,9 +130,7 @@ fn survey_table(d: &[u8], image: &[u8], asked: Asked, s: Survey) -> Result<Surve
         element,
         held,
     } = s;
-    let read = place.read(d);
-    let h = read.fields;
-    let next = read.next;
+    let Read { fields: h, next } = place.read(d);
     let this = is_first(first, h, asked.first);
     let that = is_first(second, h, asked.second);
     let aim = Aim {
@@ -144,7 +142,7 @@ fn survey_table(d: &[u8], image: &[u8], asked: Asked, s: Survey) -> Result<Surve
     let before = Walk {
         numbers,
         octets: TableOffset::new(0),
-        row: alone(None),
+        row: Row::alone(None),
         held: false,
         next,
     };
@@ -189,10 +187,11 @@ fn survey_image(d: &[u8], image: &[u8], asked: Asked) -> Result<Answer, Refusal>
         second: None,
         element: Standing {
             start,
-            row: alone(None),
+            row: Row::alone(None),
         },
         held: false,
     };
+    // The next table is past all items of this one, so no range tells it.
     while s.next.item() < items {
         s = survey_table(d, image, asked, s)?;
     }

@@ -1,5 +1,5 @@
 // The walk over a table, item by item: the dimensions are read, and what is asked for is found on
-// the way. It stops as short at the first UINT, BLOCK or SET outside arrays, or outermost ARRAY,
+// the way. It is refused by 9 at the first UINT, BLOCK or SET outside arrays, or outermost ARRAY,
 // that doesn't end inside the image.
 //
 // Nothing is written. An ARRAY is measured, and stepped over whole; a choice is walked through by
@@ -12,9 +12,9 @@ ghost use Rattle.places.specs.Measuring.{numbers_in};
 ghost use Rattle.places.specs.Walking.{Readable, noted, meets, StepReady, step_of, WalkItemReady, WalksItem, WalkBodyReady, WalksBody};
 
 use crate::measure::{Span, chosen, is_array, item_size, leaf_span, value};
-use crate::rows::{Row, first_row, onward};
+use crate::rows::Row;
 use basics::{both, either};
-use items::{Cursor, is_choice};
+use items::{Cursor, Read, is_choice};
 use meaning::{Fields, Refusal};
 use offsets::{ImageOffset, TableOffset, TableStart};
 
@@ -113,7 +113,7 @@ fn step(
     }
     let far = walked.octets();
     let octets = TableOffset::new(far + size);
-    let row = first_row(before, onward(far, row));
+    let row = before.or(row.onward(far));
     if slot == 0 {
         return Ok(Walk {
             numbers,
@@ -154,9 +154,7 @@ fn walk_item(d: &[u8], image: &[u8], aim: Aim, w: Walk, depth: usize) -> Result<
     ensures { WalksItem d.now image.now aim w depth result }
 {
     let place = w.next;
-    let read = place.read(d);
-    let f = read.fields;
-    let next = read.next;
+    let Read { fields: f, next } = place.read(d);
     let value = value_here(w, f);
     let inside = f.first + f.second;
     let after = next.past(inside);
@@ -196,6 +194,7 @@ pub(crate) fn walk_body(
 {
     let end = w.next.item() + items;
     let mut walk = w;
+    // The next place is past all that is nested in the item, so no range tells it.
     while walk.next.item() < end {
         walk = walk_item(d, image, aim, walk, depth)?;
     }

@@ -10,12 +10,13 @@ ghost use Rattle.meaning.specs.Description.{item_count, is_element, is_array, is
 ghost use Rattle.meaning.specs.Numbers.{subscript_too_large};
 ghost use Rattle.meaning.specs.Ranges.{FieldsRange};
 ghost use Rattle.meaning.specs.Causes.{encloses, arrays_round, in_branch, is_one, subscripts_of, in_the_way, suits, why_none};
+ghost use Rattle.items.specs.Read.{read_at};
 ghost use Rattle.places.specs.Measuring.{numbers_in};
 ghost use Rattle.places.specs.Reasons.{step_in, refusal_in};
 
 use crate::measure::{chosen, is_array, value};
 use basics::{both, either};
-use items::{Cursor, is_choice};
+use items::{Cursor, Read, is_choice};
 use meaning::{ElementName, Fields, Inner, Kind, Refusal};
 
 fn is_uint(f: Fields) -> bool
@@ -36,10 +37,7 @@ fn encloses(f: Fields, at: usize, item: usize) -> bool
     requires { FieldsRange f × (at < item) }
     ensures { result ≡ encloses f at item }
 {
-    if f.first + f.second < item - at {
-        return false;
-    }
-    true
+    item - at <= f.first + f.second
 }
 
 // 1 for an ARRAY that encloses the item.
@@ -47,10 +45,7 @@ fn one_round(f: Fields, at: usize, item: usize) -> usize
     requires { FieldsRange f × (at < item) }
     ensures { (result ≡ count (is_array f && encloses f at item)) × (result ≤ 1) }
 {
-    if both(is_array(f), encloses(f, at, item)) {
-        return 1;
-    }
-    0
+    usize::from(both(is_array(f), encloses(f, at, item)))
 }
 
 // How many ARRAYs stand round an item.
@@ -115,8 +110,7 @@ fn step_in(
 {
     let item = name.item;
     let at = place.item();
-    let read = place.read(d);
-    let f = read.fields;
+    let Read { fields: f, next } = place.read(d);
     let round = encloses(f, at, item);
     let value = value(numbers, f);
     if both(is_array(f), round) {
@@ -126,7 +120,7 @@ fn step_in(
         return Err(too_large(depth));
     }
     if both(is_choice(f), round) {
-        if in_branch(at, chosen(d, f, read.next, value), item) {
+        if in_branch(at, chosen(d, f, next, value), item) {
             return Ok(depth);
         }
         return Err(Refusal::BRANCH_NOT_CHOSEN);
@@ -148,25 +142,25 @@ fn in_the_way(d: &[u8], numbers: [u32; 64], name: ElementName) -> Result<(), Ref
     Ok(())
 }
 
+// The item of that name, or what is read past the last.
+fn item_named(d: &[u8], name: ElementName) -> Fields
+    ensures { result ≡ (read_at d.now name.item).fields }
+{
+    Cursor::first().past(name.item).read(d).fields
+}
+
 // A number is asked of a UINT alone.
 pub(crate) fn suits(d: &[u8], name: ElementName, number: bool) -> bool
     ensures { result ≡ suits number d.now name }
 {
-    let start = Cursor::first();
-    let place = start.past(name.item);
-    let read = place.read(d);
-    let f = read.fields;
-    either(!number, is_uint(f))
+    either(!number, is_uint(item_named(d, name)))
 }
 
 // The item is an element; one past the last is none.
 fn is_one(d: &[u8], name: ElementName) -> bool
     ensures { result ≡ is_one d.now name }
 {
-    let start = Cursor::first();
-    let place = start.past(name.item);
-    let read = place.read(d);
-    is_element(read.fields)
+    is_element(item_named(d, name))
 }
 
 // As many subscripts as ARRAYs, and no more than there are places.

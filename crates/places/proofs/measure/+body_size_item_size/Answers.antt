@@ -33,41 +33,41 @@ body_size-returns t c =
 
 pub item_size-value-value-requires : goal.item_size-value-value-requires
 item_size-value-value-requires t c =
-    (range_read _ _ c.read-read.ensures, c.requires.slots)
+    (range_read _ _ c.read.ensures, c.requires.slots)
 
 pub item_size-overflow_add-inside : goal.item_size-overflow_add-inside
 item_size-overflow_add-inside t c =
-    omega (arith, range_read _ _ c.read-read.ensures)
+    omega (arith, range_read _ _ c.read.ensures)
 
 pub item_size-overflow_sub-depth : goal.item_size-overflow_sub-depth
 item_size-overflow_sub-depth t c =
-    let o = opened c.requires c.read-read.ensures c.value-value.ensures c.past-after.ensures in
+    let o = opened c.requires c.read.ensures c.value-value.ensures c.past-after.ensures in
     let e = entered o c.nests.ensures c.if-nests.true c.inner_of-taken.ensures c.past.ensures in
     level_left e
 
 pub item_size-body_size-body-requires : goal.item_size-body_size-body-requires
 item_size-body_size-body-requires t c =
-    let o = opened c.requires c.read-read.ensures c.value-value.ensures c.past-after.ensures in
+    let o = opened c.requires c.read.ensures c.value-value.ensures c.past-after.ensures in
     let e = entered o c.nests.ensures c.if-nests.true c.inner_of-taken.ensures c.past.ensures in
     (omega (arith, level_left e), body_ready e)
 
 pub item_size-returns-then-is_array : goal.item_size-returns-then-is_array
 item_size-returns-then-is_array t c =
-    let o = opened c.requires c.read-read.ensures c.value-value.ensures c.past-after.ensures in
+    let o = opened c.requires c.read.ensures c.value-value.ensures c.past-after.ensures in
     let e = entered o c.nests.ensures c.if-nests.true c.inner_of-taken.ensures c.past.ensures in
     array_done e _ c.body_size-body.ensures (eqb-true _ 5 (sym c.is_array.ensures ∙ c.if-is_array.true)) c.array_span.ensures
 
 pub item_size-returns-then-nests : goal.item_size-returns-then-nests
 item_size-returns-then-nests t c =
-    let o = opened c.requires c.read-read.ensures c.value-value.ensures c.past-after.ensures in
+    let o = opened c.requires c.read.ensures c.value-value.ensures c.past-after.ensures in
     let e = entered o c.nests.ensures c.if-nests.true c.inner_of-taken.ensures c.past.ensures in
     choice_done e _ c.body_size-body.ensures (eqb-false _ 5 (sym c.is_array.ensures ∙ c.if-is_array.false))
 
 pub item_size-leaf_span-requires : goal.item_size-leaf_span-requires
 item_size-leaf_span-requires t c =
-    (range_read _ _ c.read-read.ensures, c.value-value.ensures.1)
+    (range_read _ _ c.read.ensures, c.value-value.ensures.1)
 
 pub item_size-returns : goal.item_size-returns
 item_size-returns t c =
-    let o = opened c.requires c.read-read.ensures c.value-value.ensures c.past-after.ensures in
+    let o = opened c.requires c.read.ensures c.value-value.ensures c.past-after.ensures in
     leaf_done o c.nests.ensures c.if-nests.false c.item.ensures c.leaf_span.ensures

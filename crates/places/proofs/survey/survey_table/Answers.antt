@@ -8,22 +8,22 @@ use Rattle.places.proofs.survey.survey_table.Goals as goal
 
 pub walk_body-requires : goal.walk_body-requires
 walk_body-requires c =
-    let fields = fields_read _ _ c.requires.more c.read-read.ensures in
-    let next = next_read _ _ c.requires.more c.read-read.ensures in
+    let fields = fields_read _ _ c.requires.more c.read.ensures in
+    let next = next_read _ _ c.requires.more c.read.ensures in
     rw (c.alone.ensures, fields) (table_ready _ _ _ _ c.requires _ _ _ next c.new.ensures refl)
 
 pub returns-in_err-w : goal.returns-in_err-w
 returns-in_err-w c =
-    let fields = fields_read _ _ c.requires.more c.read-read.ensures in
-    let next = next_read _ _ c.requires.more c.read-read.ensures in
+    let fields = fields_read _ _ c.requires.more c.read.ensures in
+    let next = next_read _ _ c.requires.more c.read.ensures in
     let walks = rw c.alone.ensures at c.in_err-w.ensures in
     let e : c.from_residual.result ≡ Err c.in_err-w.field-0.0 = search rules in
     rw e (table_stopped _ _ _ _ c.requires _ _ _ next c.new.ensures (ap (λ (f : Fields). f.first) fields) walks)
 
 pub returns : goal.returns
 returns c =
-    let fields = fields_read _ _ c.requires.more c.read-read.ensures in
-    let next = next_read _ _ c.requires.more c.read-read.ensures in
+    let fields = fields_read _ _ c.requires.more c.read.ensures in
+    let next = next_read _ _ c.requires.more c.read.ensures in
     let walks = rw c.alone.ensures at c.in_ok-w.ensures in
     table_laid _ _ _ _ c.requires _ _ _ next c.new.ensures (ap (λ (f : Fields). f.first) fields) _ walks _ refl (c.after.ensures ∙ rw c.octets-length.ensures) c.past.ensures
     (c.seat.ensures ∙ rw (c.is_first-this.ensures, c.item.ensures, c.octets-length.ensures, fields))

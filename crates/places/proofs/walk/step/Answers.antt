@@ -12,10 +12,10 @@ returns-then-image-octet c =
 
 pub returns-then-slot-eq0 : goal.returns-then-slot-eq0
 returns-then-slot-eq0 c =
-    step_plain _ _ _ _ _ _ c.if-slot-eq0.true _ _ (omega (arith, c.if-image-octet.false, c.octet.ensures, c.in_image-here.ensures, c.requires.inside, c.requires.small)) (c.new-octets.ensures ∙ rw c.octets-far.ensures) (c.first_row-row.ensures ∙ rw (c.onward.ensures, c.octets-far.ensures))
+    step_plain _ _ _ _ _ _ c.if-slot-eq0.true _ _ (omega (arith, c.if-image-octet.false, c.octet.ensures, c.in_image-here.ensures, c.requires.inside, c.requires.small)) (c.new-octets.ensures ∙ rw c.octets-far.ensures) (c.or-row.ensures ∙ rw (c.onward.ensures, c.octets-far.ensures))
 
 pub returns : goal.returns
 returns c =
     let here : c.in_image-here.result.0 ≡ place c.args.aim c.args.w = omega (arith, c.in_image-here.ensures, c.requires.inside, c.requires.small) in
     step_sets _ _ _ _ _ _ (omega (arith, c.if-slot-eq0.false)) _ _ _ _ _ (omega (arith, c.if-image-octet.false, c.octet.ensures, here, c.requires.inside, c.requires.small)) here c.noted.ensures
-    (c.new-octets.ensures ∙ rw c.octets-far.ensures) (c.first_row-row.ensures ∙ rw (c.onward.ensures, c.octets-far.ensures)) (c.either.ensures ∙ rw c.holds_one-dimension.ensures)
+    (c.new-octets.ensures ∙ rw c.octets-far.ensures) (c.or-row.ensures ∙ rw (c.onward.ensures, c.octets-far.ensures)) (c.either.ensures ∙ rw c.holds_one-dimension.ensures)

@@ -1,10 +1,8 @@
 -- `why::suits`: by the kind of the item that is read. Assumes nothing.
 use mathlib.Core.Path.{refl, ◌∙◌}
-use native.Mathlib.Omega.{arith}
 use Rattle.meaning.specs.Description.{is_uint}
-use Rattle.places.proofs.Reasons.{read_test, item_there}
+use Rattle.places.proofs.Reasons.{read_test}
 use Rattle.places.proofs.why.suits.Goals as goal
 
 pub returns : goal.returns
-returns c =
-    c.either.ensures ∙ rw (c.is_uint.ensures, read_test is_uint refl _ _ c.read-read.ensures, item_there _ c.first-start.ensures c.past-place.ensures (omega arith))
+returns c = c.either.ensures ∙ rw (c.is_uint.ensures, read_test is_uint refl _ _ c.item_named.ensures)
