@@ -1,6 +1,6 @@
 -- The reply to a line: docs/LINES.md. A question is a row of one table: its name, the form of its lines, what it comes to, and how much of that its reply tells.
 -- What a question comes to is said in one place (crate meaning, specs/Questions), and of messages in another (specs/Messages there). Octets are ASCII: a space is 32, a line feed 10, `?` 63. Assumes nothing.
-use Rattle.std.specs.Prelude.{ℕ, ◌+◌, ◌-◌, ◌*◌, ◌≤◌, ◌≡◌, Bool, true, false, ◌&&◌, ◌||◌, List, [], ◌∷◌, ◌++◌, map, length, get_or, take, replicate, if◌then◌else◌}
+use Rattle.std.specs.Prelude.{ℕ, ◌+◌, ◌-◌, ◌*◌, ◌≤◌, Bool, true, false, ◌&&◌, ◌||◌, List, [], ◌∷◌, ◌++◌, map, length, get_or, take, replicate, if◌then◌else◌}
 use Prim.Native.Char.{code}
 use Prim.Native.String.{String, [] as end, ◌∷◌ as ◌then◌}
 use Rattle.meaning.specs.Basics.{◌=?◌, ◌<?◌}
@@ -338,16 +338,10 @@ answer_words words =
 unfoldable pub answer_text : List ℕ → List ℕ
 answer_text line = if 300000 <? length line then no_form else answer_words (line_words line)
 
--- MEMORY that the program lends itself: room for any reply, for the octets of a description, an image and data in a line that is taken. The longest reply that a row
+-- MEMORY that the program lends itself (src/memory.rt): room for any reply. The longest reply that a row
 -- could have: six numbers of 20 digits, a part of the image or 150,000 octets more, as many as a message in a line may have, and the image, both in hex, and what stands between
 abbrev pub room_for : (image : List ℕ) → ℕ
 room_for image = 4 * length image + 300131
-
-pub record Memory (out description image given : List ℕ) : Type 0 where
-  pub reply : room_for image ≤ length out
-  pub items : length description ≡ 150000
-  pub tables : 150000 ≤ length image
-  pub new : 150000 ≤ length given
 
 -- a reply is put at the start of `out`, which has room for all of it: so none is left out
 pub record Replied (out text later : List ℕ) (r : ℕ) : Type 0 where

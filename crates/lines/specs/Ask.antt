@@ -12,10 +12,6 @@ pub record Asks (kind : ℕ) (d m numbers new : List ℕ) (r : Told) (later : Li
   pub image : later ≡ (said kind d m numbers new).image
   pub octets : (said kind d later numbers []).octets ≡ (said kind d m numbers new).octets
 
--- a question that writes nothing: DATA has no part in it, and the image is as it was
-abbrev pub Tells : (kind : ℕ) → (d m numbers : List ℕ) → Told → Type 0
-Tells kind d m numbers r = (new : List ℕ) → Asks kind d m numbers new r m
-
 -- the octets of the question were put, as a word of the reply where it has them; they are a part of the image, or cells or a message of at most 150,000 octets
 pub record Parted (kind : ℕ) (d m numbers out : List ℕ) (at : ℕ) (later : List ℕ) (r : ℕ) : Type 0 where
   pub put : IsPut out at (hex_behind at (form_of kind).part (said kind d m numbers []).octets) later r
