@@ -85,13 +85,13 @@ fn image_short(at: Cursor, here: ImageOffset) -> Refusal
 fn step(
     image: &[u8],
     aim: Aim,
-    w: Walk,
+    w: &Walk,
     piece: Span,
     slot: usize,
     next: Cursor,
 ) -> Result<Walk, Refusal>
-    requires { StepReady image.now aim w piece slot }
-    ensures { result ≡ step_of image.now aim w piece slot next }
+    requires { StepReady image.now aim w.now piece slot }
+    ensures { result ≡ step_of image.now aim w.now piece slot next }
 {
     let Aim {
         start,
@@ -105,7 +105,7 @@ fn step(
         row: before,
         held,
         next: at,
-    } = w;
+    } = *w;
     let Span { size, row } = piece;
     let here = start.in_image(walked);
     if image.len() - here.octet() < size {
@@ -136,9 +136,9 @@ fn step(
 // The value of an item's reference, as far as the walk has come. Most items have none, and then the
 // numbers of the slots aren't copied.
 #[tactic(auto, unfolding(meaning::specs::Layout::value))]
-fn value_here(w: Walk, f: Fields) -> usize
-    requires { FieldsRange f × (length w.numbers ≡ 64) }
-    ensures { (result ≡ value (numbers_in w.numbers) f) × (result < 4294967296) }
+fn value_here(w: &Walk, f: Fields) -> usize
+    requires { FieldsRange f × (length w.now.numbers ≡ 64) }
+    ensures { (result ≡ value (numbers_in w.now.numbers) f) × (result < 4294967296) }
 {
     if f.slot == 0 {
         return 0;
@@ -149,9 +149,9 @@ fn value_here(w: Walk, f: Fields) -> usize
 
 // The item at the walk's place.
 #[cycle(walk_body_walk_item)]
-fn walk_item(d: &[u8], image: &[u8], aim: Aim, w: Walk, depth: usize) -> Result<Walk, Refusal>
-    requires { WalkItemReady d.now image.now aim w depth }
-    ensures { WalksItem d.now image.now aim w depth result }
+fn walk_item(d: &[u8], image: &[u8], aim: Aim, w: &Walk, depth: usize) -> Result<Walk, Refusal>
+    requires { WalkItemReady d.now image.now aim w.now depth }
+    ensures { WalksItem d.now image.now aim w.now depth result }
 {
     let place = w.next;
     let Read { fields: f, next } = place.read(d);
@@ -162,7 +162,7 @@ fn walk_item(d: &[u8], image: &[u8], aim: Aim, w: Walk, depth: usize) -> Result<
         let taken = chosen(d, f, next, value);
         let before = Walk {
             next: next.past(taken.skip),
-            ..w
+            ..*w
         };
         let inner = walk_body(d, image, aim, before, taken.items, depth - 1)?;
         return Ok(Walk {
@@ -196,7 +196,7 @@ pub(crate) fn walk_body(
     let mut walk = w;
     // The next place is past all that is nested in the item, so no range tells it.
     while walk.next.item() < end {
-        walk = walk_item(d, image, aim, walk, depth)?;
+        walk = walk_item(d, image, aim, &walk, depth)?;
     }
     Ok(walk)
 }

@@ -7,7 +7,7 @@ use Rattle.places.proofs.walk.step.Goals as goal
 
 pub returns-then-image-octet : goal.returns-then-image-octet
 returns-then-image-octet c =
-    let here : c.in_image-here.result.0 ≡ place c.args.aim c.args.w = omega (arith, c.in_image-here.ensures, c.requires.inside, c.requires.small) in
+    let here : c.in_image-here.result.0 ≡ place c.args.aim c.args.w.now = omega (arith, c.in_image-here.ensures, c.requires.inside, c.requires.small) in
     step_short _ _ _ _ _ _ (omega (arith, c.if-image-octet.true, c.octet.ensures, c.in_image-here.ensures, c.requires.inside, c.requires.small)) (c.image_short.ensures ∙ rw here)
 
 pub returns-then-slot-eq0 : goal.returns-then-slot-eq0
@@ -16,6 +16,6 @@ returns-then-slot-eq0 c =
 
 pub returns : goal.returns
 returns c =
-    let here : c.in_image-here.result.0 ≡ place c.args.aim c.args.w = omega (arith, c.in_image-here.ensures, c.requires.inside, c.requires.small) in
+    let here : c.in_image-here.result.0 ≡ place c.args.aim c.args.w.now = omega (arith, c.in_image-here.ensures, c.requires.inside, c.requires.small) in
     step_sets _ _ _ _ _ _ (omega (arith, c.if-slot-eq0.false)) _ _ _ _ _ (omega (arith, c.if-image-octet.false, c.octet.ensures, here, c.requires.inside, c.requires.small)) here c.noted.ensures
     (c.new-octets.ensures ∙ rw c.octets-far.ensures) (c.or-row.ensures ∙ rw (c.onward.ensures, c.octets-far.ensures)) (c.either.ensures ∙ rw c.holds_one-dimension.ensures)
