@@ -3,6 +3,8 @@ ghost use Rattle.std.specs.Prelude.{◌≡◌, ◌+◌, ◌≤◌, if◌then◌e
 ghost use Rattle.lines.specs.Answer.{kind_of, form_of, takes};
 ghost use Rattle.lines.specs.Kinds.{tables_place, messages_place, kind_place, found_place};
 
+use meaning::{Heard, Requested};
+
 // The questions about tables.
 #[derive(Clone, Copy)]
 pub enum TableKind {
@@ -219,8 +221,14 @@ impl MessageKind {
     {
         let first = numbers[0];
         match self {
-            MessageKind::WriteRequest => matches!(first, 48 | 63 | 64 | 79),
-            MessageKind::WriteReply => matches!(first, 1 | 2 | 3),
+            MessageKind::WriteRequest => matches!(
+                first,
+                Requested::FULL_READ
+                    | Requested::OFFSET_READ
+                    | Requested::FULL_WRITE
+                    | Requested::OFFSET_WRITE
+            ),
+            MessageKind::WriteReply => matches!(first, Heard::DATA | Heard::DONE | Heard::REFUSED),
             MessageKind::Serve | MessageKind::ReadRequest | MessageKind::ReadReply => true,
         }
     }

@@ -309,12 +309,40 @@ pub enum Requested {
     },
 }
 
+// As numbers, in messages and to callers: a request's kind is its first octet, and its data start there.
+// Numbers and no enum of kinds: each form has its case in `Requested`, and a number of none is judged
+// where it is read.
+impl Requested {
+    pub const FULL_READ: u64 = 0x30;
+
+    pub const OFFSET_READ: u64 = 0x3F;
+
+    pub const FULL_WRITE: u64 = 0x40;
+
+    pub const OFFSET_WRITE: u64 = 0x4F;
+
+    pub const FULL_DATA: usize = 5;
+
+    pub const OFFSET_DATA: usize = 8;
+}
+
 // A meter's reply: so many octets of data, from its octet 3 on; a write done; the octet that refuses.
 #[derive(Clone, Copy)]
 pub enum Heard {
     Data { count: usize },
     Done,
     Refused(u32),
+}
+
+// As numbers, to callers: a reply's kind, and where a read's data start in it.
+impl Heard {
+    pub const DATA: u64 = 1;
+
+    pub const DONE: u64 = 2;
+
+    pub const REFUSED: u64 = 3;
+
+    pub const DATA_START: usize = 3;
 }
 
 // A request that was read, in numbers, for callers that know no enum; C has this very struct. The octet that refuses it, 0 where none does; its kind, which is its first

@@ -69,8 +69,8 @@ pub fn request_data<'a>(request: &'a [u8]) -> &'a [u8]
 {
     match requests::read(request) {
         Ok(Requested::FullWrite { id: _, count }) => {
-            let end = requests::FULL_DATA + count;
-            &request[requests::FULL_DATA..end]
+            let end = Requested::FULL_DATA + count;
+            &request[Requested::FULL_DATA..end]
         }
         Ok(
             Requested::OffsetWrite {
@@ -79,8 +79,8 @@ pub fn request_data<'a>(request: &'a [u8]) -> &'a [u8]
                 count,
             },
         ) => {
-            let end = requests::OFFSET_DATA + count;
-            &request[requests::OFFSET_DATA..end]
+            let end = Requested::OFFSET_DATA + count;
+            &request[Requested::OFFSET_DATA..end]
         }
         Ok(Requested::FullRead { .. }) => &request[0..0],
         Ok(Requested::OffsetRead { .. }) => &request[0..0],
@@ -101,10 +101,10 @@ pub fn write_request(
     ensures room { room.new ≡ request_room (request_of kind id offset count new.now) room.old }
 {
     match kind {
-        requests::FULL_READ => requests::send_full_read(id, room),
-        requests::OFFSET_READ => requests::send_offset_read(id, offset, count, room),
-        requests::FULL_WRITE => requests::send_full_write(id, new, room),
-        requests::OFFSET_WRITE => requests::send_offset_write(id, offset, new, room),
+        Requested::FULL_READ => requests::send_full_read(id, room),
+        Requested::OFFSET_READ => requests::send_offset_read(id, offset, count, room),
+        Requested::FULL_WRITE => requests::send_full_write(id, new, room),
+        Requested::OFFSET_WRITE => requests::send_offset_write(id, offset, new, room),
         _ => Err(Refusal::NO_ROOM),
     }
 }
@@ -123,8 +123,8 @@ pub fn reply_data<'a>(reply: &'a [u8]) -> &'a [u8]
 {
     match replying::read(reply) {
         Ok(Heard::Data { count }) => {
-            let end = replying::DATA + count;
-            &reply[replying::DATA..end]
+            let end = Heard::DATA_START + count;
+            &reply[Heard::DATA_START..end]
         }
         Ok(Heard::Done) => &reply[0..0],
         Ok(Heard::Refused(_)) => &reply[0..0],
@@ -138,9 +138,9 @@ pub fn write_reply(kind: u64, code: u64, new: &[u8], room: &mut [u8]) -> Reply
     ensures room { room.new ≡ reply_room (reply_of kind code new.now) room.old }
 {
     match kind {
-        1 => replying::send_data(new, room),
-        2 => replying::send_done(room),
-        3 => replying::send_refusal(code, room),
+        Heard::DATA => replying::send_data(new, room),
+        Heard::DONE => replying::send_done(room),
+        Heard::REFUSED => replying::send_refusal(code, room),
         _ => Err(Refusal::NO_ROOM),
     }
 }
@@ -179,25 +179,25 @@ pub fn serve(description: &[u8], image: &mut [u8], request: &[u8], room: &mut [u
             reply_part(image, place, room)
         }
         Ok(Requested::FullWrite { id, count }) => {
-            let end = requests::FULL_DATA + count;
+            let end = Requested::FULL_DATA + count;
             let verdict = access::write_table(
                 description,
                 image,
                 id / MANUFACTURER,
                 id % MANUFACTURER,
-                &request[requests::FULL_DATA..end],
+                &request[Requested::FULL_DATA..end],
             );
             reply_verdict(verdict, room)
         }
         Ok(Requested::OffsetWrite { id, offset, count }) => {
-            let end = requests::OFFSET_DATA + count;
+            let end = Requested::OFFSET_DATA + count;
             let verdict = access::write_range(
                 description,
                 image,
                 id / MANUFACTURER,
                 id % MANUFACTURER,
                 TableOffset::new(offset),
-                &request[requests::OFFSET_DATA..end],
+                &request[Requested::OFFSET_DATA..end],
             );
             reply_verdict(verdict, room)
         }

@@ -11,9 +11,6 @@ const GOOD: u8 = 0;
 
 const LAST: u64 = 4;
 
-// Where data start.
-pub(crate) const DATA: usize = 3;
-
 // READING
 // A reply of one octet.
 fn read_short(only: u8) -> Result<Heard, Refusal>

@@ -8,20 +8,6 @@ ghost use Rattle.messages.specs.Messages.{IsPut};
 use crate::{check, room};
 use meaning::{Answer, Refusal, Reply, Requested};
 
-// The kinds, each the first octet of its requests.
-pub(crate) const FULL_READ: u64 = 48;
-
-pub(crate) const OFFSET_READ: u64 = 63;
-
-pub(crate) const FULL_WRITE: u64 = 64;
-
-pub(crate) const OFFSET_WRITE: u64 = 79;
-
-// Where a write's data start.
-pub(crate) const FULL_DATA: usize = 5;
-
-pub(crate) const OFFSET_DATA: usize = 8;
-
 // The most that fits an id or a count, and an offset.
 const TWO_OCTETS: u64 = 65535;
 
@@ -102,10 +88,10 @@ pub(crate) fn read(request: &[u8]) -> Result<Requested, u32>
         return Err(FAULTY);
     }
     match request[0] as u64 {
-        FULL_READ => read_full_read(request),
-        OFFSET_READ => read_offset_read(request),
-        FULL_WRITE => read_full_write(request),
-        OFFSET_WRITE => read_offset_write(request),
+        Requested::FULL_READ => read_full_read(request),
+        Requested::OFFSET_READ => read_offset_read(request),
+        Requested::FULL_WRITE => read_full_write(request),
+        Requested::OFFSET_WRITE => read_offset_write(request),
         _ => Err(UNKNOWN),
     }
 }
@@ -134,7 +120,7 @@ pub(crate) fn send_full_read(id: u64, room: &mut [u8]) -> Reply
     ensures room { room.new ≡ write_request_room (full_read id) room.old }
 {
     if basics::both(id <= TWO_OCTETS, 3 <= room.len()) {
-        return Ok(Answer::Total(put_head(room, FULL_READ as u8, id)));
+        return Ok(Answer::Total(put_head(room, Requested::FULL_READ as u8, id)));
     }
     Err(Refusal::NO_ROOM)
 }
@@ -148,7 +134,7 @@ pub(crate) fn send_offset_read(id: u64, offset: u64, count: u64, room: &mut [u8]
         basics::both(offset <= THREE_OCTETS, count <= TWO_OCTETS),
     );
     if basics::both(fits, 8 <= room.len()) {
-        let behind_offset = put_offset_head(room, OFFSET_READ as u8, id, offset);
+        let behind_offset = put_offset_head(room, Requested::OFFSET_READ as u8, id, offset);
         return Ok(Answer::Total(room::put_number(room, behind_offset, 2, count)));
     }
     Err(Refusal::NO_ROOM)
@@ -160,7 +146,7 @@ pub(crate) fn send_full_write(id: u64, new: &[u8], room: &mut [u8]) -> Reply
 {
     let fits = basics::both(id <= TWO_OCTETS, new.len() as u64 <= TWO_OCTETS);
     if basics::both(fits, basics::ends_within(6, new.len(), room.len())) {
-        let behind_id = put_head(room, FULL_WRITE as u8, id);
+        let behind_id = put_head(room, Requested::FULL_WRITE as u8, id);
         return Ok(Answer::Total(room::put_counted(room, behind_id, new)));
     }
     Err(Refusal::NO_ROOM)
@@ -175,7 +161,7 @@ pub(crate) fn send_offset_write(id: u64, offset: u64, new: &[u8], room: &mut [u8
         basics::both(offset <= THREE_OCTETS, new.len() as u64 <= TWO_OCTETS),
     );
     if basics::both(fits, basics::ends_within(9, new.len(), room.len())) {
-        let behind_offset = put_offset_head(room, OFFSET_WRITE as u8, id, offset);
+        let behind_offset = put_offset_head(room, Requested::OFFSET_WRITE as u8, id, offset);
         return Ok(Answer::Total(room::put_counted(room, behind_offset, new)));
     }
     Err(Refusal::NO_ROOM)

@@ -118,30 +118,30 @@ pub fn request_told(requested: Result<Requested, u32>) -> RequestTold
             ..NO_REQUEST
         },
         Ok(Requested::FullRead { id }) => RequestTold {
-            kind: 48,
+            kind: Requested::FULL_READ,
             id: id as u64,
             ..NO_REQUEST
         },
         Ok(Requested::OffsetRead { id, offset, count }) => RequestTold {
-            kind: 63,
+            kind: Requested::OFFSET_READ,
             id: id as u64,
             offset: offset as u64,
             count: count as u64,
             ..NO_REQUEST
         },
         Ok(Requested::FullWrite { id, count }) => RequestTold {
-            kind: 64,
+            kind: Requested::FULL_WRITE,
             id: id as u64,
             count: count as u64,
-            start: 5,
+            start: Requested::FULL_DATA as u64,
             ..NO_REQUEST
         },
         Ok(Requested::OffsetWrite { id, offset, count }) => RequestTold {
-            kind: 79,
+            kind: Requested::OFFSET_WRITE,
             id: id as u64,
             offset: offset as u64,
             count: count as u64,
-            start: 8,
+            start: Requested::OFFSET_DATA as u64,
             ..NO_REQUEST
         },
     }
@@ -157,17 +157,17 @@ pub fn reply_told(heard: Result<Heard, Refusal>) -> ReplyTold
             ..NO_REPLY
         },
         Ok(Heard::Data { count }) => ReplyTold {
-            kind: 1,
+            kind: Heard::DATA,
             count: count as u64,
-            start: 3,
+            start: Heard::DATA_START as u64,
             ..NO_REPLY
         },
         Ok(Heard::Done) => ReplyTold {
-            kind: 2,
+            kind: Heard::DONE,
             ..NO_REPLY
         },
         Ok(Heard::Refused(code)) => ReplyTold {
-            kind: 3,
+            kind: Heard::REFUSED,
             code: code as u64,
             ..NO_REPLY
         },
