@@ -1,7 +1,8 @@
 // The few words that the layers share: tests joined, an octet as a number, bits of a number, the lesser
 // of two, and whether octets end within a size.
 //
-// `a && b` in an `if` leaves two ways to its `else`, and a proof has to go both; these have one.
+// `a && b` is the plain form, and stands wherever the check goes its ways by itself. In an `if` it leaves
+// two ways to its `else`, and some proofs in places and messages have to go both; these have one.
 #![tactic(auto)]
 
 ghost use Rattle.std.specs.Prelude.{◌≡◌, ◌&&◌, ◌||◌, ◌+◌, ◌/◌, ◌%◌, ◌^◌, ◌<◌, min, leb};
@@ -18,7 +19,7 @@ pub fn either(a: bool, b: bool) -> bool
     a || b
 }
 
-// A cast with a name: what reads an octet through it need not show that the octet fits.
+// A cast with a name, and no `u32::from`: what reads an octet through it need not show that the octet fits.
 pub fn wide(x: u8) -> u32
     ensures { (result ≡ x) × (result < 256) }
 {
@@ -40,13 +41,15 @@ pub fn bit_range(number: u32, low: u32, width: u32) -> u32
     (above % m) as u32
 }
 
+// The library's `min`, by the name that docs/STATEMENTS.md has.
 pub fn least(a: usize, b: usize) -> usize
     ensures { result ≡ min a b }
 {
     a.min(b)
 }
 
-// Whether so many octets from `at` on end within a size. The sum is not made, as it could wrap.
+// Whether so many octets from `at` on end within a size. The sum is not made, as it could wrap; by
+// `checked_add` the test would be longer.
 pub fn ends_within(at: usize, octets: usize, size: usize) -> bool
     ensures { result ≡ leb (at + octets) size }
 {

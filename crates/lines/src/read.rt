@@ -6,7 +6,7 @@ ghost use Rattle.lines.specs.Read.{OfSeven, numbers_of, PartRead, AskedRead};
 
 use crate::memory::{Memory, OCTETS};
 use crate::rows::Form;
-use meaning::{Date, ElementName, Moment};
+use meaning::{Date, ElementName, Moment, TableName};
 use words::Words;
 
 // A line that is taken, and where its words are.
@@ -103,16 +103,10 @@ pub fn read_asked(line: Line<'_>, form: Form, memory: &mut Memory) -> Option<Ask
     })
 }
 
-// What numbers name. These are no `From`: all but the first are types of crate meaning, and an
-// array's impl for them may stand neither here nor there.
+// What numbers name. These are no `From`: the types are crate meaning's, and an array's impl for them
+// may stand neither here nor there.
 
 // A table by its two numbers.
-#[derive(Clone, Copy)]
-pub struct TableName {
-    pub manufacturer: u32,
-    pub number: u32,
-}
-
 pub fn table(n: [u64; 7]) -> TableName
     requires n_bound { get_or n 0 0 ≤ 1 }
     requires n_bound_2 { get_or n 1 0 ≤ 65535 }

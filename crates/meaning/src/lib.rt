@@ -16,7 +16,8 @@ pub enum Kind {
     If,
 }
 
-// What an item of a description says, each field 0 where its kind has none.
+// What an item of a description says, each field 0 where its kind has none. One struct and no case for each kind: the rules and their theorems (FieldsRange, demand 3)
+// ask for a field of any item. A table's manufacturer is a number, as it is asked for by any number.
 #[derive(Clone, Copy)]
 pub struct Fields {
     pub kind: Kind,
@@ -70,7 +71,15 @@ pub struct Round {
     pub nests: u32,
 }
 
-// The name of an element: its item, and one subscript for each ARRAY round it, outermost first. Places past the count aren't read.
+// The name of a table.
+#[derive(Clone, Copy)]
+pub struct TableName {
+    pub manufacturer: u32,
+    pub number: u32,
+}
+
+// The name of an element: its item, and one subscript for each ARRAY round it, outermost first. Places past the count aren't read. A count beside four places and no
+// slice: the definitions (`subscripts_of`, SameName of crate demands) speak of these fields, and memory is fixed.
 #[derive(Clone, Copy)]
 pub struct ElementName {
     pub item: usize,
@@ -136,8 +145,8 @@ pub struct Entry {
 // A record may bring nothing.
 pub type Chosen = Option<Entry>;
 
-// Why a question is refused: the number of document 01 or 02, and what it reports, an item, an octet and a subscript's depth, each 0 where it reports none. C has this very struct. The numbers that
-// report nothing have their names here; specs/Numbers.antt has the same names, for the definitions.
+// Why a question is refused: the number of document 01 or 02, and what it reports, an item, an octet and a subscript's depth, each 0 where it reports none. C has this very struct, so it is numbers and no enum. The
+// numbers that report nothing have their names here; specs/Numbers.antt has the same names, for the definitions.
 #[repr(C)]
 #[derive(Clone, Copy)]
 pub struct Refusal {

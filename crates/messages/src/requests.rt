@@ -13,7 +13,8 @@ const TWO_OCTETS: u64 = 65535;
 
 const THREE_OCTETS: u64 = 16777215;
 
-// The octets that refuse a request.
+// The octets that refuse a request: numbers and no enum, as the definitions (not_request, refuses) take the
+// octet itself.
 const FAULTY: u32 = 1;
 
 const UNKNOWN: u32 = 2;
@@ -96,7 +97,8 @@ pub(crate) fn read(request: &[u8]) -> Result<Requested, u32>
     }
 }
 
-// WRITING
+// WRITING. A function for each form: the forms differ in what is put and in what has to fit, and one
+// function over them would choose at each of those steps.
 // Kind and id.
 fn put_head(room: &mut [u8], kind: u8, id: u64) -> usize
     requires { 3 ≤ length room.old }

@@ -1,4 +1,5 @@
-// A message put together in the room lent, field by field: each goes behind the one before.
+// A message put together in the room lent, field by field: each goes behind the one before. Room and place
+// are no struct: the room is the caller's, and `IsPut`, which every clause here is, speaks of both.
 ghost use Rattle.std.specs.Prelude.{◌+◌, ◌≤◌, [], ◌∷◌, length};
 ghost use Rattle.meaning.specs.Messages.{in_octets, counted};
 ghost use Rattle.messages.specs.Messages.{IsPut};

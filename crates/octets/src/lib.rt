@@ -14,7 +14,8 @@ ghost use Rattle.octets.specs.Octets.{number_of, number_read, put, place_of, rep
 use basics::{ends_within, wide};
 use offsets::ImageOffset;
 
-// DATA_ORDER: bit 0 of the image's first octet. 0 is least significant octet first.
+// DATA_ORDER: bit 0 of the image's first octet. 0 is least significant octet first. A number and no
+// enum: the definitions (data_order, number_in, octets_in) take the bit as it stands in the image.
 pub fn data_order(image: &[u8]) -> u32
     ensures { result ≡ data_order image.now }
 {

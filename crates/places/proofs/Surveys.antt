@@ -39,7 +39,7 @@ use Rattle.places.specs.declared.survey.Answer.{Answer}
 use Rattle.places.specs.declared.survey.Asked.{Asked}
 use Rattle.places.specs.declared.survey.Standing.{Standing}
 use Rattle.places.specs.declared.survey.Survey.{Survey}
-use Rattle.places.specs.declared.survey.TableName.{TableName}
+use Rattle.meaning.specs.declared.TableName.{TableName}
 use Rattle.places.specs.declared.survey.TableSpot.{TableSpot}
 use Rattle.places.specs.declared.walk.Aim.{Aim}
 use Rattle.places.specs.declared.walk.Walk.{Walk}

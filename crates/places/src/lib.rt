@@ -19,10 +19,10 @@ ghost use Rattle.meaning.specs.Refusals.{layout_reply, table_place_reply, elemen
 ghost use Rattle.places.specs.Rows.{Few};
 ghost use Rattle.places.specs.Opening.{found_by, nothing_asked, found_place, range_in};
 
-use meaning::{ElementName, Location, Place, Refusal, Reply};
+use meaning::{ElementName, Location, Place, Refusal, Reply, TableName};
 use offsets::{TableOffset, TableStart};
 use rows::{Extent, reached};
-use survey::{Answer, Asked, Standing, TableName, TableSpot, open_image};
+use survey::{Answer, Asked, Standing, TableSpot, open_image};
 use why::{suits, why_none};
 
 // Where two tables are.

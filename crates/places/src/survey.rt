@@ -10,7 +10,7 @@ use crate::rows::Row;
 use crate::walk::{Aim, Walk, walk_body};
 use basics::ends_within;
 use items::{Cursor, Read};
-use meaning::{Fields, Refusal};
+use meaning::{Fields, Refusal, TableName};
 use offsets::{TableOffset, TableStart};
 
 // Where a table is: its item, where it starts, how long it is.
@@ -19,13 +19,6 @@ pub struct TableSpot {
     pub item: usize,
     pub start: TableStart,
     pub length: usize,
-}
-
-// The name of a table.
-#[derive(Clone, Copy)]
-pub struct TableName {
-    pub manufacturer: u32,
-    pub number: u32,
 }
 
 // What is asked for: two tables, the row of an item, and whether so many octets of the first table,

@@ -55,7 +55,8 @@ const NO_REPLY: ReplyTold = ReplyTold {
     start: 0,
 };
 
-// A reply in numbers.
+// A reply in numbers. This and the next are no `From`: reply, verdict and place are the library's Result,
+// and their impls may not stand here; crate unique states of each function that a call has one reply.
 pub fn told(reply: Reply) -> Told
     ensures { result ≡ told_by reply }
 {

@@ -42,7 +42,8 @@ fn is_table_named(f: Fields, manufacturer: u32, number: u32) -> bool
 }
 
 // WHAT EARLIER ITEMS GAVE
-// The slots are kept as their octets, 0 for a slot that isn't set: the octets of slot s.
+// The slots are kept as their octets, 0 for a slot that isn't set, as the definition (slot_octets) has
+// it: the octets of slot s.
 fn octets_of_slot(slots: &[u8; 64], s: usize) -> u32
     requires { s < 64 }
     ensures { (result ≡ get_or slots.now s 0) × (result < 256) }
@@ -164,7 +165,7 @@ fn breaks7(d: &[u8], f: Fields, i: usize, slots: &[u8; 64]) -> bool
     0 < slot && 8 * octets_of_slot(slots, slot) < f.low + f.width
 }
 
-// The lowest number of the rules that item i breaks, 0 for none.
+// The lowest number of the rules that item i breaks, 0 for none, as the definition of that name has it.
 fn lowest_broken(d: &[u8], f: Fields, i: usize, r: Round, slots: &[u8; 64]) -> u32
     requires { There d.now i × FieldsRange f × Known d.now i slots.now }
     ensures { result ≡ lowest_broken d.now f i r }
@@ -243,6 +244,7 @@ fn check_body(
 {
     let mut place = from;
     let mut set = slots;
+    // No `for`: the next place is past all that is nested in an item.
     while place.item() < r.limit {
         let judged = judge(d, place, r, &set)?;
         let f = judged.fields;
