@@ -46,7 +46,8 @@ pub struct Asked {
 }
 
 // What a line lends the row that it asks for, beside the image: the octets of D, the numbers and the
-// octets of DATA.
+// octets of DATA. That the numbers are within the row's limits is a clause, `Within`, as it speaks of the
+// row too.
 #[derive(Clone, Copy)]
 pub struct Operands<'a> {
     pub d: &'a [u8],

@@ -80,7 +80,8 @@ pub fn kind_of(name: &[u8]) -> Option<Kind>
 
 // The form of a line: how many words it has; how many of octets stand behind the name, none, D, or D
 // and M; how many numbers stand behind those, and the most that each may come to; whether DATA stands
-// last. And its reply: how many numbers it tells, whether octets, whether the image afterwards.
+// last. And its reply: how many numbers it tells, whether octets, whether the image afterwards. Counts and
+// no enums: the table of specs/Answer.antt has these numbers.
 #[derive(Clone, Copy)]
 pub struct Form {
     pub words: usize,

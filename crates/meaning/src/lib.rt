@@ -17,7 +17,8 @@ pub enum Kind {
 }
 
 // What an item of a description says, each field 0 where its kind has none. One struct and no case for each kind: the rules and their theorems (FieldsRange, demand 3)
-// ask for a field of any item. A table's manufacturer is a number, as it is asked for by any number.
+// ask for a field of any item. A table's manufacturer is a number, as it is asked for by any number. That the numbers are in range (FieldsRange) is asked by clauses and
+// is no ghost field: the definitions make items too, and each would have to hold its proof.
 #[derive(Clone, Copy)]
 pub struct Fields {
     pub kind: Kind,

@@ -1,5 +1,5 @@
 -- What one turn of the check leaves known: the slots after an item, what stands round the items of its bodies, and how bodies join. Assumes nothing.
-use Prim.Native.Nat.{ℕ, ◌+◌, ◌-◌, ◌<◌, ◌≤◌}
+use Prim.Native.Nat.{ℕ, zero, suc, ◌+◌, ◌-◌, ◌<◌, ◌≤◌}
 use mathlib.Core.Path.{◌≡◌, refl, ◌∙◌, ap, sym, subst, subst₂}
 use mathlib.Core.List.{List}
 use mathlib.Core.Bool.{Bool, true, false, cond, ◌&&◌}
@@ -21,7 +21,9 @@ use Rattle.items.specs.Read.{read_at}
 use Rattle.items.proofs.ReadLaws.{range_read, fields_read, next_read}
 use Rattle.meaning.specs.declared.Refusal.{Refusal}
 use Rattle.meaning.specs.Numbers.{breaks_rule}
-use Rattle.sound.specs.Walk.{Known, noted, Kept, Told, LevelsLeft, Fine, Quiet, Before, Entered, Clear, Broken, Going, Turn}
+use Rattle.std.specs.Prelude.{Some, None}
+use Rattle.meaning.proofs.Either.{clash}
+use Rattle.sound.specs.Walk.{Known, noted, rule_of, Kept, Told, LevelsLeft, Fine, Quiet, Before, Entered, Clear, Broken, Going, Turn}
 
 -- THE SLOTS
 -- a test on the octets of a slot that an item names
@@ -63,6 +65,17 @@ module _ (d : List ℕ) (at : ℕ) (slots : List ℕ) (k : Known d at slots) (sm
             size = length-set slots (fields_at d at).sets (fields_at d at).octets ∙ k.size;
             octets = λ s p q. set_known s p q (eqb (fields_at d at).sets s) refl ∙ sym (slot_step d at s);
           }
+
+-- THE RULE TOLD
+pub rule_none : (n : ℕ) → rule_of n ≡ None → n ≡ 0
+unfolding rule_of
+rule_none zero e = refl
+rule_none (suc n) e = clash (cc)
+
+pub rule_some : (n x : ℕ) → rule_of n ≡ Some x → (x ≡ n) × (x ≡ 0 → ⊥)
+unfolding rule_of
+rule_some zero x e = clash (cc)
+rule_some (suc n) x e = let same : x ≡ suc n = cc in (same, λ z. omega (arith, same))
 
 -- ONE ITEM READ AND JUDGED
 module _ (d : List ℕ) (at : ℕ) (r : Round) (h : at < item_count d) {read : Read} {rule : ℕ} (er : read ≡ read_at d at) (e : rule ≡ lowest_broken d read.fields at r) where

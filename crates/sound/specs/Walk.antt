@@ -1,5 +1,5 @@
 -- What the recursive check carries, in terms of the rules: for the contracts of the functions below the public call. Assumes nothing.
-use Rattle.std.specs.Prelude.{ℕ, ◌+◌, ◌-◌, ◌<◌, ◌≤◌, List, ◌≡◌, length, get_or, set, if◌then◌else◌, Result, Ok, Err}
+use Rattle.std.specs.Prelude.{ℕ, ◌+◌, ◌-◌, ◌<◌, ◌≤◌, List, ◌≡◌, length, get_or, set, if◌then◌else◌, Result, Ok, Err, Option, Some, None, zero, suc}
 use Rattle.items.specs.declared.Read.{Read}
 use Rattle.meaning.specs.declared.Refusal.{Refusal}
 use Rattle.meaning.specs.Numbers.{breaks_rule}
@@ -24,6 +24,11 @@ noted slots f = if f.sets =? 0 then slots else set slots f.sets f.octets
 pub record Known (d : List ℕ) (k : ℕ) (slots : List ℕ) : Type 0 where
   pub size : length slots ≡ 64
   pub octets : (s : ℕ) → 0 < s → s < 64 → get_or slots s 0 ≡ slot_octets d k s
+
+-- a rule by its number, of which 0 is none
+unfoldable pub rule_of : ℕ → Option ℕ
+rule_of zero = None
+rule_of (suc n) = Some (suc n)
 
 -- item `at`, with r round it, was judged: it is read and breaks no rule
 pub record Kept (d : List ℕ) (at : ℕ) (r : Round) (j : Read) : Type 0 where

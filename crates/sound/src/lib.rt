@@ -3,13 +3,13 @@
 // Any octets get an answer: passed, or refused by 1 for their length, or by 2 to 7 with the first
 // item that breaks a rule. No memory is written. The definitions say the rules flat, item by item;
 // the code goes down into bodies, so that what encloses an item is at hand.
-#![tactic(auto, unfolding(meaning::specs::Description::breaks1, meaning::specs::Description::breaks2, meaning::specs::Description::breaks3, meaning::specs::Description::breaks4, meaning::specs::Description::breaks5, meaning::specs::Description::is_table00, meaning::specs::Description::is_data_order, meaning::specs::Description::misplaced, meaning::specs::Description::inside, meaning::specs::Description::lowest_broken, crate::specs::Walk::noted))]
+#![tactic(auto, unfolding(meaning::specs::Description::breaks1, meaning::specs::Description::breaks2, meaning::specs::Description::breaks3, meaning::specs::Description::breaks4, meaning::specs::Description::breaks5, meaning::specs::Description::is_table00, meaning::specs::Description::is_data_order, meaning::specs::Description::misplaced, meaning::specs::Description::inside, meaning::specs::Description::lowest_broken, crate::specs::Walk::noted, crate::specs::Walk::rule_of))]
 
 ghost use Rattle.std.specs.Prelude.{◌≡◌, ◌&&◌, ◌+◌, ◌<◌, ◌≤◌, length, get_or, if◌then◌else◌};
 ghost use Rattle.meaning.specs.Basics.{◌<?◌};
 ghost use Rattle.meaning.specs.Ranges.{FieldsRange};
 ghost use Rattle.meaning.specs.Description.{item_count, is_table, nests, is_dimension, is_table_named, is_table00, is_data_order, misplaced, count, inside, table_given, breaks1, breaks2, breaks3, breaks4, breaks5, breaks6, breaks7, lowest_broken, check_reply};
-ghost use Rattle.sound.specs.Walk.{There, Known, noted, Before, JudgedAs, CheckedAs};
+ghost use Rattle.sound.specs.Walk.{There, Known, noted, rule_of, Before, JudgedAs, CheckedAs};
 
 use basics::wide;
 use items::{Cursor, Read, nests};
@@ -165,30 +165,31 @@ fn breaks7(d: &[u8], f: Fields, i: usize, slots: &[u8; 64]) -> bool
     0 < slot && 8 * octets_of_slot(slots, slot) < f.low + f.width
 }
 
-// The lowest number of the rules that item i breaks, 0 for none, as the definition of that name has it.
-fn lowest_broken(d: &[u8], f: Fields, i: usize, r: Round, slots: &[u8; 64]) -> u32
+// The lowest number of the rules that item i breaks; none where it keeps them all, of which the
+// definition makes 0.
+fn lowest_broken(d: &[u8], f: Fields, i: usize, r: Round, slots: &[u8; 64]) -> Option<u32>
     requires { There d.now i × FieldsRange f × Known d.now i slots.now }
-    ensures { result ≡ lowest_broken d.now f i r }
+    ensures { result ≡ rule_of (lowest_broken d.now f i r) }
 {
     if breaks2(f) {
-        return 2;
+        return Some(2);
     }
     if breaks3(f, i, r) {
-        return 3;
+        return Some(3);
     }
     if breaks4(f, i, r) {
-        return 4;
+        return Some(4);
     }
     if breaks5(f, r) {
-        return 5;
+        return Some(5);
     }
     if breaks6(d, f, i, slots) {
-        return 6;
+        return Some(6);
     }
     if breaks7(d, f, i, slots) {
-        return 7;
+        return Some(7);
     }
-    0
+    None
 }
 
 // THE CHECK
@@ -199,15 +200,14 @@ fn judge(d: &[u8], place: Cursor, r: Round, slots: &[u8; 64]) -> Result<Read, Re
 {
     let read = place.read(d);
     let item = place.item();
-    let rule = lowest_broken(d, read.fields, item, r, slots);
-    if rule == 0 {
-        return Ok(read);
+    match lowest_broken(d, read.fields, item, r, slots) {
+        None => Ok(read),
+        Some(rule) => Err(Refusal {
+            number: rule as u64,
+            item: item as u64,
+            ..Refusal::NONE
+        }),
     }
-    Err(Refusal {
-        number: rule as u64,
-        item: item as u64,
-        ..Refusal::NONE
-    })
 }
 
 // Inside item f too, in its body that ends before item `end`.
