@@ -1,8 +1,7 @@
 // Records of Table 54, three octets each: what a record brings to whoever asks, and the latest of
 // what some records bring.
 //
-// Any octets may be given; one or two past the last whole record aren't read. Tests are joined by
-// functions without a branch, so that the proofs have few cases.
+// Any octets may be given; one or two past the last whole record aren't read.
 #![tactic(auto)]
 
 ghost use Rattle.std.specs.Prelude.{◌≡◌};
