@@ -48,13 +48,9 @@ pub fn least(a: usize, b: usize) -> usize
     a.min(b)
 }
 
-// Whether so many octets from `at` on end within a size. The sum is not made, as it could wrap; by
-// `checked_add` the test would be longer.
+// Whether so many octets from `at` on end within a size.
 pub fn ends_within(at: usize, octets: usize, size: usize) -> bool
     ensures { result ≡ leb (at + octets) size }
 {
-    if size < at {
-        return false;
-    }
-    octets <= size - at
+    at.checked_add(octets).is_some_and(|end| end <= size)
 }

@@ -72,7 +72,8 @@ fn month_days(year: u32, month: u32) -> u32
 }
 
 // A day's number, 1 January 1990 being 0; none where there is no such date. It is worked out at once: it
-// takes as long for every date.
+// takes as long for every date. Three numbers and no Date, as crate unique states it: records and moments
+// have no Date to give.
 #[tactic(auto, using(almanac::proofs::Days::real, crate::proofs::Laws::day_fits), unfolding(crate::specs::Days::day_of, meaning::specs::Calendar::day_number))]
 pub fn day_of(year: u32, month: u32, day: u32) -> Option<u32>
     ensures { result ≡ day_of year month day }

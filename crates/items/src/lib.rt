@@ -1,7 +1,7 @@
 // What the items of a description say, read from its octets at a place that moves on by whole items.
 //
-// Nothing is refused here: a word that is no item reads as malformed, of kind 0, and so does what
-// stands past the last item. A place can't be made elsewhere: callers start before the first item
+// Nothing is refused here: a word that is no item reads as malformed, and so does what stands past
+// the last item. A place can't be made elsewhere: callers start before the first item
 // and move on from there.
 #![tactic(auto, unfolding(meaning::specs::Description::octets_of_code, meaning::specs::Description::table_of, meaning::specs::Description::uint_of, meaning::specs::Description::block_of, meaning::specs::Description::set_of, meaning::specs::Description::array_of, meaning::specs::Description::if_of, meaning::specs::Description::fields_of, crate::specs::Read::read_at))]
 
@@ -157,7 +157,8 @@ fn fields_of(word: u32) -> Fields
     }
 }
 
-// Whether an item is a choice, which takes one of its bodies.
+// Whether an item is a choice, which takes one of its bodies. Here and in the crates above, the tests of a
+// kind that contracts speak of have their definitions' names, each a line; elsewhere a match is on the kind.
 pub fn is_choice(f: Fields) -> bool
     ensures { result ≡ is_choice f }
 {
@@ -171,7 +172,8 @@ pub fn nests(f: Fields) -> bool
     f.kind == Kind::Array || is_choice(f)
 }
 
-// A place in a description: before item `at`.
+// A place in a description: before item `at`. A value and no Iterator, as document 01 names it: walks also
+// step over what is nested in an item. So a loop over items moves a place on.
 #[derive(Clone, Copy)]
 pub struct Cursor {
     at: usize,

@@ -4,7 +4,8 @@
 
 use offsets::ImageOffset;
 
-// What an item of a description is.
+// What an item of a description is. `Malformed` is none of document 01's kinds, and the fields are no Option of an item: rule 2 and the definitions (malformed, breaks2) ask
+// for the fields of any word.
 #[derive(Clone, Copy, PartialEq, Eq)]
 pub enum Kind {
     Malformed,
@@ -96,7 +97,7 @@ pub struct Date {
     pub day: u32,
 }
 
-// A date and a time of day.
+// A date and a time of day. Flat, with no Date in it: the definitions and the demands speak of its fields.
 #[derive(Clone, Copy)]
 pub struct Moment {
     pub year: u32,
@@ -344,7 +345,7 @@ pub enum Heard {
     Refused(u32),
 }
 
-// As numbers, to callers: a reply's kind, and where a read's data start in it.
+// As numbers, to callers that know no enum (ReplyTold): a reply's kind, and where a read's data start in it.
 impl Heard {
     pub const DATA: u64 = 1;
 

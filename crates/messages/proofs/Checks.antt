@@ -1,5 +1,5 @@
 -- What the check octet sums, octet by octet; numbers of a message; and data with their count before them and the check octet behind them, case by case. Assumes nothing.
-use Rattle.std.proofs.Common.{◌≡◌, ℕ, zero, suc, ◌+◌, ◌-◌, ◌^◌, ◌<◌, ◌≤◌, false, List, [], ◌∷◌, length, get_or, take, drop, sym, ◌∙◌, subst, le_of_suc-le-suc, not-suc-le-zero, add-one, arith, eq-eqb, ne_eqb}
+use Rattle.std.proofs.Common.{◌≡◌, refl, ℕ, zero, suc, ◌+◌, ◌-◌, ◌^◌, ◌<◌, ◌≤◌, false, List, [], ◌∷◌, length, get_or, take, drop, sym, ◌∙◌, subst, le_of_suc-le-suc, not-suc-le-zero, add-one, arith, eq-eqb, ne_eqb}
 use mathlib.Core.Bool.{and-false}
 use Rattle.meaning.specs.Basics.{◌=?◌, part, number_in}
 use Rattle.meaning.specs.Messages.{number_from, sum_of, check_octet, data_from, is_counted}
@@ -7,7 +7,24 @@ use Rattle.meaning.proofs.Splices.{part_long}
 use Rattle.octets.specs.Octets.{number_of}
 use Rattle.octets.proofs.Laws.{number_few}
 use Rattle.messages.specs.Messages.{Stands, CountedAs}
-use Rattle.std.specs.Prelude.{Some, None, Option}
+use Rattle.std.specs.Prelude.{Some, None, Option, Result, Ok, Err}
+use Rattle.std.specs.Option.{ok_or}
+use Rattle.meaning.proofs.Either.{clash}
+
+-- a count, or what is refused in its place, taken apart
+pub count_missing : {E : Type 0} {v : Option ℕ} {r : Result ℕ E} (e : E) {x : E} → r ≡ ok_or v e → r ≡ Err x → (v ≡ None) × (x ≡ e)
+count_missing {E} {v} {r} e {x} is h = go v (sym is ∙ h)
+  where
+    go : (v : Option ℕ) → ok_or v e ≡ Err x → (v ≡ None) × (x ≡ e)
+    go None h = (refl, let y : e ≡ x = cc in sym y)
+    go (Some n) h = clash (cc)
+
+pub count_there : {E : Type 0} {v : Option ℕ} {r : Result ℕ E} (e : E) {n : ℕ} → r ≡ ok_or v e → r ≡ Ok n → v ≡ Some n
+count_there {E} {v} {r} e {n} is h = go v (sym is ∙ h)
+  where
+    go : (v : Option ℕ) → ok_or v e ≡ Ok n → v ≡ Some n
+    go None h = clash (cc)
+    go (Some m) h = let y : m ≡ n = cc in rw y
 
 -- one octet more
 pub sum_more : (s : List ℕ) (i : ℕ) → i < length s → sum_of (take (i + 1) s) ≡ sum_of (take i s) + get_or s i 0

@@ -9,7 +9,7 @@ fn sum(new: &[u8]) -> u8
 {
     let mut total: u8 = 0;
     for octet in new {
-        total = std::num::wrapping_add_u8(total, *octet);
+        total = total.wrapping_add(*octet);
     }
     total
 }
@@ -18,7 +18,7 @@ fn sum(new: &[u8]) -> u8
 pub(crate) fn check_octet(new: &[u8]) -> u8
     ensures { result ≡ check_octet new.now }
 {
-    std::num::wrapping_sub_u8(0, sum(new))
+    sum(new).wrapping_neg()
 }
 
 // The number of so many octets, most significant first.

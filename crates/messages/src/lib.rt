@@ -22,7 +22,7 @@ use offsets::TableOffset;
 // A manufacturer table's id is its number plus this.
 const MANUFACTURER: u32 = 2048;
 
-// The tables' 13 replies 03, any other of theirs 04.
+// The tables' 13 replies 03, any other of theirs 04. The octet itself, as the definition (code_of) has it.
 fn code_of(refusal: Refusal) -> u64
     ensures { result ≡ code_of refusal }
 {
@@ -88,7 +88,8 @@ pub fn request_data<'a>(request: &'a [u8]) -> &'a [u8]
     }
 }
 
-// Writes a request into the room. Its kind is its first octet; what its form lacks isn't looked at.
+// Writes a request into the room. Its kind is its first octet; what its form lacks isn't looked at. The
+// numbers are no Requested, as C hands them on, and the definition (request_of) takes them.
 pub fn write_request(
     kind: u64,
     id: u64,

@@ -6,7 +6,8 @@ ghost use Rattle.meaning.specs.Messages.{holds, done, refuses, reply_in, short_r
 use crate::{check, room};
 use meaning::{Answer, Heard, Refusal, Reply};
 
-// The first octet of a reply that refuses nothing, and the last of those that refuse.
+// The first octet of a reply that refuses nothing, and the last of those that refuse. Numbers and no enum, as
+// in requests.rt: the definition (refuses) takes the octet itself.
 const GOOD: u8 = 0;
 
 const LAST: u64 = 4;
@@ -31,15 +32,11 @@ pub(crate) fn read(reply: &[u8]) -> Result<Heard, Refusal>
     if reply.len() == 1 {
         return read_short(reply[0]);
     }
-    match check::counted_from(reply, 1) {
-        Some(count) => {
-            if reply[0] == GOOD {
-                return Ok(Heard::Data { count });
-            }
-            Err(Refusal::NOT_A_REPLY)
-        }
-        None => Err(Refusal::NOT_A_REPLY),
+    let count = check::counted_from(reply, 1).ok_or(Refusal::NOT_A_REPLY)?;
+    if reply[0] == GOOD {
+        return Ok(Heard::Data { count });
     }
+    Err(Refusal::NOT_A_REPLY)
 }
 
 // WRITING

@@ -59,26 +59,22 @@ fn read_offset_read(request: &[u8]) -> Result<Requested, u32>
 fn read_full_write(request: &[u8]) -> Result<Requested, u32>
     ensures { result ≡ requested_by (request_by 0x40 request.now) }
 {
-    match check::counted_from(request, 3) {
-        None => Err(FAULTY),
-        Some(count) => Ok(Requested::FullWrite {
-            id: id_of(request),
-            count,
-        }),
-    }
+    let count = check::counted_from(request, 3).ok_or(FAULTY)?;
+    Ok(Requested::FullWrite {
+        id: id_of(request),
+        count,
+    })
 }
 
 fn read_offset_write(request: &[u8]) -> Result<Requested, u32>
     ensures { result ≡ requested_by (request_by 0x4F request.now) }
 {
-    match check::counted_from(request, 6) {
-        None => Err(FAULTY),
-        Some(count) => Ok(Requested::OffsetWrite {
-            id: id_of(request),
-            offset: offset_of(request),
-            count,
-        }),
-    }
+    let count = check::counted_from(request, 6).ok_or(FAULTY)?;
+    Ok(Requested::OffsetWrite {
+        id: id_of(request),
+        offset: offset_of(request),
+        count,
+    })
 }
 
 // What a request asks for, or the octet that refuses it.

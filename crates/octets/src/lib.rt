@@ -3,7 +3,8 @@
 //
 // Any place and any length may be given. A part ends where the image ends. A number of octets that
 // don't all lie inside the image, or of more than 8, is read as 0; what is to be written and doesn't
-// lie inside leaves the image as it was.
+// lie inside leaves the image as it was. The calls answer no Option, and take start and octets apart,
+// since docs/STATEMENTS.md states them so (number_read, put, part).
 #![tactic(auto)]
 
 ghost use Rattle.std.specs.Prelude.{◌≡◌, ◌+◌, ◌^◌, ◌<◌, ◌≤◌, min, length};
@@ -47,7 +48,8 @@ fn place_of(order: u32, n: usize, i: usize) -> usize
     i
 }
 
-// The number of some octets in a DATA_ORDER. The most significant octet is counted in first.
+// The number of some octets in a DATA_ORDER. The most significant octet is counted in first. By index: one
+// loop for both orders, where `iter` and its `rev` would be two.
 fn counted(octets: &[u8], order: u32) -> u64
     requires { length octets.now ≤ 8 }
     ensures { (result ≡ number_in order octets.now) × (result < 256 ^ length octets.now) }
@@ -104,7 +106,9 @@ pub fn fill(octets: &mut [u8], order: u32, value: u64)
     }
 }
 
-// Copies octets over as many others. Where they aren't as many, the others stay.
+// Copies octets over as many others. Where they aren't as many, the others stay. By index: of cells written
+// through `iter_mut().zip(..)` a proof knows nothing afterwards, and for `copy_from_slice` the archive for C
+// would need memmove.
 pub fn copy(new: &[u8], room: &mut [u8])
     ensures { room.new ≡ replaced room.old new.now }
 {
@@ -116,7 +120,8 @@ pub fn copy(new: &[u8], room: &mut [u8])
     }
 }
 
-// Puts octets in place of as many from `start` on.
+// Puts octets in place of as many from `start` on. That the octets lie inside is tested here, in put_number
+// and in number_at: with one function for the place's end, as an Option, each had a goal more to prove.
 pub fn put_octets(image: &mut [u8], start: ImageOffset, new: &[u8])
     ensures { image.new ≡ put image.old start.0 new.now }
 {

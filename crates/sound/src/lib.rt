@@ -35,6 +35,7 @@ fn is_dimension(f: Fields) -> bool
     0 < f.sets
 }
 
+// Two numbers and no TableName, as Fields and the definition (table_given) have them.
 fn is_table_named(f: Fields, manufacturer: u32, number: u32) -> bool
     ensures { result ≡ is_table_named f manufacturer number }
 {
@@ -150,6 +151,8 @@ fn slot_taken(f: Fields, slots: &[u8; 64]) -> bool
     is_dimension(f) && 0 < octets_of_slot(slots, sets)
 }
 
+// What is known of the slots (Known) is asked by clauses: it speaks of the description and the item as well,
+// which a struct of the slots would have to carry for the proof alone.
 fn breaks6(d: &[u8], f: Fields, i: usize, slots: &[u8; 64]) -> bool
     requires { There d.now i × FieldsRange f × Known d.now i slots.now }
     ensures { result ≡ breaks6 d.now f i }

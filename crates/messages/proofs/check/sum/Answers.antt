@@ -9,7 +9,7 @@ unfolding sum_of
 loop-octet-init c = refl
 
 pub loop-octet-preserved : goal.loop-octet-preserved
-loop-octet-preserved c = omega (arith, c.wrapping_add_u8-total.ensures, sum_more c.args.new.now c.loop-octet.octet-index (omega arith))
+loop-octet-preserved c = omega (arith, c.loop-octet.invariant, sum_more c.args.new.now c.loop-octet.octet-index (omega arith))
 
 pub returns : goal.returns
 returns c =
