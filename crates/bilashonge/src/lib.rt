@@ -2,6 +2,9 @@
 // below and hands on what its reply tells, in a struct that C knows. A refusal is the struct of the
 // layers themselves.
 //
+// A struct for each kind of answer, though some have one shape, and flags as numbers: so the C header names
+// and reads them.
+//
 // Nothing is kept. Memory is lent to be read, but for an image that is to be written, the cells of
 // the matrix and the room for a message: what those hold afterwards is stated too, for answers and
 // refusals.

@@ -223,7 +223,8 @@ impl<'a> Calendar<'a> {
         }
     }
 
-    // 19, by the special schedule and the season on the day.
+    // 19, by the special schedule and the season on the day. Day, minute and quantity are no struct: the
+    // definitions (tier_day, tier_on, tier_at) take them one by one.
     #[tactic(auto, using(crate::proofs::Laws::column_inside), unfolding(meaning::specs::Calendar::tier_on))]
     fn tier_on(
         &self,
@@ -349,7 +350,8 @@ pub fn seasoned(description: &[u8], image: &[u8], date: Date) -> Reply
     calendar.seasoned_in(date)
 }
 
-// The matrix; all cells 0 on refusal.
+// The matrix; all cells 0 on refusal. It and its refusal are two calls and no Result: crate unique states each
+// by its definition (matrix_reply, matrix_verdict).
 #[tactic(auto, unfolding(meaning::specs::Calendar::matrix_reply, meaning::specs::Calendar::matrix_in, meaning::specs::Basics::build))]
 pub fn matrix(description: &[u8], image: &[u8]) -> [[u8; 22]; 15]
     ensures { result ≡ matrix_reply description.now image.now }

@@ -8,7 +8,8 @@ use crate::memory::{self, Memory};
 use crate::reply;
 use std::io::{Read, Write};
 
-// The start of a line that has not ended: the octets that are held of it stand first in `octets`.
+// The start of a line that has not ended: the octets that are held of it stand first in `octets`. A length
+// beside the octets and no Vec, as memory is fixed.
 #[derive(Drop)]
 pub struct Gathered {
     octets: [u8; memory::LINE],
@@ -19,7 +20,7 @@ pub struct Gathered {
 impl Gathered {
     pub fn new() -> Gathered {
         Gathered {
-            octets: memory::line(),
+            octets: memory::zeros(),
             held: 0,
         }
     }
@@ -47,7 +48,9 @@ impl Gathered {
     }
 }
 
-// Answers a line, and whether its reply was written.
+// Answers a line, and whether its reply was written. A bool and no Result, here and below: why it wasn't is
+// looked at by nothing, and it ends the run as the input's end does. What the program lends (output, chunk,
+// line and memory) comes apart: the three are borrowed apart.
 fn give<W: Write>(output: &mut W, line: &[u8], memory: &mut Memory) -> bool {
     let n = reply::answer(line, memory);
     output.write_all(&memory.reply[..n]).is_ok()

@@ -12,7 +12,7 @@ mod reply;
 mod rows;
 
 fn main(rt: HostRuntime) {
-    let mut chunk = memory::chunk();
+    let mut chunk = memory::zeros::<{ memory::CHUNK }>();
     let mut line = input::Gathered::new();
     let mut memory = memory::Memory::new();
     input::run(

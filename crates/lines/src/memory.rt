@@ -1,4 +1,4 @@
-// The memory that the program lends itself. Each piece is made by a call, so that a proof about its
+// The memory that the program lends itself. Each piece is made by a call (zeros), so that a proof about its
 // length goes by its type, and never by its hundreds of thousands of octets.
 
 // What is read at a time.
@@ -12,20 +12,9 @@ pub const REPLY: usize = 900131;
 // has hex digits for more.
 pub const OCTETS: usize = 150000;
 
-pub fn chunk() -> [u8; CHUNK] {
-    [0u8; CHUNK]
-}
-
-pub fn line() -> [u8; LINE] {
-    [0u8; LINE]
-}
-
-fn reply() -> [u8; REPLY] {
-    [0u8; REPLY]
-}
-
-pub fn octets() -> [u8; OCTETS] {
-    [0u8; OCTETS]
+// So many octets of 0.
+pub fn zeros<const N: usize>() -> [u8; N] {
+    [0u8; N]
 }
 
 // What a line is answered in: room for its reply, and for the octets of D, M and DATA.
@@ -40,10 +29,10 @@ pub struct Memory {
 impl Memory {
     pub fn new() -> Memory {
         Memory {
-            reply: reply(),
-            description: octets(),
-            image: octets(),
-            given: octets(),
+            reply: zeros(),
+            description: zeros(),
+            image: zeros(),
+            given: zeros(),
         }
     }
 }

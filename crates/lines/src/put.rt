@@ -1,5 +1,5 @@
 // Replies, put together at the start of out, word by word: a word stands behind a space unless it is
-// the first.
+// the first. `out` and the place in it are no struct, as in crate words: the clauses (IsPut) speak of both.
 ghost use Rattle.std.specs.Prelude.{map, ◌+◌, ◌*◌, ◌≤◌, length, []};
 ghost use Rattle.words.specs.Put.{IsPut};
 ghost use Rattle.words.specs.Number.{decimal_text};
@@ -56,7 +56,8 @@ pub fn put_octets(out: &mut [u8], at: usize, octets: &[u8]) -> usize
     words::put_octets(out, to, octets)
 }
 
-// A word of octets, where the reply has it.
+// A word of octets, where the reply has it: a flag and no Option, as the row's form and the definition
+// (hex_behind) have it.
 pub fn put_octets_if(out: &mut [u8], at: usize, there: bool, octets: &[u8]) -> usize
     requires { at + 2 * length octets.now + 2 ≤ length out.old }
     ensures { IsPut out.old at (hex_behind at there octets.now) out.new result }

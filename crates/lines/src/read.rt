@@ -36,7 +36,8 @@ impl<'a> Line<'a> {
     }
 }
 
-// What a line of a form asks: how many octets D, M and DATA have, and the numbers.
+// What a line of a form asks: how many octets D, M and DATA have, and the numbers. Lengths and no slices: the
+// octets stand in the memory lent, of which M is written to.
 #[derive(Clone, Copy)]
 pub struct Asked {
     pub d: usize,
@@ -56,7 +57,7 @@ pub struct Operands<'a> {
 }
 
 // The numbers from a word on, as many as count, each at most what stands for it in most, and 0
-// behind the last; None where one is no number or too large.
+// behind the last; None where one is no number or too large. By index: word, limit and value go by one number.
 fn read_numbers(line: Line<'_>, from: usize, count: usize, most: [u64; 7]) -> Option<[u64; 7]>
     requires from_bound { (from ≤ 3) × OfSeven count most }
     ensures { result ≡ numbers_of (line_words line.entry.text.now) from (take count most) }
@@ -69,7 +70,8 @@ fn read_numbers(line: Line<'_>, from: usize, count: usize, most: [u64; 7]) -> Op
 }
 
 // How many octets word k has, where the form has it, with them at the start of out, which has room
-// for them: an octet is two digits of the line. None where it is no word of octets.
+// for them: an octet is two digits of the line. None where it is no word of octets. `there` is the form's own
+// flag, as the definition (word_if) has it.
 fn read_octets(line: Line<'_>, k: usize, there: bool, out: &mut [u8; OCTETS]) -> Option<usize>
     ensures { PartRead (word_if there (nth (line_words line.entry.text.now) k)) out.new result }
 {
@@ -104,8 +106,8 @@ pub fn read_asked(line: Line<'_>, form: Form, memory: &mut Memory) -> Option<Ask
     })
 }
 
-// What numbers name. These are no `From`: the types are crate meaning's, and an array's impl for them
-// may stand neither here nor there.
+// What numbers name, in the order of this program's lines: so they are no `From` of crate meaning, and all but
+// an element's ask that the numbers be within limits, which a `From` can't ask.
 
 // A table by its two numbers.
 pub fn table(n: [u64; 7]) -> TableName

@@ -28,7 +28,8 @@ fn reply_tables(kind: TableKind, operands: Operands<'_>, m: &mut [u8], out: &mut
     words::put_octet(out, last, b'\n')
 }
 
-// The reply to a row of messages, likewise.
+// The reply to a row of messages, likewise. That D is at most 150,000 octets is a clause here, and no field
+// of the operands: rows of messages alone ask for it, and that there is room in `out` speaks of `m` as well.
 fn reply_message(kind: MessageKind, operands: Operands<'_>, m: &mut [u8], out: &mut [u8]) -> usize
     requires m_in_bounds { room_for m.old ≤ length out.old }
     requires within { Within (messages_place kind) operands.numbers }
@@ -36,7 +37,7 @@ fn reply_message(kind: MessageKind, operands: Operands<'_>, m: &mut [u8], out: &
     ensures { Replied out.old (row_text (messages_place kind) operands.entry.d.now m.old operands.entry.numbers operands.entry.given.now) out.new result }
 {
     let form = kind.form();
-    let mut part = memory::octets();
+    let mut part = memory::zeros::<{ memory::OCTETS }>();
     let answered = message::ask(kind, operands, m, &mut part);
     let told = answered.numbers;
     let first = put::put_numbers(out, &told[..form.told]);

@@ -43,7 +43,8 @@ pub enum Kind {
     Weekday,
 }
 
-// The rows in the table's order, which is that of NAMES.
+// The rows in the table's order, which is that of NAMES. Two tables and none of pairs: a name is looked up in
+// one text by crate words, and the definition (table_rows, message_rows) has a row by its place.
 const KINDS: [Kind; 20] = [
     Kind::Tables(TableKind::Check),
     Kind::Tables(TableKind::Layout),

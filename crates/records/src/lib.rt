@@ -42,7 +42,8 @@ fn triple_of(order: u32, raw: &[u8; 3]) -> Triple
 }
 
 // WHAT A DATE BRINGS
-// The year of two digits; 100 and over are no years.
+// The year of two digits; 100 and over are no years: 0, in which there is no date, and no None, as the
+// definition (year_of) has it.
 #[tactic(auto, unfolding(meaning::specs::Calendar::year_of))]
 fn year_of(digits: u32) -> u32
     ensures { result ≡ year_of digits }

@@ -55,8 +55,8 @@ const NO_REPLY: ReplyTold = ReplyTold {
     start: 0,
 };
 
-// A reply in numbers. This and the next are no `From`: reply, verdict and place are the library's Result,
-// and their impls may not stand here; crate unique states of each function that a call has one reply.
+// A reply in numbers. This, and verdict_told to reply_told below, are no `From`: what they take is the
+// library's Result, whose impls may not stand here; crate unique states of each that a call has one reply.
 pub fn told(reply: Reply) -> Told
     ensures { result ≡ told_by reply }
 {
@@ -175,7 +175,8 @@ pub fn reply_told(heard: Result<Heard, Refusal>) -> ReplyTold
     }
 }
 
-// The matrix's cells, row by row.
+// The matrix's cells, row by row. By index: the must-fail edit row_width changes a row's width here, and for
+// `copy_from_slice` of the flattened rows the archive for C would need memmove.
 pub fn cells(matrix: [[u8; 22]; 15]) -> [u8; 330]
     ensures { result ≡ flatten matrix }
 {
@@ -187,7 +188,7 @@ pub fn cells(matrix: [[u8; 22]; 15]) -> [u8; 330]
     octets
 }
 
-// What a tier is asked for: 0 is summations, any other number demands.
+// What a tier is asked for: 0 is summations, any other number demands. No `From`: the type is crate meaning's.
 pub fn quantity(what: u64) -> Quantity
     ensures { result ≡ quantity_of what }
 {

@@ -20,7 +20,8 @@ fn find_space(text: &[u8], from: usize) -> usize
 // No part at all.
 const NO_SPAN: Span = Span { start: 0, end: 0 };
 
-// The answer for what is not a line of words.
+// The answer for what is not a line of words, and no None: the definition (split_of) has it so, by which crate
+// unique states that `split` has one reply.
 fn no_words() -> Words
     ensures { result ≡ places_of [] }
 {
@@ -78,7 +79,7 @@ pub fn word(line: &[u8], places: Words, k: usize) -> &[u8]
     part(line, span)
 }
 
-// Which word of a text a name is, counted from 0; None where it is none of them.
+// Which word of a text a name is, counted from 0; None where it is none of them. By index, which is the answer.
 pub fn index_of(name: &[u8], text: &[u8]) -> Option<usize>
     ensures { result ≡ word_place name.now (line_words text.now) }
 {

@@ -49,7 +49,8 @@ fn hex_digit(d: u8) -> u8
     87 + d
 }
 
-// The octets in hex to out, where they have room: two digits a turn.
+// The octets in hex to out, where they have room: two digits a turn, to places that are counted on. Of what
+// `chunks_exact_mut` lends to be written a proof knows nothing afterwards.
 fn hex_at(out: &mut [u8], at: usize, octets: &[u8])
     requires { at + length octets.now * 2 ≤ length out.old }
     ensures { out.new ≡ laid out.old at (hex_pairs octets.now) }

@@ -7,7 +7,8 @@ pub struct Span {
     pub end: usize,
 }
 
-// The words of a line: word k is the part spans[k], for k below count. What is past count is empty.
+// The words of a line: word k is the part spans[k], for k below count. What is past count is empty. Memory is
+// fixed, so there is a count beside the forty.
 #[derive(Clone, Copy)]
 pub struct Words {
     pub count: usize,

@@ -1,5 +1,4 @@
 -- `replies::cells`: octet by octet. Assumes nothing.
-use native.Mathlib.Omega.{arith}
 use Rattle.replies.proofs.Rows.{wide, copied_none, copied_more, copied_all}
 use Rattle.replies.proofs.cells.Goals as goal
 
