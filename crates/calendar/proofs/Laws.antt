@@ -26,6 +26,7 @@ use Rattle.records.proofs.Laws.{latest_part}
 use Rattle.laying.proofs.First.{table_00}
 use Rattle.laying.proofs.Opened.{Came, opens, refuses, came, opened_image}
 use Rattle.calendar.specs.declared.Sections.{Sections}
+use Rattle.calendar.specs.declared.Calendar.{Calendar}
 use Rattle.calendar.specs.Sections.{Small, sections_of, Sized}
 use Rattle.std.specs.Prelude.{Ok, Err, Some, None}
 use Rattle.meaning.specs.Values.{Place, Chosen}
@@ -67,6 +68,10 @@ calendar_told d img (opens ts es s n o) =
 pub by_places : (d img : List ℕ) (a b : Place) → a ≡ table_place_reply d img 0 51 → b ≡ table_place_reply d img 0 54 → {x y : Place} → a ≡ x → b ≡ y
     → calendar_by img x y ≡ calendar d img
 by_places d img a b ea eb e f = rw (← e, ← f, ea, eb) (calendar_told d img (came d img))
+
+-- Table 54, as a calendar has it, is of its size
+pub part_sized : (k : Calendar) → Sized k.controls k.table.now
+part_sized k = k.sized
 
 -- THE COLUMN ON A DAY
 module _ (c : Controls) (day : ℕ) where
