@@ -127,7 +127,7 @@ fn write_place(
     if !part.fits(octets, length) {
         return Err(Refusal::OUTSIDE_TABLE);
     }
-    let table = around(description, item).fields;
+    let table = Cursor::first().past(item).read(description).fields;
     allowed(table.writable, held, start.in_image(offset), octets)
 }
 

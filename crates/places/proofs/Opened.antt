@@ -27,17 +27,16 @@ pub record Opened (d numbers : List ℕ) (at k : ℕ) (r : Read) (x : ℕ) (afte
   pub fields : r.fields ≡ fields_at d at
   pub next : r.next.at ≡ at + 1
   pub says : x ≡ value (numbers_in numbers) (fields_at d at)
-  pub few : x < 4294967296
   pub past : after.at ≡ at + 1 + nested (fields_at d at)
 
 pub opened : {d numbers : List ℕ} {at k : ℕ} {r : Read} {x : ℕ} {after : Cursor} → ItemReady d numbers at k → r ≡ read_at d at
-    → (x ≡ value (numbers_in numbers) r.fields) × (x < 4294967296) → after.at ≡ min (r.next.at + nested r.fields) 18446744073709551615
+    → x ≡ value (numbers_in numbers) r.fields → after.at ≡ min (r.next.at + nested r.fields) 18446744073709551615
     → Opened d numbers at k r x after
 opened {d} {numbers} {at} {k} {r} ready e v a =
     let h : at < item_count d = omega (arith, ready.there) in
     let f = fields_read d at h e in
     let n = next_read d at h e in
-    record { ready = ready; fields = f; next = n; says = v.0 ∙ rw f; few = v.1; past = a ∙ rw (f, n) (omega (arith, ready.few, ready.there)) }
+    record { ready = ready; fields = f; next = n; says = v ∙ rw f; past = a ∙ rw (f, n) (omega (arith, ready.few, ready.there)) }
 
 -- the body that item `at` takes
 abbrev inner : (d numbers : List ℕ) → (at : ℕ) → Inner

@@ -1,6 +1,6 @@
 -- The item at a walk's place, as the code has it open: what is asked of it, and what the walk comes to past it. Assumes nothing.
 use Rattle.std.specs.Prelude.{Result, Ok, Err}
-use Prim.Native.Nat.{ℕ, ◌+◌, ◌-◌, ◌<◌, ◌≤◌, min}
+use Prim.Native.Nat.{ℕ, ◌+◌, ◌-◌, ◌≤◌, min}
 use mathlib.Core.Path.{◌≡◌, refl, sym, ◌∙◌}
 use mathlib.Core.Bool.{Bool, true, false, cond, or-true}
 use mathlib.Core.List.{List}
@@ -12,7 +12,6 @@ use Rattle.meaning.specs.declared.Inner.{Inner}
 use Rattle.meaning.specs.declared.Refusal.{Refusal}
 use Rattle.meaning.specs.Description.{fields_at, is_choice, nests, nested, kind_of}
 use Rattle.meaning.specs.Layout.{branches_in, branches_of, taken, leaf_octets, number_at, value}
-use Rattle.meaning.specs.Ranges.{FieldsRange}
 use Rattle.meaning.proofs.Ranges.{fields_range}
 use Rattle.items.specs.declared.Cursor.{Cursor}
 use Rattle.items.specs.declared.Read.{Read}
@@ -39,7 +38,7 @@ pub record Here (d img : List ℕ) (a : Aim) (w : Walk) (k : ℕ) (r : Read) (x 
   pub item : Opened d w.numbers w.next.at k r x after
 
 pub here : {d img : List ℕ} {a : Aim} {w : Walk} {k : ℕ} {r : Read} {x : ℕ} {after : Cursor} → WalkItemReady d img a w k → r ≡ read_at d w.next.at
-    → (x ≡ value (numbers_in w.numbers) r.fields) × (x < 4294967296) → after.at ≡ min (r.next.at + nested r.fields) 18446744073709551615
+    → x ≡ value (numbers_in w.numbers) r.fields → after.at ≡ min (r.next.at + nested r.fields) 18446744073709551615
     → Here d img a w k r x after
 here h e v p =
     record { ready = h; item = opened (record { few = h.ready.few; there = h.there; fit = h.fit; deep = h.ready.deep; slots = h.ready.slots }) e v p }
@@ -62,9 +61,6 @@ module _ {d img : List ℕ} {a : Aim} {w : Walk} {k : ℕ} {r : Read} {x : ℕ} 
 
   abbrev o : Opened d w.numbers w.next.at k r x after
   o = h.item
-
-  pub valued : FieldsRange r.fields × (x < 4294967296)
-  valued = (rw o.fields (fields_range d w.next.at), o.few)
 
   -- past a piece, or short there
   stepped : (piece : Span) (slot : ℕ) {y : Result Walk Refusal} → Comes d img a w k after ready (step_of img a w piece slot after) → y ≡ step_of img a w piece slot after

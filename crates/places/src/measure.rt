@@ -23,24 +23,24 @@ pub(crate) fn is_array(f: Fields) -> bool
 }
 
 // The value of an item's reference, where slots have these numbers; 0 for an item without one.
-#[tactic(auto, unfolding(meaning::specs::Layout::value, meaning::specs::Layout::bit_range), using(crate::proofs::Numbers::value_few))]
-pub(crate) fn value(numbers: [u32; 64], f: Fields) -> usize
+#[tactic(auto, unfolding(meaning::specs::Layout::value, meaning::specs::Layout::bit_range))]
+pub(crate) fn value(numbers: [u32; 64], f: Fields) -> u32
     requires { FieldsRange f × (length numbers ≡ 64) }
-    ensures { (result ≡ value (numbers_in numbers) f) × (result < 4294967296) }
+    ensures { result ≡ value (numbers_in numbers) f }
 {
     let slot = f.slot;
     if slot == 0 {
         return 0;
     }
-    bit_range(numbers[slot], f.low, f.width) as usize
+    bit_range(numbers[slot], f.low, f.width)
 }
 
 // The octets of a UINT, BLOCK or SET.
 #[tactic(auto, unfolding(meaning::specs::Layout::leaf_octets, meaning::specs::Layout::set_octets))]
-fn leaf_octets(f: Fields, value: usize) -> usize
-    requires { FieldsRange f × (value < 4294967296) }
-    ensures { (result ≡ leaf_octets f value) × (result < 4294967296) }
+fn leaf_octets(f: Fields, value: u32) -> usize
+    ensures { result ≡ leaf_octets f value }
 {
+    let value = value as usize;
     if f.slot == 0 {
         return f.octets;
     }
@@ -53,7 +53,7 @@ fn leaf_octets(f: Fields, value: usize) -> usize
 // The branch that a choice takes, whose items come next. IF: the items if true, or those if false, which
 // follow them; it tells so by its fields, and no other item of the description is looked at.
 #[tactic(auto, unfolding(meaning::specs::Layout::branches_in, meaning::specs::Layout::if_branches, meaning::specs::Layout::taken))]
-pub(crate) fn chosen(d: &[u8], f: Fields, next: Cursor, value: usize) -> Inner
+pub(crate) fn chosen(d: &[u8], f: Fields, next: Cursor, value: u32) -> Inner
     ensures { result ≡ taken (branches_in d.now f next.at) value }
 {
     if 0 < value {
@@ -70,7 +70,7 @@ pub(crate) fn chosen(d: &[u8], f: Fields, next: Cursor, value: usize) -> Inner
 
 // The body that an ARRAY or a choice takes.
 #[tactic(auto, unfolding(crate::specs::Measuring::inner_of))]
-fn inner_of(d: &[u8], f: Fields, next: Cursor, value: usize) -> Inner
+fn inner_of(d: &[u8], f: Fields, next: Cursor, value: u32) -> Inner
     ensures { result ≡ inner_of d.now f next.at value }
 {
     if is_array(f) {
@@ -92,8 +92,7 @@ pub struct Span {
 
 // What the element of item `at` takes.
 #[tactic(auto, unfolding(crate::specs::Measuring::leaf_span))]
-pub(crate) fn leaf_span(f: Fields, value: usize, at: usize, wanted: usize) -> Span
-    requires { FieldsRange f × (value < 4294967296) }
+pub(crate) fn leaf_span(f: Fields, value: u32, at: usize, wanted: usize) -> Span
     ensures { result ≡ leaf_span f value at wanted }
 {
     let octets = leaf_octets(f, value);
@@ -119,13 +118,13 @@ fn joined(before: Span, here: Span) -> Span
 }
 
 // An array takes count times its element's size.
-fn array_span(count: usize, body: Span) -> Span
-    requires { (count < 4294967296) × (body.size ≤ 65536) × Few 3 body.row.arrays }
+fn array_span(count: u32, body: Span) -> Span
+    requires { (body.size ≤ 65536) × Few 3 body.row.arrays }
     ensures { result ≡ array_span count body }
 {
     let Span { size, row } = body;
     Span {
-        size: cut(count * size),
+        size: cut(count as usize * size),
         row: row.in_array(count, size),
     }
 }

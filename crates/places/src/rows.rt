@@ -89,13 +89,13 @@ impl Row {
     }
 
     // Inside one ARRAY more.
-    pub(crate) fn in_array(self, count: usize, stride: usize) -> Row
-        requires { (count < 4294967296) × (stride ≤ 65536) × Few 3 self.arrays }
+    pub(crate) fn in_array(self, count: u32, stride: usize) -> Row
+        requires { (stride ≤ 65536) × Few 3 self.arrays }
         ensures { result ≡ with_array count stride self }
     {
         let Arrays { depth, levels } = self.arrays;
         let outer = Level {
-            count: count as u32,
+            count,
             stride: stride as u32,
         };
         Row {

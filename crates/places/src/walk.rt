@@ -136,9 +136,9 @@ fn step(
 // The value of an item's reference, as far as the walk has come. Most items have none, and then the
 // numbers of the slots aren't copied.
 #[tactic(auto, unfolding(meaning::specs::Layout::value))]
-fn value_here(w: &Walk, f: Fields) -> usize
+fn value_here(w: &Walk, f: Fields) -> u32
     requires { FieldsRange f × (length w.now.numbers ≡ 64) }
-    ensures { (result ≡ value (numbers_in w.now.numbers) f) × (result < 4294967296) }
+    ensures { result ≡ value (numbers_in w.now.numbers) f }
 {
     if f.slot == 0 {
         return 0;

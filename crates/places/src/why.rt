@@ -114,7 +114,7 @@ fn step_in(
     let round = encloses(f, at, item);
     let value = value(numbers, f);
     if both(is_array(f), round) {
-        if subscript_at(name, depth) < value {
+        if subscript_at(name, depth) < value as usize {
             return Ok(depth + 1);
         }
         return Err(too_large(depth));

@@ -63,10 +63,6 @@ item_size-returns-then-nests t c =
     let e = entered o c.nests.ensures c.if-nests.true c.inner_of-taken.ensures c.past.ensures in
     choice_done e _ c.body_size-body.ensures (eqb-false _ 5 (sym c.is_array.ensures ∙ c.if-is_array.false))
 
-pub item_size-leaf_span-requires : goal.item_size-leaf_span-requires
-item_size-leaf_span-requires t c =
-    (range_read _ _ c.read.ensures, c.value-value.ensures.1)
-
 pub item_size-returns : goal.item_size-returns
 item_size-returns t c =
     let o = opened c.requires c.read.ensures c.value-value.ensures c.past-after.ensures in

@@ -6,7 +6,7 @@ use native.Mathlib.Omega.{arith}
 use Rattle.items.proofs.ReadLaws.{range_read}
 use Rattle.places.proofs.Opened.{level_left}
 use Rattle.places.proofs.Through.{arrives, item_ready, stops, further, goes_on}
-use Rattle.places.proofs.Walking.{here, valued, leaf_ready, leaf_walks, array_step, array_walks}
+use Rattle.places.proofs.Walking.{here, leaf_ready, leaf_walks, array_step, array_walks}
 use Rattle.places.proofs.Walking.{choosing, through_ready, choice_stops, choice_walks}
 use Rattle.places.proofs.walk.+walk_body_walk_item.Goals as goal
 
@@ -78,11 +78,6 @@ pub walk_item-returns-then-is_array : goal.walk_item-returns-then-is_array
 walk_item-returns-then-is_array t c =
     let h = here c.requires c.read.ensures c.value_here-value.ensures c.past-after.ensures in
     array_walks h (eqb-true _ 5 (sym c.is_array.ensures ∙ c.if-is_array.true)) c.item_size-all.ensures c.step.ensures
-
-pub walk_item-leaf_span-piece-requires : goal.walk_item-leaf_span-piece-requires
-walk_item-leaf_span-piece-requires t c =
-    let h = here c.requires c.read.ensures c.value_here-value.ensures c.past-after.ensures in
-    valued h
 
 pub walk_item-step-requires-2 : goal.walk_item-step-requires-2
 walk_item-step-requires-2 t c =
