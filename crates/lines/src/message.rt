@@ -5,6 +5,7 @@ ghost use Rattle.lines.specs.Answer.{Within, of_request, of_reply};
 ghost use Rattle.lines.specs.Ask.{ReadAs, MessageAsked};
 ghost use Rattle.lines.specs.Kinds.{messages_place};
 
+use crate::memory::OCTETS;
 use crate::read::Operands;
 use crate::rows::MessageKind;
 use meaning::Reply;
@@ -56,10 +57,10 @@ pub fn ask<'a>(
     kind: MessageKind,
     operands: Operands<'a>,
     m: &mut [u8],
-    part: &'a mut [u8],
+    part: &'a mut [u8; OCTETS],
 ) -> Answered<'a>
     requires within { Within (messages_place kind) operands.numbers }
-    requires d_len_bound { (length operands.d.now ≤ 150000) × (length part.old ≡ 150000) }
+    requires d_len_bound { length operands.d.now ≤ 150000 }
     ensures { MessageAsked (messages_place kind) operands.entry.d.now m.old operands.entry.numbers operands.entry.given.now result m.new }
 {
     let Operands { d, numbers, given } = operands;

@@ -37,7 +37,7 @@ fn reply_message(kind: MessageKind, operands: Operands<'_>, m: &mut [u8], out: &
     ensures { Replied out.old (row_text (messages_place kind) operands.entry.d.now m.old operands.entry.numbers operands.entry.given.now) out.new result }
 {
     let form = kind.form();
-    let mut part = memory::zeros::<{ memory::OCTETS }>();
+    let mut part = memory::zeros();
     let answered = message::ask(kind, operands, m, &mut part);
     let told = answered.numbers;
     let first = put::put_numbers(out, &told[..form.told]);
