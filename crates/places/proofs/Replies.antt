@@ -1,6 +1,6 @@
 -- What one walk tells is what the replies say: the total, where two tables are, where an element is, which table a range lies in. Assumes nothing.
 use Rattle.std.specs.Option.{ok_or}
-use Rattle.std.specs.Prelude.{Some, None, Result, Ok, Err, if◌then◌else◌}
+use Rattle.std.specs.Prelude.{Some, None, Result, Ok, Err, IsErrAnd, MatchOption, if◌then◌else◌}
 use Prim.Native.Nat.{ℕ, ◌+◌, ◌≤◌, min}
 use mathlib.Core.Path.{◌≡◌, refl, ◌∙◌, ap, sym, subst}
 use mathlib.Core.Bool.{Bool, true, false}
@@ -24,7 +24,6 @@ use Rattle.laying.proofs.Opened.{Opens, Came, opens, refuses, came, opened_image
 use Rattle.laying.proofs.Reaches.{row_says}
 use Rattle.laying.proofs.Spots.{further, row_onward}
 use Rattle.offsets.specs.declared.TableOffset.{TableOffset}
-use Rattle.meaning.specs.declared.Location.{Location}
 use Rattle.places.specs.declared.RangeTable.{RangeTable}
 use Rattle.places.specs.declared.survey.Answer.{Answer}
 use Rattle.meaning.specs.declared.Answer as meant
@@ -37,7 +36,7 @@ use Rattle.places.specs.Measuring.{numbers_in}
 use Rattle.places.specs.Surveying.{table_found, held_in, StandsAs, AnswerAs}
 use Rattle.places.proofs.Reach.{spot_as}
 use Rattle.meaning.proofs.Either.{clash}
-use Rattle.meaning.specs.Values.{at}
+use Rattle.meaning.specs.Values.{Place}
 
 -- a place in a table, and none
 seat_place_lem : (t : Option Seat) → found_place (table_found t) ≡ seat_place t
@@ -156,14 +155,16 @@ module _ (d img : List ℕ) (q : Asked) (r : Answer) (a : AnswerAs d img q (Ok r
         go (refuses y e) = absurd (subst (AnswerAs d img q (Ok r)) e a)
 
     module _ {suited : Bool} (suiting : suited ≡ suits number d name) {found : FoundElement} (is : (found ≡ found_by suited r.element name) × (length name.subscripts ≡ 4)) where
-      pub element_here : (e : Location) → found ≡ Some e → at e.start e.length ≡ element_place_in number d name (open_image d img)
+      -- the answer is the place found, or why there is none
+      pub element_answered : {v : Place} (Why : Refusal → Type 0) → ((y : Refusal) → Why y → y ≡ why_none number d (numbers_in r.numbers) name)
+          → MatchOption found (IsErrAnd v Why) (λ x. v ≡ Ok x) → v ≡ element_place_in number d name (open_image d img)
       unfolding place_or
-      element_here x h = sym (rw (← suiting, ← is.0, h)) ∙ element_told is.1
-
-      pub element_missing : {why : Refusal} → why ≡ why_none number d (numbers_in r.numbers) name → found ≡ None
-          → Err why ≡ element_place_in number d name (open_image d img)
-      unfolding place_or
-      element_missing w h = sym (rw (← suiting, ← is.0, h, ← w)) ∙ element_told is.1
+      element_answered {v} Why tells answered = go found v answered ∙ rw (is.0, suiting) (element_told is.1)
+        where
+          go : (f : FoundElement) (v : Place) → MatchOption f (IsErrAnd v Why) (λ x. v ≡ Ok x) → v ≡ place_or (why_none number d (numbers_in r.numbers) name) f
+          go (Some x) v h = h
+          go None (Err y) h = ap Err (tells y h)
+          go None (Ok x) h = absurd h
 
   -- THE RANGE
   -- by the table found

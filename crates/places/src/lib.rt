@@ -102,10 +102,12 @@ fn place_or_why(description: &[u8], image: &[u8], name: ElementName, number: boo
         element,
         ..
     } = open_image(description, image, asked)?;
-    match found_by(element, name, suits(description, name, number)) {
-        Some(place) => Ok(place),
-        None => Err(why_none(description, numbers, name, number)),
-    }
+    found_by(element, name, suits(description, name, number)).ok_or_else(|| why_none(
+        description,
+        numbers,
+        name,
+        number,
+    ))
 }
 
 // THE PUBLIC CALLS

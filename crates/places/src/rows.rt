@@ -4,7 +4,6 @@
 ghost use Rattle.std.specs.Prelude.{◌≡◌, ◌<◌, ◌≤◌, length};
 ghost use Rattle.places.specs.Rows.{cut, Few, alone, first_of, onward_by, with_array, reached_by};
 
-use basics::least;
 use meaning::ElementName;
 
 // An ARRAY round an element: its count, and how far its elements stand apart.
@@ -40,7 +39,7 @@ pub struct Row {
 pub(crate) fn cut(size: usize) -> usize
     ensures { result ≡ cut size }
 {
-    least(size, 65536)
+    size.min(65536)
 }
 
 impl Row {
