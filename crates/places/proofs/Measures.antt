@@ -26,9 +26,9 @@ use Rattle.laying.proofs.Steps.{body_none, body_step}
 use Rattle.places.specs.declared.measure.Sized.{Sized}
 use Rattle.places.specs.declared.measure.Span.{Span}
 use Rattle.places.specs.Measuring.{numbers_in, inner_of, leaf_span, joined, array_span, node_in, SpanAs, BodyReady, ItemReady, BodyAs, ItemAs, Going}
-use Rattle.places.specs.Rows.{cut, saying, cut_arrays, cut_row, RowAs, alone}
+use Rattle.places.specs.Rows.{cut, RowAs, alone}
 use Rattle.places.proofs.Numbers.{cut_mul}
-use Rattle.places.proofs.RowLaws.{as_none, as_wider, as_first, as_onward, as_array}
+use Rattle.places.proofs.RowLaws.{as_none, as_alone, as_wider, as_first, as_onward, as_array}
 
 -- ONE AFTER ANOTHER
 pub joined_as : (k : ℕ) (a b : Span) (s t : ℕ) (r q : def.Row) → SpanAs k a s r → SpanAs k b t q → SpanAs k (joined a b) (s + t) (first_row r (onward s q))
@@ -87,7 +87,7 @@ module _ (d numbers : List ℕ) (at n k i : ℕ) where
   left next = body_at k d next (at + n - next)
 
   -- at the start nothing is measured
-  pub started : BodyReady d numbers at n k → Going d numbers at n k i (record { size = 0; row = alone None }) at
+  pub started : BodyReady d numbers at n k → Going d numbers at n k i (record { size = 0; row = None }) at
   unfolding first_row
   started r =
       let e : at + n - at ≡ n = omega arith in
@@ -174,11 +174,11 @@ module _ (d numbers : List ℕ) (at k i : ℕ) (ready : ItemReady d numbers at k
 
   -- a UINT, BLOCK or SET
   pub leaf_measured : nests f ≡ false → SpanAs k (leaf_span f x at i) (item_size (node_in k d at) w) (item_row (node_in k d at) w i)
-  unfolding item_size item_row leaf_span saying cut_row cut_arrays
+  unfolding item_size item_row leaf_span
   leaf_measured other = rw (leaf_is (inner_at k d) d at (nested f) other ready.fit) (record { size_is = refl; row_as = go (at =? i) })
     where
-      go : (b : Bool) → RowAs k (alone (if b then Some (record { first = 0; length = leaf_octets f x }) else None)) (if b then row 0 (leaf_octets f x) [] else no_row)
-      go true = record { says = refl; few = (as_none k).few }
+      go : (b : Bool) → RowAs k (if b then Some (alone (leaf_octets f x)) else None) (if b then row 0 (leaf_octets f x) [] else no_row)
+      go true = as_alone k (leaf_octets f x)
       go false = as_none k
 
   -- what holds of an ARRAY or a choice

@@ -14,10 +14,9 @@ use Rattle.meaning.specs.declared.ElementName.{ElementName}
 use Rattle.laying.specs.Rows.{Array, row, no_row, Spot, spot, absent, spot_in, row_spot}
 use Rattle.laying.specs.Rows as def
 use Rattle.places.specs.declared.rows.Arrays.{Arrays}
-use Rattle.places.specs.declared.rows.Extent.{Extent}
 use Rattle.places.specs.declared.rows.Level.{Level}
 use Rattle.places.specs.declared.rows.Row.{Row}
-use Rattle.places.specs.Rows.{cut, array_of, arrays_of, saying, said, cut_arrays, cut_row, Few, RowAs, reach_in, reached_by, spot_at, spot_from, spot_by}
+use Rattle.places.specs.Rows.{cut, array_of, arrays_of, said, cut_arrays, cut_row, Few, RowAs, reach_in, reached_by, spot_at, spot_by}
 use Rattle.places.proofs.Numbers.{cut_mul}
 
 -- WHAT IS LEFT of the ARRAYs and the subscripts, from octet o on: one step, where the subscript is below the count or isn't
@@ -103,22 +102,21 @@ said_spot (row p n rest) xs = spot_at (reach_in (cut p) rest xs) n
 said_spot no_row xs = absent
 
 said_spot_lem : (c : Row) (q : ElementName) → Few 4 c.arrays → length q.subscripts ≡ 4
-    → spot_by c q ≡ (if q.count ≤? 4 then said_spot (said c) (take q.count q.subscripts) else absent)
-unfolding spot_by spot_from spot_at saying said_spot
-said_spot_lem c q few four = go c.stands (q.count ≤? 4) refl
+    → spot_by c q ≡ (if q.count ≤? 4 then said_spot (said (Some c)) (take q.count q.subscripts) else absent)
+unfolding spot_by spot_at said said_spot
+said_spot_lem c q few four = rw (reached_few c.first c.arrays q few four) (go (q.count ≤? 4))
   where
-    go : (s : Option Extent) (t : Bool) → q.count ≤? 4 ≡ t
-        → spot_from s c.arrays q ≡ (if t then said_spot (saying s (arrays_of c.arrays)) (take q.count q.subscripts) else absent)
-    go None t e = sym (if_same t absent)
-    go (Some x) true e = rw (reached_few x.first c.arrays q few four, e)
-    go (Some x) false e = rw (reached_few x.first c.arrays q few four, e)
+    go : (t : Bool) → spot_at (if t then reach_in (cut c.first) (arrays_of c.arrays) (take q.count q.subscripts) else None) c.length
+        ≡ (if t then spot_at (reach_in (cut c.first) (arrays_of c.arrays) (take q.count q.subscripts)) c.length else absent)
+    go true = refl
+    go false = refl
 
 cut_spot : (r : def.Row) (xs : List ℕ) → InImage (row_spot r xs) → said_spot (cut_row r) xs ≡ row_spot r xs
 unfolding said_spot cut_row row_spot
 cut_spot (row p n rest) xs small = let e : cut (cut p) ≡ cut p = omega arith in rw e (reach_in_lem p n rest xs small)
 cut_spot no_row xs small = refl
 
-pub spot_as : (c : Row) (r : def.Row) (q : ElementName) → RowAs 4 c r → length q.subscripts ≡ 4
+pub spot_as : (c : Row) (r : def.Row) (q : ElementName) → RowAs 4 (Some c) r → length q.subscripts ≡ 4
     → ((o m : ℕ) → row_spot r (take q.count q.subscripts) ≡ spot o m → o ≤ 65535)
     → spot_by c q ≡ (if q.count ≤? 4 then row_spot r (take q.count q.subscripts) else absent)
 spot_as c r q h four small = said_spot_lem c q h.few four ∙ rw (h.says, cut_spot r _ small)

@@ -1,6 +1,6 @@
 -- What one walk tells is what the replies say: the total, where two tables are, where an element is, which table a range lies in. Assumes nothing.
 use Rattle.std.specs.Option.{ok_or}
-use Rattle.std.specs.Prelude.{Some, None, Result, Ok, Err, if◌then◌else◌}
+use Rattle.std.specs.Prelude.{Some, None, Result, Ok, Err, IsErrAnd, MatchOption, if◌then◌else◌}
 use Prim.Native.Nat.{ℕ, ◌+◌, ◌≤◌, min}
 use mathlib.Core.Path.{◌≡◌, refl, ◌∙◌, ap, sym, subst}
 use mathlib.Core.Bool.{Bool, true, false}
@@ -15,7 +15,7 @@ use Rattle.meaning.specs.Causes.{suits, why_none}
 use Rattle.meaning.specs.Layout.{Placed, Seat, Slots, element_named}
 use Rattle.meaning.specs.Numbers.{no_table}
 use Rattle.meaning.specs.Refusals.{Opened, opened, refused, open_image, layout_in, layout_reply, seat_place, table_place_in, table_place_reply, element_in, element_for, placed_place, element_place_in}
-use Rattle.laying.specs.Rows.{Spot, spot, absent, row_spot, row_of, spot_of}
+use Rattle.laying.specs.Rows.{no_row, onward, Spot, spot, absent, row_spot, row_of, spot_of}
 use Rattle.laying.specs.Rows as def
 use Rattle.laying.proofs.Among.{every_among, named_among}
 use Rattle.laying.proofs.Cover.{EndsBy}
@@ -24,20 +24,18 @@ use Rattle.laying.proofs.Opened.{Opens, Came, opens, refuses, came, opened_image
 use Rattle.laying.proofs.Reaches.{row_says}
 use Rattle.laying.proofs.Spots.{further, row_onward}
 use Rattle.offsets.specs.declared.TableOffset.{TableOffset}
-use Rattle.meaning.specs.declared.Location.{Location}
 use Rattle.places.specs.declared.RangeTable.{RangeTable}
 use Rattle.places.specs.declared.survey.Answer.{Answer}
 use Rattle.meaning.specs.declared.Answer as meant
 use Rattle.places.specs.declared.survey.Asked.{Asked}
-use Rattle.places.specs.declared.survey.Standing.{Standing}
 use Rattle.places.specs.declared.survey.TableSpot.{TableSpot}
-use Rattle.places.specs.Found.{FoundTable, FoundElement, FoundRange}
-use Rattle.places.specs.Opening.{spot_found, found_by, place_or, found_place, range_of, range_in}
+use Rattle.places.specs.Found.{FoundTable, FoundRow, FoundElement, FoundRange}
+use Rattle.places.specs.Opening.{spot_found, standing_found, found_by, place_or, found_place, range_of, range_in}
 use Rattle.places.specs.Measuring.{numbers_in}
 use Rattle.places.specs.Surveying.{table_found, held_in, StandsAs, AnswerAs}
 use Rattle.places.proofs.Reach.{spot_as}
 use Rattle.meaning.proofs.Either.{clash}
-use Rattle.meaning.specs.Values.{at}
+use Rattle.meaning.specs.Values.{Place}
 
 -- a place in a table, and none
 seat_place_lem : (t : Option Seat) → found_place (table_found t) ≡ seat_place t
@@ -78,28 +76,35 @@ module _ {d img : List ℕ} {ts : List Seat} {es : List Placed} {s : Slots} {n :
         o.allowed,
       )
 
-  -- the element of a name, if it suits
-  element_is : (why : Refusal) (b : Bool) (q : ElementName) (e : Standing) → length q.subscripts ≡ 4 → StandsAs e (row_of d img q.item)
-      → place_or why (found_by b e q) ≡ placed_place why (if b then element_in q es else none)
-  unfolding element_in found_by spot_found place_or placed_place
-  element_is why false q e four h = refl
-  element_is why true q e four h = rw (spot_as e.row h.in_table q h.row_as four (spot_early p found (row_spot h.in_table xs) told (early q.item xs))) (go (q.count ≤? 4))
-    where
-      xs : List ℕ
-      xs = take q.count q.subscripts
+  -- the element of a name
+  module _ (why : Refusal) (q : ElementName) where
+    abbrev xs : List ℕ
+    xs = take q.count q.subscripts
 
-      found : Option Placed
-      found = element_named q.item xs es
+    abbrev found : Option Placed
+    found = element_named q.item xs es
 
-      p : ℕ
-      p = e.start.0
+    told : (p : ℕ) (r : def.Row) → row_of d img q.item ≡ onward p r → spot_of found ≡ further p (row_spot r xs)
+    told p r is = row_says d img o.passes o.laid q.item xs ∙ ap (λ (z : def.Row). row_spot z xs) is ∙ row_onward p r xs
 
-      told : spot_of found ≡ further p (row_spot h.in_table xs)
-      told = row_says d img o.passes o.laid q.item xs ∙ ap (λ (r : def.Row). row_spot r xs) h.is ∙ row_onward p h.in_table xs
-
-      go : (b : Bool) → place_or why (spot_found p (if b then row_spot h.in_table xs else absent)) ≡ placed_place why (if b then found else none)
-      go true = found_place_lem why p found (row_spot h.in_table xs) told (early q.item xs)
-      go false = refl
+    -- if it suits
+    element_is : (b : Bool) (e : FoundRow) → length q.subscripts ≡ 4 → StandsAs e (row_of d img q.item)
+        → place_or why (found_by b e q) ≡ placed_place why (if b then element_in q es else none)
+    unfolding element_in found_by standing_found spot_found place_or placed_place row_spot onward
+    element_is false e four h = refl
+    element_is true None four h = go (q.count ≤? 4)
+      where
+        go : (b : Bool) → Err why ≡ placed_place why (if b then found else none)
+        go true = found_place_lem why 0 found absent (told 0 no_row h) (early q.item xs)
+        go false = refl
+    element_is true (Some e) four h =
+        let here = told e.start.0 h.in_table h.is in
+        rw (spot_as e.row h.in_table q h.row_as four (spot_early e.start.0 found (row_spot h.in_table xs) here (early q.item xs))) (go (q.count ≤? 4) here)
+      where
+        go : (b : Bool) → spot_of found ≡ further e.start.0 (row_spot h.in_table xs)
+            → place_or why (spot_found e.start.0 (if b then row_spot h.in_table xs else absent)) ≡ placed_place why (if b then found else none)
+        go true here = found_place_lem why e.start.0 found (row_spot h.in_table xs) here (early q.item xs)
+        go false here = refl
 
 -- A REFUSAL
 module _ (d img : List ℕ) (x : Refusal) (is_refused : open_image d img ≡ refused x) where
@@ -152,18 +157,20 @@ module _ (d img : List ℕ) (q : Asked) (r : Answer) (a : AnswerAs d img q (Ok r
             ≡ element_place_in number d name (open_image d img)
         go (opens ts es s n o) =
             let h : AnswerAs d img q (Ok r) (opened ts es s n) = subst (AnswerAs d img q (Ok r)) (opened_image o) a in
-            rw (opened_image o, ← h.numbers) (element_is o _ (suits number d name) name r.element four (rw same at h.element))
+            rw (opened_image o, ← h.numbers) (element_is o _ name (suits number d name) r.element four (rw same at h.element))
         go (refuses y e) = absurd (subst (AnswerAs d img q (Ok r)) e a)
 
     module _ {suited : Bool} (suiting : suited ≡ suits number d name) {found : FoundElement} (is : (found ≡ found_by suited r.element name) × (length name.subscripts ≡ 4)) where
-      pub element_here : (e : Location) → found ≡ Some e → at e.start e.length ≡ element_place_in number d name (open_image d img)
+      -- the answer is the place found, or why there is none
+      pub element_answered : {v : Place} (Why : Refusal → Type 0) → ((y : Refusal) → Why y → y ≡ why_none number d (numbers_in r.numbers) name)
+          → MatchOption found (IsErrAnd v Why) (λ x. v ≡ Ok x) → v ≡ element_place_in number d name (open_image d img)
       unfolding place_or
-      element_here x h = sym (rw (← suiting, ← is.0, h)) ∙ element_told is.1
-
-      pub element_missing : {why : Refusal} → why ≡ why_none number d (numbers_in r.numbers) name → found ≡ None
-          → Err why ≡ element_place_in number d name (open_image d img)
-      unfolding place_or
-      element_missing w h = sym (rw (← suiting, ← is.0, h, ← w)) ∙ element_told is.1
+      element_answered {v} Why tells answered = go found v answered ∙ rw (is.0, suiting) (element_told is.1)
+        where
+          go : (f : FoundElement) (v : Place) → MatchOption f (IsErrAnd v Why) (λ x. v ≡ Ok x) → v ≡ place_or (why_none number d (numbers_in r.numbers) name) f
+          go (Some x) v h = h
+          go None (Err y) h = ap Err (tells y h)
+          go None (Ok x) h = absurd h
 
   -- THE RANGE
   -- by the table found

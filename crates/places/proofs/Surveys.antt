@@ -1,6 +1,8 @@
 -- Tables laid one after another: those laid and those left come to the whole image, at the start, after each table and at the end; and what is asked for is
 -- found among those laid. Assumes nothing.
 use Rattle.std.specs.Prelude.{Some, None, Result, Ok, Err}
+use Rattle.std.specs.Option.{option_map, option_or}
+use Rattle.std.specs.Prelude as prelude
 use Prim.Native.Nat.{ℕ, zero, suc, ◌+◌, ◌-◌, ◌<◌, ◌≤◌, min}
 use mathlib.Core.Path.{◌≡◌, refl, ◌∙◌, ap, ap₂, sym, subst, fun_ext}
 use mathlib.Core.Logic.{inl, inr}
@@ -35,6 +37,8 @@ use Rattle.laying.proofs.Rising.{RisesBody, rises_body}
 use Rattle.laying.proofs.Steps.{tables_none, tables_step}
 use Rattle.laying.proofs.Tops.{passed_sound, fit_body, table_one}
 use Rattle.laying.proofs.Rows.{first_none_right, first_assoc}
+use Rattle.offsets.specs.declared.TableStart.{TableStart}
+use Rattle.places.specs.declared.rows.Row.{Row}
 use Rattle.places.specs.declared.survey.Answer.{Answer}
 use Rattle.places.specs.declared.survey.Asked.{Asked}
 use Rattle.places.specs.declared.survey.Standing.{Standing}
@@ -43,13 +47,13 @@ use Rattle.meaning.specs.declared.TableName.{TableName}
 use Rattle.places.specs.declared.survey.TableSpot.{TableSpot}
 use Rattle.places.specs.declared.walk.Aim.{Aim}
 use Rattle.places.specs.declared.walk.Walk.{Walk}
-use Rattle.places.specs.Found.{FoundTable}
+use Rattle.places.specs.Found.{FoundTable, FoundRow}
 use Rattle.places.specs.Measuring.{numbers_in}
-use Rattle.places.specs.Rows.{alone}
-use Rattle.places.specs.Surveying.{table_found, is_first, seat_in, first_standing, held_in, held_after, StandsAs, before_all, Surveyed, TableReady, TableAs, AnswerAs}
+use Rattle.places.specs.Rows.{RowAs}
+use Rattle.places.specs.Surveying.{table_found, is_first, seat_in, held_in, held_after, StandsAs, before_all, Surveyed, TableReady, TableAs, AnswerAs}
 use Rattle.places.specs.Walking.{WalkEnds, Ends, WalkBodyReady, WalksBody}
 use Rattle.places.proofs.Held.{holds_append}
-use Rattle.places.proofs.RowLaws.{as_none, first_case, said_none, said_some}
+use Rattle.places.proofs.RowLaws.{as_none, said_none, said_some}
 use Rattle.meaning.specs.Values.{passed}
 
 -- WHERE THINGS ARE
@@ -93,12 +97,20 @@ seat_more n ts h i p l = rw (named_more _ _ ts (seat_of h i p l)) (go (table_nam
     go none = one (h.manufacturer =? n.manufacturer && h.number =? n.number)
 
 -- which of two rows stands
-standing_first : (a b : Standing) (r q : def.Row) → StandsAs a r → StandsAs b q → StandsAs (first_standing a b) (first_row r q)
-unfolding first_row onward
-standing_first a b r q h g =
-    first_case (λ (x : Standing). StandsAs x (first_row r q)) a.row.stands a b
-    (λ z. record { in_table = g.in_table; is = rw (h.is, said_none _ h.in_table (rw z at h.row_as.says)) g.is; row_as = g.row_as; early = g.early })
-    (λ z. record { in_table = h.in_table; is = rw h.is (said_some a.start.0 _ _ h.in_table q h.row_as.says z); row_as = h.row_as; early = h.early })
+standing_first : (a b : FoundRow) (r q : def.Row) → StandsAs a r → StandsAs b q → StandsAs (option_or a b) (first_row r q)
+unfolding first_row
+standing_first None b r q h g = rw h g
+standing_first (Some a) b r q h g =
+    record { in_table = h.in_table; is = rw h.is (said_some a.start.0 _ h.in_table q h.row_as.says); row_as = h.row_as; early = h.early }
+
+-- a row, or none, in the table that starts there
+abbrev pub standing_at : TableStart → Row → Standing
+standing_at p c = record { start = p; row = c }
+
+stands_here : (p : TableStart) (c : prelude.Option Row) (t r : def.Row) → r ≡ onward p.0 t → RowAs 4 c t → p.0 ≤ 65535 → StandsAs (option_map (standing_at p) c) r
+unfolding onward
+stands_here p None t r is h early = is ∙ rw (said_none t h.says)
+stands_here p (Some c) t r is h early = record { in_table = t; is = is; row_as = h; early = early }
 
 -- OCTETS OF DIMENSIONS. n octets from offset o on of the table of that name, among tables and elements that end by p; then a table from p to x, with elements ps
 module _ (n : TableName) (o l p : ℕ) (ts : List Seat) (es ps : List Placed) (h : Fields) (i x : ℕ) (order : p ≤ x)
@@ -167,7 +179,7 @@ pub set_out : (d img : List ℕ) (q : Asked) (p z : ℕ) → p ≡ 0 → z ≡ 0
       next = record { at = z };
       first = None;
       second = None;
-      element = record { start = record { 0 = p }; row = alone None };
+      element = None;
       held = false;
     })
 unfolding lay_out row_of tree_of number_of octets_of table_named table_found held_in first_row onward Every
@@ -192,7 +204,7 @@ set_out d img q p z e f h =
       elements_end = tt;
       first = refl;
       second = refl;
-      element = record { in_table = no_row; is = refl; row_as = as_none 4; early = omega arith };
+      element = refl;
       held = refl;
     })
 
@@ -261,7 +273,7 @@ module _ (d img : List ℕ) (q : Asked) (s : Survey) (ready : TableReady d img q
 
   -- the walk before it, at the item after the table's own
   abbrev sets_off : (next octets : ℕ) → Walk
-  sets_off next octets = record { numbers = s.numbers; octets = record { 0 = octets }; row = alone None; held = false; next = record { at = next } }
+  sets_off next octets = record { numbers = s.numbers; octets = record { 0 = octets }; row = None; held = false; next = record { at = next } }
 
   pub table_ready : (next octets first : ℕ) → next ≡ at + 1 → octets ≡ 0 → first ≡ f.first → WalkBodyReady d img aim (sets_off next octets) first 4
   table_ready next octets first e z i =
@@ -326,7 +338,7 @@ module _ (d img : List ℕ) (q : Asked) (s : Survey) (ready : TableReady d img q
     module _ (w : Walk) (walks : WalksBody d img aim (sets_off next octets) first 4 (Ok w)) (r : Survey) (numbers : r.numbers ≡ w.numbers) (start : r.start.0 ≡ min (s.start.0 + w.octets.0) 18446744073709551615) (goes : r.next.at ≡ min (next + first) 18446744073709551615)
         (seat : r.first ≡ seat_in s.first (is_first s.first f q.first) (spot_of at s.start.0 w.octets.0))
         (other : r.second ≡ seat_in s.second (is_first s.second f q.second) (spot_of at s.start.0 w.octets.0))
-        (element : r.element ≡ first_standing s.element (record { start = s.start; row = w.row }))
+        (element : r.element ≡ option_or s.element (option_map (standing_at s.start) w.row))
         (held : r.held ≡ held_after s.held (is_first s.first f q.first) (q.from.0 + q.octets ≤? w.octets.0) w.held) where
       goes_on : r.next.at ≡ after
       goes_on = omega (arith, goes, ne, fe, left.few, few)
@@ -369,8 +381,8 @@ module _ (d img : List ℕ) (q : Asked) (s : Survey) (ready : TableReady d img q
                 ∙ sym (seat_more q.first g.seats f at s.start.0 (x - s.start.0));
             second = other ∙ ap₂ (λ (z : FoundTable) (l : ℕ). seat_in z (is_first z f q.second) (spot_of at s.start.0 l)) g.second sz
                 ∙ sym (seat_more q.second g.seats f at s.start.0 (x - s.start.0));
-            element = subst (λ (z : Standing). StandsAs z (first_row g.row row_here)) (sym element) (standing_first s.element _ g.row row_here g.element
-                (record { in_table = e.row_is.in_table; is = e.row_is.is; row_as = e.row_is.row_as; early = omega (arith, g.inside, ready.ready.small) }));
+            element = subst (λ (z : FoundRow). StandsAs z (first_row g.row row_here)) (sym element) (standing_first s.element _ g.row row_here g.element
+                (stands_here s.start w.row _ _ e.row_is.is e.row_is.row_as (omega (arith, g.inside, ready.ready.small))));
             held = held ∙ ap₂ (λ (z : FoundTable) (b : Bool). tells z b w.octets.0 w.held) g.first g.held
                 ∙ ap₂ (λ (l : ℕ) (b : Bool). tells (table_found (table_named q.first.manufacturer q.first.number g.seats))
                 (held_in q.from.0 q.octets (table_named q.first.manufacturer q.first.number g.seats) g.elements) l b) sz e.holds

@@ -1,5 +1,6 @@
 -- The walk over a table goes as laying out does: over a piece, through the body that a choice takes, and from item to item of a body. Assumes nothing.
 use Rattle.std.specs.Prelude.{Result, Ok}
+use Rattle.std.specs.Option.{option_map}
 use Prim.Native.Nat.{ℕ, zero, suc, ◌+◌, ◌-◌, ◌<◌, ◌≤◌, min, max}
 use mathlib.Core.Path.{◌≡◌, refl, ◌∙◌, ap, sym, subst, fun_ext}
 use mathlib.Core.Bool.{Bool, true, false, cond, ◌&&◌, ◌||◌}
@@ -88,7 +89,7 @@ module _ (img : List ℕ) (a : Aim) (w : Walk) (piece : Span) (k : ℕ) (next : 
           in_table = onward w.octets.0 r;
           is = onward_twice a.start.0 w.octets.0 r;
           row_as = as_first 4 w.row _ before _ found
-              (subst (λ (x : ℕ). RowAs 4 (onward_by x piece.row) (onward w.octets.0 r)) c (as_onward 4 w.octets.0 piece.row r said.row_as));
+              (subst (λ (x : ℕ). RowAs 4 (option_map (onward_by x) piece.row) (onward w.octets.0 r)) c (as_onward 4 w.octets.0 piece.row r said.row_as));
         };
       }))
       (λ lt.

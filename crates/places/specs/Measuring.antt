@@ -1,5 +1,6 @@
 -- WHAT THE FUNCTIONS THAT MEASURE PROMISE, by sizes and rows. Assumes nothing.
 use Rattle.std.specs.Prelude.{ℕ, ◌+◌, ◌-◌, ◌*◌, ◌≤◌, ◌≡◌, List, Some, None, length, get_or, if◌then◌else◌}
+use Rattle.std.specs.Option.{option_map, option_or}
 use Rattle.meaning.specs.Basics.{◌=?◌}
 use Rattle.meaning.specs.declared.Fields.{Fields}
 use Rattle.meaning.specs.declared.Inner.{Inner}
@@ -12,7 +13,7 @@ use Rattle.laying.specs.Sound.{FitBody, FitNode}
 use Rattle.laying.specs.Tree.{node_at}
 use Rattle.places.specs.declared.measure.Sized.{Sized}
 use Rattle.places.specs.declared.measure.Span.{Span}
-use Rattle.places.specs.Rows.{cut, RowAs, alone, first_of, onward_by, with_array}
+use Rattle.places.specs.Rows.{cut, RowAs, alone, onward_by, with_array}
 
 -- the numbers of the slots, as the code has them
 abbrev pub numbers_in : List ℕ → Numbers
@@ -23,13 +24,13 @@ unfoldable pub inner_of : (description : List ℕ) → Fields → (first value :
 inner_of d f first x = if is_array f then only_body f else taken (branches_in d f first) x
 
 unfoldable pub leaf_span : Fields → (value at i : ℕ) → Span
-leaf_span f x at i = record { size = cut (leaf_octets f x); row = alone (if at =? i then Some (record { first = 0; length = leaf_octets f x }) else None) }
+leaf_span f x at i = record { size = cut (leaf_octets f x); row = if at =? i then Some (alone (leaf_octets f x)) else None }
 
 abbrev pub joined : Span → Span → Span
-joined a b = record { size = cut (a.size + b.size); row = first_of a.row (onward_by a.size b.row) }
+joined a b = record { size = cut (a.size + b.size); row = option_or a.row (option_map (onward_by a.size) b.row) }
 
 abbrev pub array_span : (count : ℕ) → Span → Span
-array_span c b = record { size = cut (c * b.size); row = with_array c b.size b.row }
+array_span c b = record { size = cut (c * b.size); row = option_map (with_array c b.size) b.row }
 
 -- a size and a row, cut
 pub record SpanAs (k : ℕ) (r : Span) (size : ℕ) (row : def.Row) : Type 0 where

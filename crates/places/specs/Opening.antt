@@ -9,8 +9,7 @@ use Rattle.meaning.specs.Refusals.{Opened, opened, refused}
 use Rattle.laying.specs.Rows.{Spot, spot, absent}
 use Rattle.offsets.specs.declared.TableOffset.{TableOffset}
 use Rattle.places.specs.declared.survey.Asked.{Asked}
-use Rattle.places.specs.declared.survey.Standing.{Standing}
-use Rattle.places.specs.Found.{FoundTable, FoundElement, FoundRange}
+use Rattle.places.specs.Found.{FoundTable, FoundRow, FoundElement, FoundRange}
 use Rattle.places.specs.Rows.{spot_by}
 use Rattle.places.specs.Surveying.{held_in}
 use Rattle.meaning.specs.Values.{Place, at}
@@ -31,9 +30,13 @@ unfoldable pub spot_found : (p : ℕ) → Spot → FoundElement
 spot_found p (spot o n) = Some (record { start = record { 0 = min (p + o) 18446744073709551615 }; length = n })
 spot_found p absent = None
 
+unfoldable pub standing_found : FoundRow → ElementName → FoundElement
+standing_found None q = None
+standing_found (Some e) q = spot_found e.start.0 (spot_by e.row q)
+
 -- if it suits what is asked
-unfoldable pub found_by : (suits : Bool) → Standing → ElementName → FoundElement
-found_by b e q = if b then spot_found e.start.0 (spot_by e.row q) else None
+unfoldable pub found_by : (suits : Bool) → FoundRow → ElementName → FoundElement
+found_by b e q = if b then standing_found e q else None
 
 -- its place, or why there is none
 unfoldable pub place_or : (why : Refusal) → FoundElement → Place

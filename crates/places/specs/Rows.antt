@@ -1,11 +1,10 @@
 -- ROWS AS THE CODE HAS THEM: four places for the ARRAYs round an element and their number, offsets and strides cut at 65,536. Assumes nothing.
-use Rattle.std.specs.Prelude.{ℕ, ◌+◌, ◌*◌, ◌≤◌, min, ◌≡◌, List, [], ◌∷◌, map, Option, Some, None, length, get_or, replicate, take, if◌then◌else◌}
+use Rattle.std.specs.Prelude.{ℕ, ◌+◌, ◌*◌, ◌≤◌, min, ◌≡◌, List, [], ◌∷◌, map, Option, Some, None, IfSome, length, get_or, replicate, take, if◌then◌else◌}
 use Rattle.laying.specs.Rows.{Array, row, no_row, Spot, spot, absent}
 use Rattle.laying.specs.Rows as def
 use Rattle.places.specs.declared.rows.Arrays.{Arrays}
 use Rattle.meaning.specs.Basics.{◌=?◌, ◌<?◌}
 use Rattle.meaning.specs.declared.ElementName.{ElementName}
-use Rattle.places.specs.declared.rows.Extent.{Extent}
 use Rattle.places.specs.declared.rows.Level.{Level}
 use Rattle.places.specs.declared.rows.Row.{Row}
 
@@ -20,13 +19,10 @@ array_of l = record { count = l.count; stride = l.stride }
 abbrev pub arrays_of : Arrays → List Array
 arrays_of a = map array_of (take a.depth a.levels)
 
--- what a row of the code says
-unfoldable pub saying : Option Extent → List Array → def.Row
-saying None rest = no_row
-saying (Some e) rest = row e.first e.length rest
-
-abbrev pub said : Row → def.Row
-said c = saying c.stands (arrays_of c.arrays)
+-- what a row of the code says, or none
+unfoldable pub said : Option Row → def.Row
+said None = no_row
+said (Some c) = row c.first c.length (arrays_of c.arrays)
 
 -- a row with its first octet and its strides cut
 unfoldable pub cut_arrays : List Array → List Array
@@ -42,35 +38,25 @@ pub record Few (k : ℕ) (a : Arrays) : Type 0 where
   pub depth : a.depth ≤ k
   pub levels : length a.levels ≡ 4
 
--- the code's row says r, cut
-pub record RowAs (k : ℕ) (c : Row) (r : def.Row) : Type 0 where
+-- the code's row, or none, says r, cut
+pub record RowAs (k : ℕ) (c : Option Row) (r : def.Row) : Type 0 where
   pub says : said c ≡ cut_row r
-  pub few : Few k c.arrays
+  pub few : IfSome c (λ x. Few k x.arrays)
 
 -- WHAT THE FUNCTIONS ON ROWS GIVE
 abbrev pub no_level : Level
 no_level = record { count = 0; stride = 0 }
 
-abbrev pub alone : Option Extent → Row
-alone x = record { stands = x; arrays = record { depth = 0; levels = replicate 4 no_level } }
-
-unfoldable pub first_by : {A : Type 0} → Option Extent → A → A → A
-first_by None a b = b
-first_by (Some e) a b = a
-
-abbrev pub first_of : Row → Row → Row
-first_of a b = first_by a.stands a b
-
-unfoldable pub moved_by : (by : ℕ) → Option Extent → Option Extent
-moved_by k None = None
-moved_by k (Some e) = Some (record { first = cut (cut k + cut e.first); length = e.length })
+abbrev pub alone : (length : ℕ) → Row
+alone n = record { first = 0; length = n; arrays = record { depth = 0; levels = replicate 4 no_level } }
 
 abbrev pub onward_by : (by : ℕ) → Row → Row
-onward_by k c = record { stands = moved_by k c.stands; arrays = c.arrays }
+onward_by k c = record { first = cut (cut k + cut c.first); length = c.length; arrays = c.arrays }
 
 abbrev pub with_array : (count stride : ℕ) → Row → Row
 with_array c w r = record {
-  stands = r.stands;
+  first = r.first;
+  length = r.length;
   arrays = record {
     depth = r.arrays.depth + 1;
     levels = record { count = c; stride = w } ∷ get_or r.arrays.levels 0 no_level ∷ get_or r.arrays.levels 1 no_level ∷ get_or r.arrays.levels 2 no_level ∷ [];
@@ -92,9 +78,5 @@ unfoldable pub spot_at : (octet : Option ℕ) → (length : ℕ) → Spot
 spot_at (Some p) n = spot p n
 spot_at None n = absent
 
-unfoldable pub spot_from : Option Extent → Arrays → ElementName → Spot
-spot_from None a q = absent
-spot_from (Some e) a q = spot_at (reached_by e.first a q) e.length
-
 unfoldable pub spot_by : Row → ElementName → Spot
-spot_by c q = spot_from c.stands c.arrays q
+spot_by c q = spot_at (reached_by c.first c.arrays q) c.length

@@ -9,7 +9,7 @@ use Rattle.meaning.specs.Passed.{Passes}
 use Rattle.meaning.specs.Layout.{Placed, Seat, Slots, Layout, laid_out, stopped_at, lay_tables, lay_out, tables_of, table_named, slot_numbers}
 use Rattle.meaning.specs.Refusals.{Opened, opened, refused, open_laid, any_dimension}
 use Rattle.laying.specs.Every.{Every}
-use Rattle.laying.specs.Rows.{first_row, onward, walk_tables, row_of}
+use Rattle.laying.specs.Rows.{no_row, first_row, onward, walk_tables, row_of}
 use Rattle.laying.specs.Rows as def
 use Rattle.laying.specs.Slots.{Matches}
 use Rattle.laying.specs.Sound.{Known, SoundTables}
@@ -19,9 +19,9 @@ use Rattle.places.specs.declared.survey.Standing.{Standing}
 use Rattle.places.specs.declared.survey.Survey.{Survey}
 use Rattle.meaning.specs.declared.TableName.{TableName}
 use Rattle.places.specs.declared.survey.TableSpot.{TableSpot}
-use Rattle.places.specs.Found.{FoundTable}
+use Rattle.places.specs.Found.{FoundTable, FoundRow}
 use Rattle.places.specs.Measuring.{numbers_in}
-use Rattle.places.specs.Rows.{RowAs, first_by}
+use Rattle.places.specs.Rows.{RowAs}
 
 -- WHAT IS FOUND
 -- a table found: its item, where it starts, how long it is
@@ -37,9 +37,6 @@ is_first (Some t) h n = false
 unfoldable pub seat_in : (before : FoundTable) → (this : Bool) → TableSpot → FoundTable
 seat_in before this t = if this then Some t else before
 
-abbrev pub first_standing : Standing → Standing → Standing
-first_standing a b = first_by a.row.stands a b
-
 -- n octets from offset o on of a table lie in it, and hold an octet of a dimension
 unfoldable pub held_in : (o n : ℕ) → Option Seat → List Placed → Bool
 held_in o n none es = false
@@ -49,11 +46,16 @@ unfoldable pub held_after : (before this fits held : Bool) → Bool
 held_after before this fits held = if this then fits && held else before
 
 -- a row of the image, in the table where it stands
-pub record StandsAs (e : Standing) (r : def.Row) : Type 0 where
+pub record StandsIn (e : Standing) (r : def.Row) : Type 0 where
   pub in_table : def.Row
   pub is : r ≡ onward e.start.0 in_table
-  pub row_as : RowAs 4 e.row in_table
+  pub row_as : RowAs 4 (Some e.row) in_table
   pub early : e.start.0 ≤ 65535
+
+-- or none
+abbrev pub StandsAs : FoundRow → def.Row → Type 0
+StandsAs None r = r ≡ no_row
+StandsAs (Some e) r = StandsIn e r
 
 -- THE TABLES BEFORE item s.next ARE LAID
 -- what was laid before, then the rest

@@ -1,5 +1,6 @@
 -- THE WALK OVER A TABLE: what its functions promise, by what laying out comes to. Assumes nothing.
-use Rattle.std.specs.Prelude.{ℕ, ◌+◌, ◌-◌, ◌<◌, ◌≤◌, min, max, ◌≡◌, Bool, false, ◌&&◌, ◌||◌, List, Result, Ok, Err, IfOk, length, set, if◌then◌else◌}
+use Rattle.std.specs.Prelude.{ℕ, ◌+◌, ◌-◌, ◌<◌, ◌≤◌, min, max, ◌≡◌, Bool, false, ◌&&◌, ◌||◌, List, Option, Result, Ok, Err, IfOk, length, set, if◌then◌else◌}
+use Rattle.std.specs.Option.{option_map, option_or}
 use Rattle.meaning.specs.Basics.{◌=?◌, ◌≤?◌, ◌<?◌}
 use Rattle.meaning.specs.Description.{item_count, fields_at, nested}
 use Rattle.meaning.specs.Layout.{Slots, Placed, fault, short, Laid, laid, stopped, lay_body, lay_node, number_at, body_at, slot_numbers}
@@ -16,7 +17,7 @@ use Rattle.places.specs.declared.rows.Row.{Row}
 use Rattle.places.specs.declared.walk.Aim.{Aim}
 use Rattle.places.specs.declared.walk.Walk.{Walk}
 use Rattle.places.specs.Measuring.{numbers_in, node_in}
-use Rattle.places.specs.Rows.{RowAs, first_of, onward_by}
+use Rattle.places.specs.Rows.{RowAs, onward_by}
 
 -- READING A DIMENSION
 -- at most 4 octets, inside the image
@@ -53,7 +54,7 @@ abbrev pub past_piece : (image : List ℕ) → Aim → Walk → Span → (slot :
 past_piece img a w piece k next = record {
   numbers = noted img w.numbers k (place a w) piece.size;
   octets = record { 0 = w.octets.0 + piece.size };
-  row = first_of w.row (onward_by w.octets.0 piece.row);
+  row = option_or w.row (option_map (onward_by w.octets.0) piece.row);
   held = w.held || dimension_at k w.octets.0 piece.size a.from.0 a.octets;
   next = next;
 }
@@ -70,7 +71,7 @@ elsewhere w next = record { numbers = w.numbers; octets = w.octets; row = w.row;
 
 -- WHAT A WALK COMES TO
 -- a row of the table that starts at p: r counts its octets from the image's first, c from the table's, after what was found before
-pub record RowFrom (p : ℕ) (before : def.Row) (c : Row) (r : def.Row) : Type 0 where
+pub record RowFrom (p : ℕ) (before : def.Row) (c : Option Row) (r : def.Row) : Type 0 where
   pub in_table : def.Row
   pub is : r ≡ onward p in_table
   pub row_as : RowAs 4 c (first_row before in_table)

@@ -14,14 +14,14 @@ mod survey;
 mod walk;
 mod why;
 
-ghost use Rattle.std.specs.Prelude.{◌≡◌, length};
+ghost use Rattle.std.specs.Prelude.{◌≡◌, IfSome, length};
 ghost use Rattle.meaning.specs.Refusals.{layout_reply, table_place_reply, element_place_in, element_place_reply, integer_place_reply, open_image};
 ghost use Rattle.places.specs.Rows.{Few};
 ghost use Rattle.places.specs.Opening.{found_by, nothing_asked, found_place, range_in};
 
 use meaning::{ElementName, Location, Place, Refusal, Reply, TableName};
 use offsets::{TableOffset, TableStart};
-use rows::{Extent, reached};
+use rows::{Row, reached};
 use survey::{Answer, Asked, Standing, TableSpot, open_image};
 use why::{suits, why_none};
 
@@ -43,17 +43,21 @@ pub struct RangeTable {
 }
 
 // Where the element of that name stands, by its item's row, if it suits what is asked.
-#[tactic(auto, unfolding(crate::specs::Opening::found_by, crate::specs::Opening::spot_found, crate::specs::Rows::spot_by, crate::specs::Rows::spot_from, crate::specs::Rows::spot_at))]
-fn found_by(element: Standing, name: ElementName, suits: bool) -> Option<Location>
-    requires { Few 4 element.row.arrays }
+#[tactic(auto, unfolding(crate::specs::Opening::found_by, crate::specs::Opening::standing_found, crate::specs::Opening::spot_found, crate::specs::Rows::spot_by, crate::specs::Rows::spot_at))]
+fn found_by(element: Option<Standing>, name: ElementName, suits: bool) -> Option<Location>
+    requires { IfSome element (λ e. Few 4 e.row.arrays) }
     ensures { (result ≡ found_by suits element name) × (length name.subscripts ≡ 4) }
 {
     if !suits {
         return None;
     }
-    let Standing { start, row } = element;
-    let Extent { first, length } = row.stands?;
-    let octet = reached(first, row.arrays, name)?;
+    let Standing { start, row } = element?;
+    let Row {
+        first,
+        length,
+        arrays,
+    } = row;
+    let octet = reached(first, arrays, name)?;
     Some(Location {
         start: start.in_image(TableOffset::new(octet)),
         length,
@@ -102,10 +106,12 @@ fn place_or_why(description: &[u8], image: &[u8], name: ElementName, number: boo
         element,
         ..
     } = open_image(description, image, asked)?;
-    match found_by(element, name, suits(description, name, number)) {
-        Some(place) => Ok(place),
-        None => Err(why_none(description, numbers, name, number)),
-    }
+    found_by(element, name, suits(description, name, number)).ok_or_else(|| why_none(
+        description,
+        numbers,
+        name,
+        number,
+    ))
 }
 
 // THE PUBLIC CALLS

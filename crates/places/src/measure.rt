@@ -3,14 +3,14 @@
 // Nothing is refused and no memory is written. The definitions have sizes without limit; here a size
 // is cut at 65,536, which is past every image, so an array is measured by its count and one
 // element's size.
-ghost use Rattle.std.specs.Prelude.{◌≡◌, ◌+◌, ◌<◌, ◌≤◌, length};
+ghost use Rattle.std.specs.Prelude.{◌≡◌, ◌+◌, ◌<◌, ◌≤◌, IfSome, length};
 ghost use Rattle.meaning.specs.Description.{is_array};
 ghost use Rattle.meaning.specs.Layout.{branches_in, taken, leaf_octets, value};
 ghost use Rattle.meaning.specs.Ranges.{FieldsRange};
-ghost use Rattle.places.specs.Rows.{Few, alone};
+ghost use Rattle.places.specs.Rows.{Few};
 ghost use Rattle.places.specs.Measuring.{numbers_in, inner_of, leaf_span, joined, array_span, BodyReady, ItemReady, BodyAs, ItemAs};
 
-use crate::rows::{Extent, Row, cut};
+use crate::rows::{Row, cut};
 use basics::bit_range;
 use items::{Cursor, Read, nests};
 use meaning::{Fields, Inner, Kind};
@@ -83,11 +83,11 @@ fn inner_of(d: &[u8], f: Fields, next: Cursor, value: u32) -> Inner
 }
 
 // SIZES
-// A size, and in it the row of the item asked for.
+// A size, and in it the row of the item asked for, if it stands there.
 #[derive(Clone, Copy)]
 pub struct Span {
     pub size: usize,
-    pub row: Row,
+    pub row: Option<Row>,
 }
 
 // What the element of item `at` takes.
@@ -96,13 +96,9 @@ pub(crate) fn leaf_span(f: Fields, value: u32, at: usize, wanted: usize) -> Span
     ensures { result ≡ leaf_span f value at wanted }
 {
     let octets = leaf_octets(f, value);
-    let stands = (at == wanted).then_some(Extent {
-        first: 0,
-        length: octets,
-    });
     Span {
         size: cut(octets),
-        row: Row::alone(stands),
+        row: (at == wanted).then_some(Row::alone(octets)),
     }
 }
 
@@ -113,19 +109,19 @@ fn joined(before: Span, here: Span) -> Span
 {
     Span {
         size: cut(before.size + here.size),
-        row: before.row.or(here.row.onward(before.size)),
+        row: before.row.or(here.row.map(|row| row.onward(before.size))),
     }
 }
 
 // An array takes count times its element's size.
 fn array_span(count: u32, body: Span) -> Span
-    requires { (body.size ≤ 65536) × Few 3 body.row.arrays }
+    requires { (body.size ≤ 65536) × IfSome body.row (λ row. Few 3 row.arrays) }
     ensures { result ≡ array_span count body }
 {
     let Span { size, row } = body;
     Span {
         size: cut(count as usize * size),
-        row: row.in_array(count, size),
+        row: row.map(|row| row.in_array(count, size)),
     }
 }
 
@@ -151,10 +147,7 @@ pub(crate) fn body_size(
 {
     let end = from.item() + items;
     let mut place = from;
-    let mut span = Span {
-        size: 0,
-        row: Row::alone(None),
-    };
+    let mut span = Span { size: 0, row: None };
     // The next place is past all that is nested in the item, so no range tells it.
     while place.item() < end {
         let one = item_size(d, numbers, place, depth, wanted);

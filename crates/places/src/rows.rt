@@ -2,9 +2,8 @@
 //
 // A row's first octet and its strides are cut at 65,536, which is past every image.
 ghost use Rattle.std.specs.Prelude.{◌≡◌, ◌<◌, ◌≤◌, length};
-ghost use Rattle.places.specs.Rows.{cut, Few, alone, first_of, onward_by, with_array, reached_by};
+ghost use Rattle.places.specs.Rows.{cut, Few, alone, onward_by, with_array, reached_by};
 
-use basics::least;
 use meaning::ElementName;
 
 // An ARRAY round an element: its count, and how far its elements stand apart.
@@ -22,17 +21,12 @@ pub struct Arrays {
     pub levels: [Level; 4],
 }
 
-// Where the first element of an item stands, and how long it is.
-#[derive(Clone, Copy)]
-pub struct Extent {
-    pub first: usize,
-    pub length: usize,
-}
-
-// What is found for an element's item, with the ARRAYs round it; none if it doesn't stand here.
+// What is found for an element's item: where its first element stands, how long it is, and the ARRAYs
+// round it. An item that doesn't stand here has no row.
 #[derive(Clone, Copy)]
 pub struct Row {
-    pub stands: Option<Extent>,
+    pub first: usize,
+    pub length: usize,
     pub arrays: Arrays,
 }
 
@@ -40,16 +34,17 @@ pub struct Row {
 pub(crate) fn cut(size: usize) -> usize
     ensures { result ≡ cut size }
 {
-    least(size, 65536)
+    size.min(65536)
 }
 
 impl Row {
-    // A row with no ARRAYs.
-    pub(crate) fn alone(stands: Option<Extent>) -> Row
-        ensures { result ≡ alone stands }
+    // A row at the first octet, with no ARRAYs.
+    pub(crate) fn alone(length: usize) -> Row
+        ensures { result ≡ alone length }
     {
         Row {
-            stands,
+            first: 0,
+            length,
             arrays: Arrays {
                 depth: 0,
                 levels: [Level {
@@ -60,31 +55,13 @@ impl Row {
         }
     }
 
-    // The one of the two that is a row.
-    #[tactic(auto, unfolding(crate::specs::Rows::first_by))]
-    pub(crate) fn or(self, other: Row) -> Row
-        ensures { result ≡ first_of self other }
-    {
-        match self.stands {
-            Some(_) => self,
-            None => other,
-        }
-    }
-
     // So many octets further on.
-    #[tactic(auto, unfolding(crate::specs::Rows::moved_by))]
     pub(crate) fn onward(self, by: usize) -> Row
         ensures { result ≡ onward_by by self }
     {
-        match self.stands {
-            Some(Extent { first, length }) => Row {
-                stands: Some(Extent {
-                    first: cut(cut(by) + cut(first)),
-                    length,
-                }),
-                ..self
-            },
-            None => self,
+        Row {
+            first: cut(cut(by) + cut(self.first)),
+            ..self
         }
     }
 

@@ -4,7 +4,7 @@
 ghost use Rattle.std.specs.Prelude.{◌≡◌};
 ghost use Rattle.meaning.specs.Layout.{lay_out};
 ghost use Rattle.meaning.specs.Refusals.{open_laid, open_image};
-ghost use Rattle.places.specs.Surveying.{is_first, seat_in, first_standing, held_after, TableReady, TableAs, SurveyReady, AnswerAs};
+ghost use Rattle.places.specs.Surveying.{is_first, seat_in, held_after, TableReady, TableAs, SurveyReady, AnswerAs};
 
 use crate::rows::Row;
 use crate::walk::{Aim, Walk, walk_body};
@@ -47,7 +47,7 @@ pub struct Answer {
     pub numbers: [u32; 64],
     pub first: Option<TableSpot>,
     pub second: Option<TableSpot>,
-    pub element: Standing,
+    pub element: Option<Standing>,
     pub held: bool,
 }
 
@@ -60,7 +60,7 @@ pub struct Survey {
     pub next: Cursor,
     pub first: Option<TableSpot>,
     pub second: Option<TableSpot>,
-    pub element: Standing,
+    pub element: Option<Standing>,
     pub held: bool,
 }
 
@@ -84,17 +84,6 @@ fn seat(before: Option<TableSpot>, this: bool, table: TableSpot) -> Option<Table
         return Some(table);
     }
     before
-}
-
-// The one of the two that is a row.
-#[tactic(auto, unfolding(crate::specs::Rows::first_by))]
-fn first_standing(before: Standing, now: Standing) -> Standing
-    ensures { result ≡ first_standing before now }
-{
-    match before.row.stands {
-        Some(_) => before,
-        None => now,
-    }
 }
 
 // Whether the octets asked about hold one of a dimension: told by the walk over their table, if they
@@ -135,7 +124,7 @@ fn survey_table(d: &[u8], image: &[u8], asked: Asked, s: Survey) -> Result<Surve
     let before = Walk {
         numbers,
         octets: TableOffset::new(0),
-        row: Row::alone(None),
+        row: None,
         held: false,
         next,
     };
@@ -160,7 +149,7 @@ fn survey_table(d: &[u8], image: &[u8], asked: Asked, s: Survey) -> Result<Surve
         next: next.past(h.first),
         first: seat(first, this, table),
         second: seat(second, that, table),
-        element: first_standing(element, Standing { start, row }),
+        element: element.or(row.map(|row| Standing { start, row })),
         held: held_after(held, this, fits, holds),
     })
 }
@@ -178,10 +167,7 @@ fn survey_image(d: &[u8], image: &[u8], asked: Asked) -> Result<Answer, Refusal>
         next: Cursor::first(),
         first: None,
         second: None,
-        element: Standing {
-            start,
-            row: Row::alone(None),
-        },
+        element: None,
         held: false,
     };
     // The next table is past all items of this one, so no range tells it.

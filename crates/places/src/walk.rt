@@ -53,7 +53,7 @@ fn holds_one(here: TableOffset, size: usize, from: TableOffset, octets: usize) -
 pub struct Walk {
     pub numbers: [u32; 64],
     pub octets: TableOffset,
-    pub row: Row,
+    pub row: Option<Row>,
     pub held: bool,
     pub next: Cursor,
 }
@@ -113,7 +113,7 @@ fn step(
     }
     let far = walked.octets();
     let octets = TableOffset::new(far + size);
-    let row = before.or(row.onward(far));
+    let row = before.or(row.map(|row| row.onward(far)));
     if slot == 0 {
         return Ok(Walk {
             numbers,

@@ -9,7 +9,7 @@ use Rattle.places.proofs.measure.+body_size_item_size.Goals as goal
 
 pub body_size-loop-numbers-init : goal.body_size-loop-numbers-init
 body_size-loop-numbers-init t c =
-    rw c.alone.ensures (started _ _ _ _ _ _ c.requires)
+    started _ _ _ _ _ _ c.requires
 
 pub body_size-item_size-one-requires : goal.body_size-item_size-one-requires
 body_size-item_size-one-requires t c =

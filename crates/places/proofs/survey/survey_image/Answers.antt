@@ -6,7 +6,7 @@ use Rattle.places.proofs.survey.survey_image.Goals as goal
 
 pub loop-asked-init : goal.loop-asked-init
 loop-asked-init c =
-    rw c.alone.ensures (set_out _ _ _ _ _ c.first-start.ensures c.first.ensures c.requires.passes)
+    set_out _ _ _ _ _ c.first-start.ensures c.first.ensures c.requires.passes
 
 pub returns : goal.returns
 returns c =
