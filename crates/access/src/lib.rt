@@ -4,7 +4,8 @@
 //
 // Any description, image and question get an answer. Refusals 1 to 9 come first, then 10 or 22 to
 // 26, then 12 to 15 in their order. A write's place is found before an octet is written, so a refused write changes none.
-// Nothing is kept: each call lays the image out anew.
+// Nothing is kept: each call lays the image out anew. Description and image, and a table's two numbers, come
+// apart, since the public calls are so stated (docs/STATEMENTS.md, crates/unique).
 #![tactic(auto)]
 
 ghost use Rattle.std.specs.Prelude.{◌≡◌, ◌+◌, ◌^◌, ◌<◌, length, if◌then◌else◌};
@@ -183,6 +184,8 @@ fn number_place(description: &[u8], image: &[u8], name: ElementName, value: u64)
 }
 
 // THE OCTETS AT A PLACE
+// They are empty where there is a refusal, and no Result: the public calls are so stated (table_part_reply and
+// the like), and the place's own call tells the refusal.
 #[tactic(auto, unfolding(meaning::specs::Refusals::place_part), using(crate::proofs::Inside::first_told))]
 fn part_at<'a>(image: &'a [u8], place: Place) -> &'a [u8]
     requires { Inside image.now place }
@@ -195,7 +198,8 @@ fn part_at<'a>(image: &'a [u8], place: Place) -> &'a [u8]
     }
 }
 
-// Writes octets at a place; none where there is a refusal.
+// Writes octets at a place; none where there is a refusal. The place is taken refused or not, as the
+// definitions of verdict and image have it (place_verdict, image_with).
 #[tactic(auto, unfolding(meaning::specs::Refusals::place_verdict, meaning::specs::Refusals::image_with), using(crate::proofs::Laws::put_there))]
 fn write_at(image: &mut [u8], place: Place, new: &[u8]) -> Verdict
     requires { FitsAt image.old (length new.now) place }

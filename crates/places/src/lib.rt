@@ -5,7 +5,8 @@
 // before any other. No memory is written. The definitions lay out element by element; the code goes
 // over the description's items once, and finds for an element's item a row, of which the place of
 // any of its elements is told by arithmetic. Why there is no such element is told by the items before
-// its own, which are looked at once more then.
+// its own, which are looked at once more then. Description and image, and a table's two numbers, come apart,
+// since the public calls are so stated (docs/STATEMENTS.md, crates/unique).
 #![tactic(auto)]
 
 mod measure;
@@ -76,7 +77,8 @@ fn place_of_table(table: Option<TableSpot>) -> Place
     })
 }
 
-// For those who ask for less: table 0 of the standard, item 0, no octets.
+// For those who ask for less: table 0 of the standard, item 0, no octets. No Options: one walk finds it all,
+// and what wasn't asked for isn't looked at.
 fn nothing_asked() -> Asked
     ensures { result ≡ nothing_asked }
 {
@@ -93,7 +95,8 @@ fn nothing_asked() -> Asked
     }
 }
 
-// Where an element is, or why there is none; of one whose number is asked, or not.
+// Where an element is, or why there is none; of one whose number is asked, or not: a bool, as the definitions
+// (element_place_in, suits, why_none) take it.
 fn place_or_why(description: &[u8], image: &[u8], name: ElementName, number: bool) -> Place
     ensures { result ≡ element_place_in number description.now name (open_image description.now image.now) }
 {

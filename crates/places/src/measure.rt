@@ -83,7 +83,8 @@ fn inner_of(d: &[u8], f: Fields, next: Cursor, value: u32) -> Inner
 }
 
 // SIZES
-// A size, and in it the row of the item asked for, if it stands there.
+// A size, and in it the row of the item asked for, if it stands there. That sizes are cut and levels are few
+// (Few) is asked by clauses: how few differs, by what an ARRAY is to be added to.
 #[derive(Clone, Copy)]
 pub struct Span {
     pub size: usize,

@@ -52,7 +52,7 @@ pub struct Answer {
 }
 
 // Tables laid one after another: the numbers of the slots, where the next table starts and its item,
-// and what of that asked for is found among those laid.
+// and what of that asked for is found among those laid. No Answer inside: it has no total yet.
 #[derive(Clone, Copy)]
 pub struct Survey {
     pub numbers: [u32; 64],
@@ -64,7 +64,8 @@ pub struct Survey {
     pub held: bool,
 }
 
-// Whether a table is the one of that name, and none was found before.
+// Whether a table is the one of that name, and none was found before. Number by number: the fields hold a
+// name's two numbers apart, and a derived == would need one built first.
 #[tactic(auto, unfolding(crate::specs::Surveying::is_first))]
 fn is_first(before: Option<TableSpot>, h: Fields, name: TableName) -> bool
     ensures { result ≡ is_first before h name }

@@ -80,8 +80,8 @@ fn image_short(at: Cursor, here: ImageOffset) -> Refusal
     }
 }
 
-// A piece that ends inside the image or not: a UINT, BLOCK or SET, which may set a slot (0 is none),
-// or a whole ARRAY. The item after it is `next`.
+// A piece that ends inside the image or not: a UINT, BLOCK or SET, which may set a slot (0 is none,
+// as in Fields, by which the definitions go), or a whole ARRAY. The item after it is `next`.
 fn step(
     image: &[u8],
     aim: Aim,

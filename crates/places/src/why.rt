@@ -170,7 +170,7 @@ fn is_counted(name: ElementName, arrays: usize) -> bool
     both(name.count <= 4, name.count == arrays)
 }
 
-// The first cause.
+// The first cause; NONE where nothing is in the way, as the definition (why_none) has it.
 pub(crate) fn why_none(d: &[u8], numbers: [u32; 64], name: ElementName, number: bool) -> Refusal
     ensures { result ≡ why_none number d.now (numbers_in numbers) name }
 {
