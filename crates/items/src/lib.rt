@@ -142,7 +142,9 @@ fn if_of(word: u32) -> Fields
     Fields::MALFORMED
 }
 
-// What an item says, from its word.
+// What an item says, from its word. Inlined, and read too: who looks for a field or two, as rule 6 does among
+// all items before a TABLE, has no others made.
+#[inline(always)]
 fn fields_of(word: u32) -> Fields
     ensures { result ≡ fields_of word }
 {
@@ -196,6 +198,7 @@ impl Cursor {
 
     // What the item here says, and the place after it. Past the last item there is none: it reads
     // as malformed, and the place stays.
+    #[inline(always)]
     pub fn read(self, description: &[u8]) -> Read
         ensures { result ≡ read_at description.now self.at }
     {
