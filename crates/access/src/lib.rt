@@ -212,6 +212,9 @@ fn write_at(image: &mut [u8], place: Place, new: &[u8]) -> Verdict
 }
 
 // THE PUBLIC CALLS
+// Each is stated by a clause and a theorem of crate unique of its own; what two of them share is one function
+// above.
+
 // The table itself, as a part of the image; empty on refusal.
 #[tactic(auto, unfolding(meaning::specs::Refusals::table_part_reply), using(crate::proofs::Inside::table_inside))]
 pub fn table_part<'a>(

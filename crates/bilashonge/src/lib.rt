@@ -140,7 +140,7 @@ impl From<Told> for Weekday {
     }
 }
 
-// Subscript k of those lent, 0 past the last.
+// Subscript k of those lent, 0 past the last, and no None, as the definition (element_named) has it.
 fn subscript(subscripts: &[usize], k: usize) -> usize
     ensures { result ≡ get_or subscripts.now k 0 }
 {

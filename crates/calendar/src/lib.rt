@@ -257,16 +257,14 @@ impl<'a> Calendar<'a> {
     }
 
     // 16, then 18.
-    #[tactic(auto, using(crate::proofs::Laws::few_minutes), unfolding(meaning::specs::Calendar::tier_in))]
+    #[tactic(auto, using(crate::proofs::Laws::few_minutes), unfolding(meaning::specs::Calendar::tier_in, dates::specs::Days::day_of))]
     fn tier_in(&self, moment: Moment, quantity: Quantity) -> Reply
         ensures { result ≡ tier_in moment quantity (found self.now.order self.now.controls self.now.table.now) }
     {
         if !dates::is_time(moment.hour, moment.minute) {
             return Err(Refusal::NOT_A_DATE);
         }
-        let Some(day) = dates::day_of(moment.year, moment.month, moment.day) else {
-            return Err(Refusal::NOT_A_DATE);
-        };
+        let day = dates::day_of(moment.year, moment.month, moment.day).ok_or(Refusal::NOT_A_DATE)?;
         if self.controls.armed {
             return Err(Refusal::SEASON_CHANGE_ARMED);
         }
@@ -283,13 +281,11 @@ impl<'a> Calendar<'a> {
     }
 
     // 16 alone.
-    #[tactic(auto, unfolding(meaning::specs::Calendar::seasoned_in))]
+    #[tactic(auto, unfolding(meaning::specs::Calendar::seasoned_in, dates::specs::Days::day_of))]
     fn seasoned_in(&self, date: Date) -> Reply
         ensures { result ≡ seasoned_in date (found self.now.order self.now.controls self.now.table.now) }
     {
-        let Some(day) = dates::day_of(date.year, date.month, date.day) else {
-            return Err(Refusal::NOT_A_DATE);
-        };
+        let day = dates::day_of(date.year, date.month, date.day).ok_or(Refusal::NOT_A_DATE)?;
         if self.season_stands(day) {
             return Ok(Answer::Yes);
         }

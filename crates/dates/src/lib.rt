@@ -19,7 +19,7 @@ fn is_leap(year: u32) -> bool
     year % 4 == 0 && (year % 100 != 0 || year % 400 == 0)
 }
 
-// No such month has no days.
+// No such month has no days: 0 and no None, as the definition (month_length) has it.
 #[tactic(auto, unfolding(meaning::specs::Calendar::month_length))]
 fn month_length(year: u32, month: u32) -> u32
     ensures { result ≡ month_length year month }
@@ -84,7 +84,7 @@ pub fn day_of(year: u32, month: u32, day: u32) -> Option<u32>
     None
 }
 
-// 0 is Sunday, 6 Saturday. The remainder is taken first, as the number after the last wouldn't fit.
+// 0 is Sunday, 6 Saturday: a number and no enum, as the definition (weekday_of) counts. The remainder is taken first, as the number after the last wouldn't fit.
 #[tactic(auto, unfolding(meaning::specs::Calendar::weekday_of))]
 pub fn weekday(day: u32) -> u32
     ensures { result ≡ weekday_of day }

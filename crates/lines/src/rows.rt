@@ -165,7 +165,7 @@ fn columns(
       after = after;
     } }
 {
-    let last = if given { 1 } else { 0 };
+    let last = usize::from(given);
     Form {
         words: 1 + lent + numbers + last,
         lent,

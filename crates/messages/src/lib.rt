@@ -62,7 +62,8 @@ pub fn read_request(request: &[u8]) -> Result<Requested, u32>
     requests::read(request)
 }
 
-// A request's data, as a part of it; none but in a write.
+// A request's data, as a part of it; empty, and no None, but in a write: so crate unique states it, by the
+// definition request_data.
 pub fn request_data<'a>(request: &'a [u8]) -> &'a [u8]
     ensures reply { result.now ≡ request_data (request_in request.now) }
     ensures place { result.ref_ptr ≡ (request.entry.ref_ptr.0, request.entry.ref_ptr.1 + (request_told (requested_by (request_in request.now))).start) }
@@ -117,7 +118,8 @@ pub fn read_reply(reply: &[u8]) -> Result<Heard, Refusal>
     replying::read(reply)
 }
 
-// A reply's data, as a part of it; none but in the reply to a read.
+// A reply's data, as a part of it; empty, and no None, but in the reply to a read: so crate unique states it,
+// by the definition reply_data.
 pub fn reply_data<'a>(reply: &'a [u8]) -> &'a [u8]
     ensures reply { result.now ≡ reply_data (reply_in reply.now) }
     ensures place { result.ref_ptr ≡ (reply.entry.ref_ptr.0, reply.entry.ref_ptr.1 + (reply_told (heard_by (reply_in reply.now))).start) }
@@ -133,7 +135,8 @@ pub fn reply_data<'a>(reply: &'a [u8]) -> &'a [u8]
     }
 }
 
-// Writes a meter's reply into the room. Its kind is 1 for data, 2 for done, 3 for refused.
+// Writes a meter's reply into the room. Its kind is 1 for data, 2 for done, 3 for refused: numbers and no
+// Heard, as C hands them on, and the definition (reply_of) takes them.
 pub fn write_reply(kind: u64, code: u64, new: &[u8], room: &mut [u8]) -> Reply
     ensures reply { result ≡ reply_sent (reply_of kind code new.now) room.old }
     ensures room { room.new ≡ reply_room (reply_of kind code new.now) room.old }

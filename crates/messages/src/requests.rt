@@ -19,7 +19,7 @@ const FAULTY: u32 = 1;
 
 const UNKNOWN: u32 = 2;
 
-// READING
+// READING. A function for each form: they differ in their fields and in how long they are.
 fn id_of(request: &[u8]) -> u32
     requires { 3 ≤ length request.now }
     ensures { result ≡ number_from request.now 1 2 }

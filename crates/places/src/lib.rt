@@ -34,7 +34,7 @@ pub struct Places {
 }
 
 // A table that a range may lie in: its item, where it starts, how long it is, and whether the range
-// lies in it and holds an octet of a dimension.
+// lies in it and holds an octet of a dimension. No TableSpot inside: the definition (range_in) has these fields.
 #[derive(Clone, Copy)]
 pub struct RangeTable {
     pub item: usize,
@@ -118,6 +118,9 @@ fn place_or_why(description: &[u8], image: &[u8], name: ElementName, number: boo
 }
 
 // THE PUBLIC CALLS
+// Each is stated by a clause and a theorem of crate unique of its own; what two of them share is one function
+// above.
+
 // Lays the image out: the total of octets used.
 pub fn layout(description: &[u8], image: &[u8]) -> Reply
     ensures { result ≡ layout_reply description.now image.now }

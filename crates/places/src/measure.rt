@@ -22,7 +22,8 @@ pub(crate) fn is_array(f: Fields) -> bool
     f.kind == Kind::Array
 }
 
-// The value of an item's reference, where slots have these numbers; 0 for an item without one.
+// The value of an item's reference, where slots have these numbers; 0 for an item without one, and no None,
+// as the definition (value) has it.
 #[tactic(auto, unfolding(meaning::specs::Layout::value, meaning::specs::Layout::bit_range))]
 pub(crate) fn value(numbers: [u32; 64], f: Fields) -> u32
     requires { FieldsRange f × (length numbers ≡ 64) }
@@ -45,7 +46,7 @@ fn leaf_octets(f: Fields, value: u32) -> usize
         return f.octets;
     }
     if f.flags {
-        return (value + 7) / 8;
+        return value.div_ceil(8);
     }
     value
 }

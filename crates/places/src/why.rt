@@ -63,7 +63,8 @@ fn arrays_round(d: &[u8], item: usize) -> usize
     arrays
 }
 
-// The subscript at a depth; 0 past the count, and past the four places.
+// The subscript at a depth; 0 past the count, and past the four places, and no None: the definition
+// (subscripts_of) is asked so.
 fn subscript_at(name: ElementName, depth: usize) -> usize
     ensures { result ≡ get_or (subscripts_of name) depth 0 }
 {

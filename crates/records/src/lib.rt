@@ -75,7 +75,8 @@ fn selected(first: u32, last: u32, action: u32) -> Option<u32>
 }
 
 // A season holds from its day on, and actions 3 to 18 select it. This and the next compare the day
-// differently; one function that is handed the comparison would be no plainer.
+// differently; one function that is handed the comparison would be no plainer, and of `filter` a proof could
+// cite nothing that its closure answers.
 #[tactic(auto, using(crate::proofs::Laws::season_is))]
 fn season_entry(today: u32, triple: Triple) -> Chosen
     ensures { result ≡ season_entry today triple }

@@ -151,8 +151,8 @@ fn slot_taken(f: Fields, slots: &[u8; 64]) -> bool
     is_dimension(f) && 0 < octets_of_slot(slots, sets)
 }
 
-// What is known of the slots (Known) is asked by clauses: it speaks of the description and the item as well,
-// which a struct of the slots would have to carry for the proof alone.
+// What is known of the slots (Known), and that the item is there (There), is asked by clauses: it speaks of the
+// description and the item as well, which a struct of the slots would have to carry for the proof alone.
 fn breaks6(d: &[u8], f: Fields, i: usize, slots: &[u8; 64]) -> bool
     requires { There d.now i × FieldsRange f × Known d.now i slots.now }
     ensures { result ≡ breaks6 d.now f i }

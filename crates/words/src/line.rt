@@ -5,7 +5,8 @@ ghost use Rattle.words.specs.Line.{line_words, split_of, places_of, part_of, par
 
 use crate::types::{Span, Words};
 
-// The place of the first space at or after `from`; the text's end where there is none.
+// The place of the first space at or after `from`; the text's end where there is none, and no None: a word
+// ends there either way.
 fn find_space(text: &[u8], from: usize) -> usize
     requires { from ≤ length text.now }
     ensures value { result ≡ from + first_of 32 (drop from text.now) }
@@ -32,7 +33,7 @@ fn no_words() -> Words
 }
 
 // Where the line's words are; no words where one of them is empty or there are more than forty. One
-// turn finds one word.
+// turn finds one word. By index: the word's number is asked for too.
 pub fn split(line: &[u8]) -> Words
     ensures { result ≡ split_of line.now }
 {
@@ -55,7 +56,8 @@ pub fn split(line: &[u8]) -> Words
     no_words()
 }
 
-// The octets of a part, or none where it does not stand inside the line. `get` of a range would be
+// The octets of a part, or none, and no None, where it does not stand inside the line, as the definition
+// (part_of) has it. `get` of a range would be
 // the same part, but promises nothing of where it stands, which the clause `place` does.
 fn part(line: &[u8], span: Span) -> &[u8]
     ensures reply { result.now ≡ part_of line.now span }
@@ -70,7 +72,8 @@ fn part(line: &[u8], span: Span) -> &[u8]
     &line[span.start..span.end]
 }
 
-// Word k of a line by the places that split answered for it; no octets where there is no word k.
+// Word k of a line by the places that split answered for it; no octets, and no None, where there is no word k:
+// so crate unique states it, by the definition word_in.
 pub fn word(line: &[u8], places: Words, k: usize) -> &[u8]
     ensures reply { result.now ≡ word_in line.now places k }
     ensures place { result.ref_ptr ≡ (line.entry.ref_ptr.0, line.entry.ref_ptr.1 + word_start line.now places k) }

@@ -1,6 +1,7 @@
 // Texts into a reply. Each function puts a text at a place of out and answers the next place; where
 // there is no room it changes nothing and answers the place itself. Out and place are no struct,
-// since the clause of each public function, `IsPut`, speaks of both.
+// since the clause of each public function, `IsPut`, speaks of both; and the place is no Option, as it has
+// the place itself.
 ghost use Rattle.std.specs.Prelude.{◌≡◌, ◌∷◌, [], ◌+◌, ◌≤◌, ◌<◌, ◌*◌, length};
 ghost use Rattle.words.specs.Put.{laid, IsPut};
 ghost use Rattle.words.specs.Number.{decimal_text};
