@@ -303,6 +303,7 @@ impl<'a> Calendar<'a> {
         &self.table[at..at + self.sections.width]
     }
 
+    // All rows, of cells 0 past the last. By index: a row is asked for by its number.
     fn rows(&self) -> [[u8; 22]; 15]
         ensures { result ≡ matrix_of self.now.controls self.now.table.now }
     {
