@@ -346,10 +346,6 @@ fits_fewer x n = rw (eight_bits n) (go (x <? 256 ^ n) refl)
 
 -- AN ELEMENT'S NUMBER, by its place
 module _ (d img : List ℕ) (q : ElementName) (v : Place) where
-  pub number_refused : (r : Refusal) → v ≡ integer_place_reply d img q → v ≡ Err r → Err r ≡ element_number_reply d img q
-  unfolding element_number_reply place_number
-  number_refused r e h = rw (← e, h)
-
   pub number_is : (p n x : ℕ) → v ≡ integer_place_reply d img q → v ≡ at (record { 0 = p }) n → x ≡ number_at img p n → Ok (Answer.Number x) ≡ element_number_reply d img q
   unfolding element_number_reply place_number
   number_is p n x e h g = rw (← e, h, g)

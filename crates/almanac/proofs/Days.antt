@@ -29,14 +29,6 @@ from_january n = 31 ∷ n ∷ 31 ∷ 30 ∷ 31 ∷ 30 ∷ 31 ∷ 31 ∷ 30 ∷ 3
 abbrev pub months : (february : ℕ) → List ℕ
 months n = 0 ∷ from_january n
 
--- another month is as long in every year
-pub other_month : (y m : ℕ) → (m ≡ 2 → ⊥) → get_or (months 28) m 0 ≡ month_length y m
-unfolding month_length
-other_month y zero h = refl
-other_month y (suc zero) h = refl
-other_month y (suc (suc zero)) h = absurd (h refl)
-other_month y (suc (suc (suc k))) h = refl
-
 pub no_month : (y m : ℕ) → 12 < m → month_length y m ≡ 0
 unfolding month_length
 no_month y m h = get_or-eq_default (months (cond (leap y) 29 28)) 0 h

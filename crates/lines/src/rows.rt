@@ -180,6 +180,7 @@ fn columns(
 
 impl TableKind {
     // The form of the lines that ask this question, and its reply.
+    #[tactic(auto, unfolding(crate::specs::Answer::table_rows, crate::specs::Answer::message_rows, crate::specs::Answer::date_rows, crate::specs::Answer::rows, crate::specs::Answer::row_at, crate::specs::Answer::form_of))]
     pub fn form(self) -> Form
         ensures { result ≡ form_of (tables_place self) }
     {
@@ -204,6 +205,7 @@ impl TableKind {
 
 impl MessageKind {
     // The form of the lines that ask for this message, and its reply.
+    #[tactic(auto, unfolding(crate::specs::Answer::table_rows, crate::specs::Answer::message_rows, crate::specs::Answer::date_rows, crate::specs::Answer::rows, crate::specs::Answer::row_at, crate::specs::Answer::form_of))]
     pub fn form(self) -> Form
         ensures { result ≡ form_of (messages_place self) }
     {
