@@ -2,7 +2,8 @@
 // of two, and whether octets end within a size.
 //
 // `a && b` is the plain form, and stands wherever the check goes its ways by itself. In an `if` it leaves
-// two ways to its `else`, and some proofs in places and messages have to go both; these have one.
+// two ways to its `else`, and some proofs in places and messages have to go both; these have one. In dates and
+// records they are there for speed as well: each `&&` would be a guess of its own.
 #![tactic(auto)]
 
 ghost use Rattle.std.specs.Prelude.{◌≡◌, ◌&&◌, ◌||◌, ◌+◌, ◌/◌, ◌%◌, ◌^◌, ◌<◌, min, leb};
@@ -41,7 +42,7 @@ pub fn bit_range(number: u32, low: u32, width: u32) -> u32
     (above % m) as u32
 }
 
-// The library's `min`, by the name that docs/STATEMENTS.md has.
+// The library's `min`, by the name that docs/STATEMENTS.md has: octets::part and places' `cut` go through it.
 pub fn least(a: usize, b: usize) -> usize
     ensures { result ≡ min a b }
 {

@@ -12,7 +12,7 @@ ghost use Rattle.meaning.specs.Basics.{part, number_in, octets_in};
 ghost use Rattle.meaning.specs.Layout.{data_order};
 ghost use Rattle.octets.specs.Octets.{number_of, number_read, put, place_of, replaced};
 
-use basics::{ends_within, wide};
+use basics::{ends_within, least, wide};
 use offsets::ImageOffset;
 
 // DATA_ORDER: bit 0 of the image's first octet. 0 is least significant octet first. A number and no
@@ -32,8 +32,8 @@ pub fn part<'a>(image: &'a [u8], start: ImageOffset, octets: usize) -> &'a [u8]
     ensures reply { result.now ≡ part image.now start.0 octets }
     ensures place { result.ref_ptr ≡ (image.entry.ref_ptr.0, image.entry.ref_ptr.1 + min start.0 (length image.now)) }
 {
-    let at = start.octet().min(image.len());
-    let end = at + octets.min(image.len() - at);
+    let at = least(start.octet(), image.len());
+    let end = at + least(octets, image.len() - at);
     &image[at..end]
 }
 

@@ -4,6 +4,7 @@
 ghost use Rattle.std.specs.Prelude.{◌≡◌, ◌<◌, ◌≤◌, length};
 ghost use Rattle.places.specs.Rows.{cut, Few, alone, onward_by, with_array, reached_by};
 
+use basics::least;
 use meaning::ElementName;
 
 // An ARRAY round an element: its count, and how far its elements stand apart.
@@ -34,7 +35,7 @@ pub struct Row {
 pub(crate) fn cut(size: usize) -> usize
     ensures { result ≡ cut size }
 {
-    size.min(65536)
+    least(size, 65536)
 }
 
 impl Row {

@@ -129,7 +129,7 @@ fn survey_table(d: &[u8], image: &[u8], asked: Asked, s: Survey) -> Result<Surve
         held: false,
         next,
     };
-    let w = walk_body(d, image, aim, before, h.first, 4)?;
+    let w = walk_body(d, image, aim, &before, next, h.first, 4)?;
     let Walk {
         numbers,
         octets,

@@ -9,7 +9,7 @@ ghost use Rattle.meaning.specs.Ranges.{FieldsRange};
 ghost use Rattle.meaning.specs.Layout.{value};
 ghost use Rattle.meaning.specs.Numbers.{image_short};
 ghost use Rattle.places.specs.Measuring.{numbers_in};
-ghost use Rattle.places.specs.Walking.{Readable, noted, meets, StepReady, step_of, WalkItemReady, WalksItem, WalkBodyReady, WalksBody};
+ghost use Rattle.places.specs.Walking.{Readable, noted, meets, StepReady, step_of, elsewhere, WalkItemReady, WalksItem, WalkBodyReady, WalksBody};
 
 use crate::measure::{Span, chosen, is_array, item_size, leaf_span, value};
 use crate::rows::Row;
@@ -160,15 +160,10 @@ fn walk_item(d: &[u8], image: &[u8], aim: Aim, w: &Walk, depth: usize) -> Result
     let after = next.past(inside);
     if is_choice(f) {
         let taken = chosen(d, f, next, value);
-        let before = Walk {
-            next: next.past(taken.skip),
-            ..*w
-        };
-        let inner = walk_body(d, image, aim, before, taken.items, depth - 1)?;
-        return Ok(Walk {
-            next: after,
-            ..inner
-        });
+        let from = next.past(taken.skip);
+        let mut inner = walk_body(d, image, aim, w, from, taken.items, depth - 1)?;
+        inner.next = after;
+        return Ok(inner);
     }
     if is_array(f) {
         let numbers = w.numbers;
@@ -179,21 +174,24 @@ fn walk_item(d: &[u8], image: &[u8], aim: Aim, w: &Walk, depth: usize) -> Result
     step(image, aim, w, piece, f.sets, after)
 }
 
-// The items of a body, from the walk's place on.
+// The items of a body, from a place on. The walk is lent and the place comes apart, and `inner` above is moved
+// on in place: each copy of a walk takes some 350 octets of stack a level (docs/DECISIONS.md, "Stack").
 #[cycle(walk_body_walk_item)]
 pub(crate) fn walk_body(
     d: &[u8],
     image: &[u8],
     aim: Aim,
-    w: Walk,
+    w: &Walk,
+    from: Cursor,
     items: usize,
     depth: usize,
 ) -> Result<Walk, Refusal>
-    requires { WalkBodyReady d.now image.now aim w items depth }
-    ensures { WalksBody d.now image.now aim w items depth result }
+    requires { WalkBodyReady d.now image.now aim (elsewhere w.now from) items depth }
+    ensures { WalksBody d.now image.now aim (elsewhere w.now from) items depth result }
 {
-    let end = w.next.item() + items;
-    let mut walk = w;
+    let end = from.item() + items;
+    let mut walk = *w;
+    walk.next = from;
     // The next place is past all that is nested in the item, so no range tells it.
     while walk.next.item() < end {
         walk = walk_item(d, image, aim, &walk, depth)?;

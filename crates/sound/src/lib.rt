@@ -66,7 +66,10 @@ fn noted(slots: [u8; 64], f: Fields) -> [u8; 64]
     later
 }
 
-// Whether an item before `end` is that TABLE.
+// Whether an item before `end` is that TABLE. Kept out of line: this loop runs with the square of the items, and
+// by itself its three tests become one, which is guessed right. Inlined in check_body it branches on the kind and
+// the manufacturer of each earlier item, and guesses them wrong where descriptions mix them.
+#[inline(never)]
 fn table_given(d: &[u8], end: usize, manufacturer: u32, number: u32) -> bool
     requires { end ≤ item_count d.now }
     ensures { result ≡ table_given d.now end manufacturer number }

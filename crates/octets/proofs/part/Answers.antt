@@ -5,4 +5,4 @@ use Rattle.octets.proofs.part.Goals as goal
 
 pub returns : goal.returns
 returns c =
-    let from = c.min-at.ensures ∙ rw c.octet.ensures in record { reply = part_cut c.args.image.now c.args.start.0 c.args.octets _ _ from c.min.ensures; place = stands_at _ _ from }
+    let from = c.least-at.ensures ∙ rw c.octet.ensures in record { reply = part_cut c.args.image.now c.args.start.0 c.args.octets _ _ from c.least.ensures; place = stands_at _ _ from }

@@ -42,26 +42,26 @@ walk_item-overflow_add-inside t c =
 pub walk_item-overflow_sub-depth : goal.walk_item-overflow_sub-depth
 walk_item-overflow_sub-depth t c =
     let h = here c.requires c.read.ensures c.value_here-value.ensures c.past-after.ensures in
-    let g = choosing h c.is_choice.ensures c.if-is_choice.true c.chosen-taken.ensures c.past.ensures refl in
+    let g = choosing h c.is_choice.ensures c.if-is_choice.true c.chosen-taken.ensures c.past-from.ensures refl in
     level_left g.enters
 
 pub walk_item-walk_body-requires : goal.walk_item-walk_body-requires
 walk_item-walk_body-requires t c =
     let h = here c.requires c.read.ensures c.value_here-value.ensures c.past-after.ensures in
-    let g = choosing h c.is_choice.ensures c.if-is_choice.true c.chosen-taken.ensures c.past.ensures refl in
+    let g = choosing h c.is_choice.ensures c.if-is_choice.true c.chosen-taken.ensures c.past-from.ensures refl in
     (omega (arith, level_left g.enters), through_ready g)
 
 pub walk_item-returns-in_err-inner : goal.walk_item-returns-in_err-inner
 walk_item-returns-in_err-inner t c =
     let h = here c.requires c.read.ensures c.value_here-value.ensures c.past-after.ensures in
-    let g = choosing h c.is_choice.ensures c.if-is_choice.true c.chosen-taken.ensures c.past.ensures refl in
+    let g = choosing h c.is_choice.ensures c.if-is_choice.true c.chosen-taken.ensures c.past-from.ensures refl in
     let e : c.from_residual.result ≡ Err c.in_err-inner.field-0.0 = search rules in
     rw e (choice_stops g c.in_err-inner.ensures)
 
 pub walk_item-returns-then-is_choice : goal.walk_item-returns-then-is_choice
 walk_item-returns-then-is_choice t c =
     let h = here c.requires c.read.ensures c.value_here-value.ensures c.past-after.ensures in
-    let g = choosing h c.is_choice.ensures c.if-is_choice.true c.chosen-taken.ensures c.past.ensures refl in
+    let g = choosing h c.is_choice.ensures c.if-is_choice.true c.chosen-taken.ensures c.past-from.ensures refl in
     choice_walks g c.in_ok-inner.ensures
 
 pub walk_item-item_size-all-requires : goal.walk_item-item_size-all-requires
