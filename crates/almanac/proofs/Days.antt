@@ -29,6 +29,14 @@ from_january n = 31 ∷ n ∷ 31 ∷ 30 ∷ 31 ∷ 30 ∷ 31 ∷ 31 ∷ 30 ∷ 3
 abbrev pub months : (february : ℕ) → List ℕ
 months n = 0 ∷ from_january n
 
+-- another month is as long in every year
+pub other_month : (y m : ℕ) → (m ≡ 2 → ⊥) → get_or (months 28) m 0 ≡ month_length y m
+unfolding month_length
+other_month y zero h = refl
+other_month y (suc zero) h = refl
+other_month y (suc (suc zero)) h = absurd (h refl)
+other_month y (suc (suc (suc k))) h = refl
+
 pub no_month : (y m : ℕ) → 12 < m → month_length y m ≡ 0
 unfolding month_length
 no_month y m h = get_or-eq_default (months (cond (leap y) 29 28)) 0 h
@@ -99,6 +107,15 @@ years_most (suc n) = omega (arith, years_most n, cond_most (leap (1990 + n)) 366
 -- how many days of a common year come before each month
 abbrev pub days_before : List ℕ
 days_before = 0 ∷ 0 ∷ 31 ∷ 59 ∷ 90 ∷ 120 ∷ 151 ∷ 181 ∷ 212 ∷ 243 ∷ 273 ∷ 304 ∷ 334 ∷ []
+
+-- a month's own days: those of a common year, and one more for February in a leap year
+pub month_at_once : (y m : ℕ) (b : Bool) → (eqb m 2 && leap y) ≡ b → get_or (months 28) m 0 + cond b 1 0 ≡ month_length y m
+month_at_once y m b e = go (eqb m 2) refl b e
+  where
+    go : (is : Bool) → eqb m 2 ≡ is → (b : Bool) → (is && leap y) ≡ b → get_or (months 28) m 0 + cond b 1 0 ≡ month_length y m
+    go true h true l = let two : m ≡ 2 = eqb-true m 2 h in rw two (february y 2 true refl l)
+    go true h false l = let two : m ≡ 2 = eqb-true m 2 h in rw two (february y 2 false refl l)
+    go false h b l = rw (← l) (let other = other_month y m (eqb-false m 2 h) in omega (arith, other))
 
 -- in a leap year one more from March on
 abbrev before_month : (isLeap : Bool) → (m : ℕ) → ℕ

@@ -1,5 +1,8 @@
 // Dates and times of day: whether they are real, a date's day number, the weekday. Years from 1990 to
 // 2089; any numbers may be given.
+//
+// Tests are joined by `both` and `either`, not by `&&` and `||`, and a month's days come from a table, not
+// from a `match`: none of it makes a processor guess its way, so a real date takes as long whichever it is.
 #![tactic(auto)]
 
 ghost use Rattle.std.specs.Prelude.{◌≡◌, ◌≤◌, ◌&&◌};
@@ -7,38 +10,39 @@ ghost use Rattle.meaning.specs.Basics.{◌<?◌};
 ghost use Rattle.meaning.specs.Calendar.{leap, month_length, real_date, real_time, year_days, month_days, weekday_of, weekday_reply};
 ghost use Rattle.dates.specs.Days.{day_of};
 
+use basics::{both, either};
 use meaning::{Answer, Date, Refusal, Reply};
 
-// How many days come before each month, by its number, in a year that is no leap year.
+// How many days each month has, by its number, in a year that is no leap year.
+const DAYS_IN: [u32; 13] = [0, 31, 28, 31, 30, 31, 30, 31, 31, 30, 31, 30, 31];
+
+// And how many come before it.
 const DAYS_BEFORE: [u32; 13] = [0, 0, 31, 59, 90, 120, 151, 181, 212, 243, 273, 304, 334];
 
 #[tactic(auto, unfolding(meaning::specs::Calendar::leap))]
 fn is_leap(year: u32) -> bool
     ensures { result ≡ leap year }
 {
-    year % 4 == 0 && (year % 100 != 0 || year % 400 == 0)
+    both(year % 4 == 0, either(year % 100 != 0, year % 400 == 0))
 }
 
 // No such month has no days: 0 and no None, as the definition (month_length) has it.
-#[tactic(auto, unfolding(meaning::specs::Calendar::month_length))]
 fn month_length(year: u32, month: u32) -> u32
     ensures { result ≡ month_length year month }
 {
-    match month {
-        1 | 3 | 5 | 7 | 8 | 10 | 12 => 31,
-        4 | 6 | 9 | 11 => 30,
-        2 if is_leap(year) => 29,
-        2 => 28,
-        _ => 0,
+    let days = DAYS_IN.get(month as usize).copied().unwrap_or(0);
+    if both(month == 2, is_leap(year)) {
+        return days + 1;
     }
+    days
 }
 
 #[tactic(auto, unfolding(meaning::specs::Calendar::real_date))]
 fn is_real(year: u32, month: u32, day: u32) -> bool
     ensures { result ≡ real_date year month day }
 {
-    let in_years = 1990 <= year && year <= 2089;
-    in_years && 0 < day && day <= month_length(year, month)
+    let in_years = both(1990 <= year, year <= 2089);
+    both(both(in_years, 0 < day), day <= month_length(year, month))
 }
 
 // The days of so many years from 1990 on. Every fourth has one more: 1992 is the first of them, and 2000
@@ -56,7 +60,7 @@ fn year_days(years: u32) -> u32
 fn past_leap_day(year: u32, month: u32) -> bool
     ensures { result ≡ (2 <? month && leap year) }
 {
-    2 < month && is_leap(year)
+    both(2 < month, is_leap(year))
 }
 
 // The days of a year before a month. A leap year has one more before March and each month behind it.
@@ -72,9 +76,10 @@ fn month_days(year: u32, month: u32) -> u32
 }
 
 // A day's number, 1 January 1990 being 0; none where there is no such date. It is worked out at once: it
-// takes as long for every date. Three numbers and no Date, as crate unique states it: records and moments
-// have no Date to give.
+// takes as long for every real date; and inlined, as a call would be a good part of it. Three numbers and no
+// Date, as crate unique states it: records and moments have no Date to give.
 #[tactic(auto, using(almanac::proofs::Days::real, crate::proofs::Laws::day_fits), unfolding(crate::specs::Days::day_of, meaning::specs::Calendar::day_number))]
+#[inline]
 pub fn day_of(year: u32, month: u32, day: u32) -> Option<u32>
     ensures { result ≡ day_of year month day }
 {
@@ -106,5 +111,5 @@ pub fn weekday_of(date: Date) -> Reply
 pub fn is_time(hour: u32, minute: u32) -> bool
     ensures { result ≡ real_time hour minute }
 {
-    hour <= 23 && minute <= 59
+    both(hour <= 23, minute <= 59)
 }

@@ -15,6 +15,7 @@ use Rattle.almanac.proofs.Tests.{lt_or_ge}
 use Rattle.almanac.proofs.Latest.{none_later}
 use Rattle.meaning.specs.Basics.{◌=?◌, ◌≤?◌, part, number_in}
 use Rattle.meaning.specs.Calendar.{triple_at, triples, entry_if, or_later, latest, record_real, record_day, action, selects_season, season_entry, special_entry}
+use Rattle.meaning.specs.declared.Entry.{Entry}
 use Rattle.meaning.specs.declared.Triple.{Triple}
 use Rattle.meaning.proofs.Splices.{part_long, part_at, part_part}
 use Rattle.basics.proofs.Bits.{from_bit_0}
@@ -22,7 +23,7 @@ use Rattle.octets.specs.Octets.{number_of}
 use Rattle.octets.proofs.Laws.{number_few}
 use Rattle.dates.specs.Days.{day_of}
 use Rattle.records.specs.declared.Wanted.{Wanted}
-use Rattle.records.specs.Records.{record_date, selected, brought_to, latest_in}
+use Rattle.records.specs.Records.{record_date, selected, brought_to, when_of, latest_in}
 use Rattle.meaning.specs.Values.{Chosen, entry}
 
 -- A RECORD
@@ -79,6 +80,12 @@ module _ (o : ℕ) (t : List ℕ) (at m : ℕ) (inside : at + m ≤ length t) wh
       ap₂ (λ (r : Triple) (rs : List Triple). r ∷ rs) (triple_part k (omega arith)) (triples_part (k + 3) n (omega arith) ∙ ap (λ (p : ℕ). triples o t p n) (sym z))
 
 -- THE LATEST, from the first record on
+-- of two records, by one comparison
+pub later_by_when : (a : Chosen) (e : Entry) → or_later a (Some e) ≡ (if when_of a ≤? e.when then Some e else a)
+unfolding or_later when_of
+later_by_when None e = rw (le-leb 0 e.when (omega arith))
+later_by_when (Some x) e = refl
+
 or_later_assoc : (a b c : Chosen) → or_later (or_later a b) c ≡ or_later a (or_later b c)
 unfolding or_later
 or_later_assoc None b c = refl

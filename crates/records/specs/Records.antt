@@ -22,6 +22,11 @@ brought_to (Season today) r = season_entry today r
 brought_to (Special today) r = special_entry today r
 brought_to (Switch separate q n m) r = switch_entry separate q n m r
 
+-- from when something holds; 0 where there is nothing
+unfoldable pub when_of : Chosen → ℕ
+when_of None = 0
+when_of (Some e) = e.when
+
 -- the latest of what whole records of three octets bring
 unfoldable pub latest_in : (order : ℕ) → (records : List ℕ) → Wanted → Chosen
 latest_in o xs w = latest (brought_to w) (triples o xs 0 (length xs / 3))

@@ -4,11 +4,11 @@
 // Any octets may be given; one or two past the last whole record aren't read.
 #![tactic(auto)]
 
-ghost use Rattle.std.specs.Prelude.{◌≡◌};
+ghost use Rattle.std.specs.Prelude.{◌≡◌, if◌then◌else◌};
 ghost use Rattle.meaning.specs.Calendar.{triple_at, or_later, year_of, flagged_for, counts, season_entry, special_entry, switch_entry};
-ghost use Rattle.records.specs.Records.{record_date, selected, brought_to, latest_in};
+ghost use Rattle.records.specs.Records.{record_date, selected, brought_to, when_of, latest_in};
 
-use basics::wide;
+use basics::{both, either, wide};
 use meaning::{Chosen, Entry, Quantity, Triple};
 
 // What is wanted of some records. An enum and no closure, since crates/unique states of `latest` over it
@@ -115,9 +115,11 @@ fn flagged_for(quantity: Quantity, word: u32) -> bool
 fn does_count(separate: bool, quantity: Quantity, word: u32) -> bool
     ensures { result ≡ counts separate quantity word }
 {
-    !separate || flagged_for(quantity, word)
+    either(!separate, flagged_for(quantity, word))
 }
 
+// The tests are joined by `both`, not by `&&`, and the entry is made before they are asked, with no early
+// return: of switches in any order each test alone is a guess that a processor often gets wrong.
 #[tactic(auto, using(basics::proofs::Bits::from_bit_0), unfolding(meaning::specs::Calendar::switch_entry, meaning::specs::Calendar::switch_minute))]
 fn switch_entry(
     separate: bool,
@@ -132,15 +134,16 @@ fn switch_entry(
     let hours = word / 2048 % 32;
     let minutes = word / 32 % 64;
     let when = 60 * hours + minutes;
-    let of_it = triple.octet == schedule && dates::is_time(hours, minutes);
-    let come = of_it && when <= minute;
-    if come && does_count(separate, quantity, word) {
-        return Some(Entry {
-            when,
-            brings: word % 8,
-        });
+    let of_it = both(triple.octet == schedule, dates::is_time(hours, minutes));
+    let come = both(of_it, when <= minute);
+    let mut entry = Some(Entry {
+        when,
+        brings: word % 8,
+    });
+    if !both(come, does_count(separate, quantity, word)) {
+        entry = None;
     }
-    None
+    entry
 }
 
 // THE LATEST
@@ -160,21 +163,38 @@ fn brought_to(wanted: Wanted, triple: Triple) -> Chosen
     }
 }
 
+// From when something holds; 0 where there is nothing.
+#[tactic(auto, unfolding(crate::specs::Records::when_of))]
+fn when_of(chosen: Chosen) -> u32
+    ensures { result ≡ when_of chosen }
+{
+    match chosen {
+        None => 0,
+        Some(entry) => entry.when,
+    }
+}
+
+// Whether what a later record brings takes the place of what an earlier one brings. Where there is no earlier
+// one, 0 stands for its time, so that one comparison tells it: whether there is one is no test of its own, and
+// no guess.
+#[tactic(auto, using(almanac::proofs::Latest::none_later, crate::proofs::Laws::later_by_when))]
+fn replaces(later: Chosen, earlier: Chosen) -> bool
+    ensures { or_later earlier later ≡ (if result then later else earlier) }
+{
+    match later {
+        None => false,
+        Some(entry) => when_of(earlier) <= entry.when,
+    }
+}
+
 // Of what two records bring, the later; of equals, what the later record brings.
-#[tactic(auto, unfolding(meaning::specs::Calendar::or_later))]
 fn or_later(earlier: Chosen, later: Chosen) -> Chosen
     ensures { result ≡ or_later earlier later }
 {
-    match (earlier, later) {
-        (_, None) => earlier,
-        (None, _) => later,
-        (Some(first), Some(second)) => {
-            if first.when <= second.when {
-                return later;
-            }
-            earlier
-        }
+    if replaces(later, earlier) {
+        return later;
     }
+    earlier
 }
 
 // The latest of what some records bring.
