@@ -75,8 +75,10 @@ const NAMES: &[u8] =
 pub fn kind_of(name: &[u8]) -> Option<Kind>
     ensures { found_place result ≡ kind_of name.now }
 {
-    let place = words::index_of(name, NAMES)?;
-    Some(KINDS[place])
+    match words::index_of(name, NAMES) {
+        Ok(place) => Some(KINDS[place]),
+        Err(_) => None,
+    }
 }
 
 // The form of a line: how many words it has; how many of octets stand behind the name, none, D, or D

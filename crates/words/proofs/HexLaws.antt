@@ -1,19 +1,42 @@
 -- What reading and writing hex leans on. Assumes nothing.
 use mathlib.Core.Path.{◌≡◌, refl, sym, ap, ◌∙◌}
 use mathlib.Core.List.{List, [], ◌∷◌}
-use mathlib.Core.Bool.{true, false, ◌&&◌, and-false, and-eq-true_iff, or-false}
+use mathlib.Core.Bool.{true, false, ◌&&◌, and_assoc, and-false, and-eq-true_iff, or-false}
 use Prim.Native.Nat.{ℕ, zero, suc, ◌+◌, ◌*◌, ◌/◌, ◌%◌, ◌≤◌, ◌<◌, zero-le}
 use native.Mathlib.Numerals.{add-one}
 use native.Mathlib.Nat.{not-suc-le-zero, le_of_suc-le-suc}
 use native.Mathlib.Omega.{arith}
 use borrow.Author.Tests.{le-leb, lt-leb, eq-eqb}
 use lib.Dec.{leb, eqb}
-use lib.ListN.{length, get_or}
+use lib.ListN.{length, get_or, take, drop, drop_of_length-le}
+use lib.Seq.{drop-cons}
 use Rattle.std.specs.Prelude.{Some, None}
+use Rattle.std.specs.List.{list_all}
+use Rattle.std.specs.Simd.{first_chunks}
+use Rattle.std.proofs.lemmas.List.{take-append-drop, drop-drop}
+use Rattle.std.proofs.lemmas.List.Folds.{list_all-append}
 use Rattle.words.specs.Hex.{is_hex, hex_value, all_hex, is_dash, are_octets, octets_of, can_read, OctetsRead, hex_digit, hex_pairs, hex_text}
 use Rattle.words.specs.Put.{fits, laid}
 
 -- A WORD
+-- going through a word: what is left of it is all hex where its first octet is a digit and the rest is
+pub hex_next : (word : List ℕ) (i : ℕ) → i < length word → all_hex (drop i word) ≡ (is_hex (get_or word i 0) && all_hex (drop (i + 1) word))
+unfolding all_hex
+hex_next word i h = rw (drop-cons word i 0 h, add-one i)
+
+pub hex_end : (word : List ℕ) (i : ℕ) → length word ≤ i → all_hex (drop i word) ≡ true
+unfolding all_hex
+hex_end word i h = rw (drop_of_length-le word h)
+
+-- a word cut into so many pieces of a width, and what is behind them
+pub hex_pieces : (width n : ℕ) (word : List ℕ) → (list_all all_hex (first_chunks width n word) && all_hex (drop (n * width) word)) ≡ all_hex word
+unfolding all_hex
+hex_pieces width zero word = let z : 0 * width ≡ 0 = omega arith in rw z refl
+hex_pieces width (suc n) word =
+    let further : suc n * width ≡ width + n * width = omega arith in
+    let front : (all_hex (take width word) && all_hex (drop width word)) ≡ all_hex word = sym (list_all-append is_hex (take width word) (drop width word)) ∙ ap all_hex (take-append-drop width word) in
+    and_assoc (all_hex (take width word)) _ _ ∙ rw (further, ← drop-drop) (rw (hex_pieces width n (drop width word)) front)
+
 pub hex_at : (word : List ℕ) (i : ℕ) → all_hex word ≡ true → i < length word → is_hex (get_or word i 0) ≡ true
 unfolding all_hex
 hex_at [] i e h = absurd (not-suc-le-zero h)

@@ -1,6 +1,6 @@
 -- The words of a line. A line is words with exactly one space between, none of them empty; at most forty are taken. A space is 32.
 -- Assumes nothing.
-use Rattle.std.specs.Prelude.{ℕ, suc, ◌+◌, ◌-◌, List, [], ◌∷◌, ◌++◌, Bool, true, false, cond, ◌&&◌, leb, eqb, length, get_or, replicate, take, drop, Option, Some, None, nat_lt}
+use Rattle.std.specs.Prelude.{ℕ, suc, ◌+◌, ◌-◌, List, [], ◌∷◌, ◌++◌, Bool, true, false, cond, ◌&&◌, leb, eqb, length, get_or, replicate, take, drop, Result, Ok, Err, nat_lt}
 use Rattle.words.specs.declared.types.Span.{Span}
 use Rattle.words.specs.declared.types.Words.{Words}
 
@@ -72,6 +72,11 @@ unfoldable pub word_index : (name : List ℕ) → (words : List (List ℕ)) → 
 word_index name [] = 0
 word_index name (word ∷ words) = cond (is_name name word) 0 (suc (word_index name words))
 
--- the same, and None where it is none of them
-unfoldable pub word_place : (name : List ℕ) → (words : List (List ℕ)) → Option ℕ
-word_place name words = cond (nat_lt (word_index name words) (length words)) (Some (word_index name words)) None
+-- the same, told apart: Ok says which word it is; Err, where it is none of them, how many words there are
+unfoldable pub word_place : (name : List ℕ) → (words : List (List ℕ)) → Result ℕ ℕ
+word_place name words = cond (nat_lt (word_index name words) (length words)) (Ok (word_index name words)) (Err (length words))
+
+-- the number that it tells, either way
+unfoldable pub place_told : Result ℕ ℕ → ℕ
+place_told (Ok k) = k
+place_told (Err n) = n

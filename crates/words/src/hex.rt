@@ -24,11 +24,25 @@ fn hex_value(b: u8) -> u8
     }
 }
 
-// The first pass: whether every octet is a hex digit.
+// Whether all octets of a piece are hex digits. No `all`, and `&=`: a loop that may end early takes one octet a
+// turn, and this one sixteen.
+fn piece_hex(piece: &[u8]) -> bool
+    ensures { result ≡ all_hex piece.now }
+{
+    let mut all = true;
+    for b in piece {
+        all &= is_hex(*b);
+    }
+    all
+}
+
+// The first pass: whether every octet is a hex digit. It ends at the first piece that has another. A piece has
+// sixty-four, since a loop over sixteen is written out octet by octet.
 fn all_hex(word: &[u8]) -> bool
     ensures { result ≡ all_hex word.now }
 {
-    word.iter().all(|b| is_hex(*b))
+    let (pieces, rest) = word.as_chunks::<64>();
+    pieces.iter().all(|piece| piece_hex(piece)) && rest.iter().all(|b| is_hex(*b))
 }
 
 // The second pass, over a word that the first has judged: its octets to the start of out.

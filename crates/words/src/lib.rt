@@ -2,8 +2,9 @@
 //
 // A line is words with exactly one space between. A number is decimal digits; octets are lower-case
 // hex, two digits each, and the word `-` is no octets. No function has a `requires`: what a word is
-// not is an answer, None, and a text that has no room is not put. Whether a word is a given name is
-// asked by `check::same`, of the kit.
+// not is an answer, None; where a name is no word of a text, Err says how many words the text has; and
+// a text that has no room is not put. Whether a word is a given name is asked by `check::same`, of the
+// kit.
 //
 // What each function answers, and what it leaves in memory that it is lent, is said in specs/.
 #![tactic(auto)]

@@ -82,15 +82,16 @@ pub fn word(line: &[u8], places: Words, k: usize) -> &[u8]
     part(line, span)
 }
 
-// Which word of a text a name is, counted from 0; None where it is none of them. By index, which is the answer.
-pub fn index_of(name: &[u8], text: &[u8]) -> Option<usize>
+// Which word of a text a name is, counted from 0; where it is none of them, Err says how many words there are. By
+// index, which is the answer.
+pub fn index_of(name: &[u8], text: &[u8]) -> Result<usize, usize>
     ensures { result ≡ word_place name.now (line_words text.now) }
 {
     let places = split(text);
     for k in 0..places.count {
         if check::same(name, word(text, places, k)) {
-            return Some(k);
+            return Ok(k);
         }
     }
-    None
+    Err(places.count)
 }

@@ -51,7 +51,10 @@ fn hex_digit(d: u8) -> u8
 }
 
 // The octets in hex to out, where they have room: two digits a turn, to places that are counted on. Of what
-// `chunks_exact_mut` lends to be written a proof knows nothing afterwards.
+// `chunks_exact_mut` lends to be written a proof knows nothing afterwards. Not inlined: as an argument, out is
+// known to be apart from octets, and several octets are written in one go; inlined in program lines, where both
+// may lie in one struct, that is lost, and each octet is even read again behind the first store.
+#[inline(never)]
 fn hex_at(out: &mut [u8], at: usize, octets: &[u8])
     requires { at + length octets.now * 2 ≤ length out.old }
     ensures { out.new ≡ laid out.old at (hex_pairs octets.now) }

@@ -23,28 +23,28 @@ in_order k d h =
     let e : get_or (map kind_place kinds) k (kind_place d) ≡ 0 + k = get_or-range_with_len 0 20 k (kind_place d) h in
     sym (get_or-map kind_place kinds k d) ∙ e ∙ zero-add k
 
-pub returns-in_err-place : goal.returns-in_err-place
+pub offset_bounds-place : goal.offset_bounds-place
 unfolding longer words_of none_empty line_words table_rows message_rows date_rows rows kind_of
-returns-in_err-place c =
+offset_bounds-place c =
     let names : List (List ℕ) = map (λ (r : Row). r.name) rows in
-    rw c.from_residual.ensures (place_none c.args.name.now names (sym c.index_of.ensures ∙ c.in_err-place.was))
+    let h : c.in-Ok.place < 20 = (place_found c.args.name.now names c.in-Ok.place (sym c.index_of.ensures ∙ c.in-Ok.is)).0 in
+    omega arith
 
 pub bounds-place-place : goal.bounds-place-place
 unfolding longer words_of none_empty line_words table_rows message_rows date_rows rows kind_of
 bounds-place-place c =
     let names : List (List ℕ) = map (λ (r : Row). r.name) rows in
-    (place_found c.args.name.now names c.in_ok-place.place (sym c.index_of.ensures ∙ c.in_ok-place.was)).0
+    (place_found c.args.name.now names c.in-Ok.place (sym c.index_of.ensures ∙ c.in-Ok.is)).0
 
-pub offset_bounds-place : goal.offset_bounds-place
+pub returns-in-Ok : goal.returns-in-Ok
 unfolding longer words_of none_empty line_words table_rows message_rows date_rows rows kind_of
-offset_bounds-place c =
+returns-in-Ok c =
     let names : List (List ℕ) = map (λ (r : Row). r.name) rows in
-    let h : c.in_ok-place.place < 20 = (place_found c.args.name.now names c.in_ok-place.place (sym c.index_of.ensures ∙ c.in_ok-place.was)).0 in
-    omega arith
+    let f = place_found c.args.name.now names c.in-Ok.place (sym c.index_of.ensures ∙ c.in-Ok.is) in
+    in_order c.in-Ok.place (Kind.Tables TableKind.Check) f.0 ∙ f.1
 
-pub returns : goal.returns
+pub returns-in-Err : goal.returns-in-Err
 unfolding longer words_of none_empty line_words table_rows message_rows date_rows rows kind_of
-returns c =
+returns-in-Err c =
     let names : List (List ℕ) = map (λ (r : Row). r.name) rows in
-    let f = place_found c.args.name.now names c.in_ok-place.place (sym c.index_of.ensures ∙ c.in_ok-place.was) in
-    in_order c.in_ok-place.place (Kind.Tables TableKind.Check) f.0 ∙ f.1
+    (place_none c.args.name.now names _ (sym c.index_of.ensures ∙ c.in-Err.is)).1

@@ -1,6 +1,7 @@
 -- `words::index_of`. The loop's invariant, `Looked`: the name is none of the first k words. The measure is the number of words left. Assumes nothing.
-use mathlib.Core.Path.{◌∙◌, sym}
+use mathlib.Core.Path.{◌∙◌, ap, sym}
 use native.Mathlib.Omega.{arith}
+use Rattle.std.specs.Prelude.{Err}
 use Rattle.words.proofs.LineLaws.{count_of, word_of, same_is}
 use Rattle.words.proofs.IndexLaws.{looked_none, looked_here, looked_on, looked_all}
 use Rattle.words.proofs.line.index_of.Goals as goal
@@ -20,4 +21,5 @@ loop-k-preserved c =
 
 pub returns : goal.returns
 returns c =
-    looked_all c.loop-k.invariant (omega (arith, count_of _ _ c.split-places.ensures))
+    let count = count_of _ _ c.split-places.ensures in
+    ap Err count ∙ looked_all c.loop-k.invariant (omega (arith, count))
