@@ -8,6 +8,7 @@
 ghost use Rattle.std.specs.Prelude.{◌≡◌, ◌+◌, ◌<◌, ◌≤◌, min, if◌then◌else◌};
 ghost use Rattle.meaning.specs.Basics.{bits};
 ghost use Rattle.meaning.specs.Description.{item_count, word_at, own_octets, referring, malformed, names_slot, octets_of_code, table_of, uint_of, block_of, set_of, array_of, if_of, fields_of, is_choice, nests};
+ghost use Rattle.items.specs.Numbered.{kind_numbered};
 ghost use Rattle.items.specs.Read.{read_at};
 
 use basics::{bit_range, wide};
@@ -156,6 +157,23 @@ fn fields_of(word: u32) -> Fields
         5 => array_of(word),
         6 => if_of(word),
         _ => Fields::MALFORMED,
+    }
+}
+
+// The kind that a number names, for who holds one: 1 to 6 are document 01's. Any other is no item's, so it is
+// malformed, and the two tests below say no of it as they do of 0.
+#[tactic(auto, unfolding(crate::specs::Numbered::kind_numbered))]
+pub fn kind_numbered(number: u32) -> Kind
+    ensures { result ≡ kind_numbered number }
+{
+    match number {
+        1 => Kind::Table,
+        2 => Kind::Uint,
+        3 => Kind::Block,
+        4 => Kind::Set,
+        5 => Kind::Array,
+        6 => Kind::If,
+        _ => Kind::Malformed,
     }
 }
 
