@@ -15,12 +15,19 @@ use meaning::{
     Verdict,
 };
 
-// Nothing is told but the refusal.
+// Nothing is told but the refusal. Its numbers are named one by one: copied whole, it is put down in pieces of
+// other sizes than C reads, since a reply holds an answer or a refusal in the same octets; and C has to wait
+// for them.
 fn refused_with(refusal: Refusal) -> Told
     ensures { result ≡ refused_with refusal }
 {
     Told {
-        refusal,
+        refusal: Refusal {
+            number: refusal.number,
+            item: refusal.item,
+            octet: refusal.octet,
+            depth: refusal.depth,
+        },
         first: 0,
         second: 0,
     }
