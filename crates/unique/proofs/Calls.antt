@@ -23,6 +23,7 @@ use Rattle.octets.proofs.fill as octets-fill
 use Rattle.octets.proofs.copy as octets-copy
 use Rattle.octets.proofs.put_octets as octets-put-octets
 use Rattle.octets.proofs.put_number as octets-put-number
+use Rattle.items.proofs.kind_numbered as items-kind-numbered
 use Rattle.items.proofs.is_choice as items-is-choice
 use Rattle.items.proofs.nests as items-nests
 use Rattle.items.proofs.Cursor.first as items-Cursor-first
@@ -79,6 +80,12 @@ use Rattle.words.proofs.put_text as words-put-text
 use Rattle.words.proofs.put_octet as words-put-octet
 use Rattle.words.proofs.put_number as words-put-number
 use Rattle.words.proofs.put_octets as words-put-octets
+use Rattle.bilashonge.proofs.TotalFromTold.from as bilashonge-TotalFromTold-from
+use Rattle.bilashonge.proofs.PlaceFromTold.from as bilashonge-PlaceFromTold-from
+use Rattle.bilashonge.proofs.NumberFromTold.from as bilashonge-NumberFromTold-from
+use Rattle.bilashonge.proofs.TierFromTold.from as bilashonge-TierFromTold-from
+use Rattle.bilashonge.proofs.AnswerFromTold.from as bilashonge-AnswerFromTold-from
+use Rattle.bilashonge.proofs.WeekdayFromTold.from as bilashonge-WeekdayFromTold-from
 use Rattle.bilashonge.proofs.bilashonge_check as bilashonge-check
 use Rattle.bilashonge.proofs.bilashonge_layout as bilashonge-layout
 use Rattle.bilashonge.proofs.bilashonge_table_place as bilashonge-table-place
@@ -162,6 +169,9 @@ pub one_octets_put_number : OneReply _ octets-put-number.Kinds.ps octets-put-num
 one_octets_put_number κs a x y later other p q = (refl, λ i. ((p ∙ sym q) i, (tt, (tt, (tt, tt)))))
 
 -- crates/items
+pub one_items_kind_numbered : OneReply _ items-kind-numbered.Kinds.ps items-kind-numbered.Kinds.r items-kind-numbered.Reads.Learnt
+one_items_kind_numbered κs a x y later other p q = (p ∙ sym q, refl)
+
 pub one_items_is_choice : OneReply _ items-is-choice.Kinds.ps items-is-choice.Kinds.r items-is-choice.Reads.Learnt
 one_items_is_choice κs a x y later other p q = (p ∙ sym q, refl)
 
@@ -340,6 +350,24 @@ pub one_words_put_octets : OneReply _ words-put-octets.Kinds.ps words-put-octets
 one_words_put_octets κs a x y later other p q = (p.reply ∙ sym q.reply, λ i. ((p.memory ∙ sym q.memory) i, (tt, (tt, tt))))
 
 -- crates/bilashonge
+pub one_bilashonge_Total_from_told_from : OneReply _ bilashonge-TotalFromTold-from.Kinds.ps bilashonge-TotalFromTold-from.Kinds.r bilashonge-TotalFromTold-from.Reads.Learnt
+one_bilashonge_Total_from_told_from κs a x y later other p q = (p ∙ sym q, refl)
+
+pub one_bilashonge_Place_from_told_from : OneReply _ bilashonge-PlaceFromTold-from.Kinds.ps bilashonge-PlaceFromTold-from.Kinds.r bilashonge-PlaceFromTold-from.Reads.Learnt
+one_bilashonge_Place_from_told_from κs a x y later other p q = (p ∙ sym q, refl)
+
+pub one_bilashonge_Number_from_told_from : OneReply _ bilashonge-NumberFromTold-from.Kinds.ps bilashonge-NumberFromTold-from.Kinds.r bilashonge-NumberFromTold-from.Reads.Learnt
+one_bilashonge_Number_from_told_from κs a x y later other p q = (p ∙ sym q, refl)
+
+pub one_bilashonge_Tier_from_told_from : OneReply _ bilashonge-TierFromTold-from.Kinds.ps bilashonge-TierFromTold-from.Kinds.r bilashonge-TierFromTold-from.Reads.Learnt
+one_bilashonge_Tier_from_told_from κs a x y later other p q = (p ∙ sym q, refl)
+
+pub one_bilashonge_Answer_from_told_from : OneReply _ bilashonge-AnswerFromTold-from.Kinds.ps bilashonge-AnswerFromTold-from.Kinds.r bilashonge-AnswerFromTold-from.Reads.Learnt
+one_bilashonge_Answer_from_told_from κs a x y later other p q = (p ∙ sym q, refl)
+
+pub one_bilashonge_Weekday_from_told_from : OneReply _ bilashonge-WeekdayFromTold-from.Kinds.ps bilashonge-WeekdayFromTold-from.Kinds.r bilashonge-WeekdayFromTold-from.Reads.Learnt
+one_bilashonge_Weekday_from_told_from κs a x y later other p q = (p ∙ sym q, refl)
+
 pub one_bilashonge_check : OneReply _ bilashonge-check.Kinds.ps bilashonge-check.Kinds.r bilashonge-check.Reads.Learnt
 one_bilashonge_check κs a x y later other p q = (p ∙ sym q, refl)
 
